@@ -22,6 +22,11 @@ GIVE_UP_EVERY = 3600.0
 WAITABLE = (24, 25)  # refusals of a login that pass by waiting: the name is taken, the hall is full
 
 
+def who_and_time(board: Board) -> tuple[str, str, int, int]:
+    """What tells a game from one that the same two play at the same desk on other terms."""
+    return board.white, board.black, board.minutes, board.increment
+
+
 class Fault(Exception):
     """What ends the scribe."""
 
@@ -72,11 +77,11 @@ class Scribe:
         lines, games = self.early.get(desk, []), self.listed.get(desk, [])
         if desk not in self.seen and not any(isinstance(it, GameOver) for it in lines):
             return
-        players = {(it.white, it.black) for it in games}
+        asked = {(it.white, it.black, it.terms.minutes, it.terms.increment) for it in games}
         # what stands before is of a game that was there before, and had ended
         lines = lines[max((at for at, it in enumerate(lines, 1) if isinstance(it, Board)
-                           and (it.white, it.black) not in players), default=0):]
-        if not games or {(it.white, it.black) for it in lines if isinstance(it, Board)} != players:
+                           and who_and_time(it) not in asked), default=0):]
+        if not games or {who_and_time(it) for it in lines if isinstance(it, Board)} != asked:
             return
         del self.early[desk]
         firsts = {it.game: it for it in reversed(lines) if isinstance(it, Board)}

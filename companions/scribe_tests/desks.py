@@ -93,6 +93,18 @@ class Desks(unittest.IsolatedAsyncioTestCase):
             await self.hear(places.board(1), places.over("Ann resigns", "0-1"))
         self.assertEqual((self.kept(), self.journals()), ([["e4"]] * 2, [0, 0]))
 
+    async def test_a_list_of_other_terms(self):
+        """The same two begin anew with another time, and the list that is known is of the game before."""
+        self.scribe.take_list([places.listed("3 0 crazyhouse")])
+        self.link.desks.add(1)
+        self.link.hear([places.board(0)])
+        self.scribe.seen.add(1)
+        self.scribe.begin(1)
+        self.assertEqual(self.journals(), [0, 0])
+        self.scribe.take_list([places.listed()])
+        await self.hear(places.board(1), places.over("Ann resigns", "0-1"))
+        self.assertEqual((self.kept(), self.journals()), ([["e4"]], [0, 0]))
+
     async def test_the_link_is_lost(self):
         """What it saw waits; of a game without a half-move nothing is kept."""
         with self.assertLogs("fics_scribe", "WARNING"):
