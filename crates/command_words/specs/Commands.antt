@@ -21,17 +21,20 @@ use Rattle.command_words.specs.Set.{set_of}
 use Rattle.command_words.specs.Tell.{tell_of}
 use Rattle.command_words.specs.Naming.{named_by}
 use Rattle.command_words.specs.Observe.{observe_of}
-use Rattle.command_words.specs.Shapes.{named, nothing, numbered, on_channel, perhaps, saying}
+use Rattle.command_words.specs.Shapes.{maybe_named, named, nothing, numbered, on_channel, with_text}
+use Rattle.command_words.specs.declared.rows.Bare.TheVariants.{Quit}
+use Rattle.command_words.specs.declared.rows.MaybeByName.TheVariants.{Accept}
 use Rattle.command_words.specs.declared.rows.Takes.{Takes}
 use Rattle.command_words.specs.declared.rows.Takes.TheVariants as takes
+use Rattle.command_words.specs.declared.rows.WithText.TheVariants.{Register}
 use Rattle.command_words.specs.Style.{style_of}
 
 -- what the rest of the line says, as each command reads its arguments
 abbrev pub arguments_of : Takes → List ℕ → Result Command Refusal
 arguments_of (takes.Nothing which) rest = nothing which rest
 arguments_of (takes.Name which) rest = named which rest
-arguments_of (takes.MaybeName which) rest = perhaps which rest
-arguments_of (takes.Text which) rest = saying which rest
+arguments_of (takes.MaybeName which) rest = maybe_named which rest
+arguments_of (takes.Text which) rest = with_text which rest
 arguments_of (takes.Number which) rest = numbered which rest
 arguments_of (takes.Channel which) rest = on_channel which rest
 arguments_of takes.Alias rest = alias_command rest
@@ -86,7 +89,7 @@ example_move : command_in [] (codes " e2e4 ") ≡ Ok (command.Move (Coordinate 1
 unfolding move_in
 example_move = refl
 
-example_alias : command_in with_x (codes "x  Bob") ≡ Ok (command.Accept (Some (codes "Bob")))
+example_alias : command_in with_x (codes "x  Bob") ≡ Ok (command.MaybeByName Accept (Some (codes "Bob")))
 unfolding move_in
 example_alias = refl
 
@@ -95,11 +98,11 @@ example_other_case : command_in with_x (codes "X Bob") ≡ Err Unknown
 unfolding move_in
 example_other_case = refl
 
-example_capitals : command_in [] (codes "QUIT") ≡ Ok command.Quit
+example_capitals : command_in [] (codes "QUIT") ≡ Ok (command.Bare Quit)
 unfolding move_in
 example_capitals = refl
 
-example_password : command_in [] (codes "register a b ") ≡ Ok (command.Register (codes "a b"))
+example_password : command_in [] (codes "register a b ") ≡ Ok (command.WithText Register (codes "a b"))
 unfolding move_in
 example_password = refl
 

@@ -7,7 +7,7 @@ use Rattle.command_words.specs.declared.rows.CommandRow.{CommandRow}
 use Rattle.command_words.specs.declared.rows.Takes.{Takes}
 use Rattle.command_words.specs.declared.rows.Takes.TheVariants.{Nothing, MaybeName}
 use Rattle.command_words.specs.declared.rows.Bare.TheVariants.{Adjourn, Quit, Resign, SimOpen}
-use Rattle.command_words.specs.declared.rows.Perhaps.TheVariants.{Accept}
+use Rattle.command_words.specs.declared.rows.MaybeByName.TheVariants.{Accept}
 use Rattle.command_words.specs.declared.rows.TheConstants.{ROWS}
 
 -- the command's name begins with the word
@@ -42,7 +42,8 @@ called_or (Some takes) other = Ok takes
 
 abbrev pub named_by : List ℕ → Result Takes Refusal
 named_by word =
-    called_or (taken (find (is_called word) ROWS)) (one_by_front (count_by (begins word) ROWS) (taken (find (begins word) ROWS)))
+    called_or (taken (find (is_called word) ROWS.now))
+    (one_by_front (count_by (begins word) ROWS.now) (taken (find (begins word) ROWS.now)))
 
 example_name : named_by (codes "quit") ≡ Ok (Nothing Quit)
 example_name = refl

@@ -1,10 +1,7 @@
 -- Numbers as arguments: decimals without leading zeros, up to a limit.
-use Rattle.std.specs.Prelude.{◌≡◌, ℕ, nat_le, ◌==◌, not, ◌&&◌, if◌then◌else◌, Bool, false, List, [], ◌∷◌, Option, Some, None, is_none, Result, Ok, Err, codes, refl}
+use Rattle.std.specs.Prelude.{◌≡◌, ℕ, nat_le, ◌==◌, not, ◌&&◌, if◌then◌else◌, Bool, false, List, [], ◌∷◌, Option, Some, None, is_none, codes, refl}
 use Rattle.std.specs.Str.{all_ascii_digits}
 use Rattle.std.specs.Str.Parse.{digits_value}
-use Rattle.fics_words.specs.declared.refusal.Refusal.{Refusal}
-use Rattle.fics_words.specs.declared.refusal.Refusal.TheVariants.{BadArguments, BadChannel}
-use Rattle.command_words.specs.Blanks.{first_word}
 
 -- a decimal is digits, and begins with 0 only where it is `0`
 abbrev pub is_decimal : List ℕ → Bool
@@ -20,16 +17,6 @@ number_of most word =
 -- the word is a decimal above 255, however long, which no channel has as its number
 abbrev pub is_no_channel : List ℕ → Bool
 is_no_channel word = is_decimal word && is_none (number_of 255 word)
-
--- the channel of that number; an argument that isn't one is refused
-abbrev pub channel_or : Option ℕ → Result ℕ Refusal
-channel_or None = Err BadArguments
-channel_or (Some number) = Ok number
-
--- the channel that an argument names, where it is the whole: a decimal above 255 is refused as such, also where more
--- stands behind it
-abbrev pub channel_number : List ℕ → Result ℕ Refusal
-channel_number rest = if is_no_channel (first_word rest) then Err BadChannel else channel_or (number_of 255 rest)
 
 example_most : number_of 600 (codes "600") ≡ Some 600
 unfolding number_of

@@ -5,15 +5,12 @@ use Rattle.fics_words.specs.declared.refusal.Refusal.TheVariants.{BadArguments}
 use Rattle.command_words.specs.declared.command.Command.{Command}
 use Rattle.command_words.specs.declared.command.Command.TheVariants.{ObserveGame, ObservePlayer}
 use Rattle.command_words.specs.Numbers.{number_of}
+use Rattle.command_words.specs.Shapes.{read_as}
 use Rattle.fics_words.specs.HandleTest.{handle_of}
-
-abbrev pub observe_player : Option (List ℕ) → Result Command Refusal
-observe_player None = Err BadArguments
-observe_player (Some handle) = Ok (ObservePlayer handle)
 
 -- a game, where the argument is a number; else a player
 abbrev pub observe_from : Option ℕ → Option (List ℕ) → Result Command Refusal
-observe_from None handle = observe_player handle
+observe_from None handle = read_as ObservePlayer handle
 observe_from (Some number) handle = Ok (ObserveGame number)
 
 abbrev pub observe_of : List ℕ → Result Command Refusal

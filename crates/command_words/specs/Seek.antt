@@ -1,7 +1,6 @@
 -- `seek [MINUTES INCREMENT] [unrated] [VARIANT] [COLOUR]`: offers a game to whoever takes it.
-use Rattle.std.specs.Prelude.{◌≡◌, ℕ, List, [], Option, Some, None, Result, Ok, Err, codes, refl}
+use Rattle.std.specs.Prelude.{◌≡◌, ℕ, List, [], Some, None, Result, Ok, Err, codes, refl}
 use Rattle.chess_model.specs.declared.man.Colour.TheVariants.{White}
-use Rattle.chess_model.specs.declared.variant.Terms.{Terms}
 use Rattle.chess_model.specs.declared.variant.Variant.TheVariants.{Chess, Crazyhouse, Fischer}
 use Rattle.fics_words.specs.declared.refusal.Refusal.{Refusal}
 use Rattle.fics_words.specs.declared.refusal.Refusal.TheVariants.{BadArguments}
@@ -10,18 +9,15 @@ use Rattle.command_words.specs.declared.command.Command.TheVariants.{Seek}
 use Rattle.command_words.specs.declared.terms.Time.{Time}
 use Rattle.command_words.specs.Blanks.{words_of}
 use Rattle.command_words.specs.Numbers.{number_of}
+use Rattle.command_words.specs.Shapes.{read_as}
 use Rattle.command_words.specs.TermReading.{terms_of}
 
 -- a seek without numbers is of a game of 5 minutes and nothing a move
 abbrev pub five_nothing : Time
 five_nothing = record { minutes = 5; increment = 0 }
 
-abbrev pub seeking : Option Terms → Result Command Refusal
-seeking None = Err BadArguments
-seeking (Some terms) = Ok (Seek terms)
-
 abbrev pub seek_of : List ℕ → Result Command Refusal
-seek_of rest = seeking (terms_of five_nothing (words_of rest))
+seek_of rest = read_as Seek (terms_of five_nothing (words_of rest))
 
 example_usual : seek_of [] ≡ Ok (Seek (record { minutes = 5; increment = 0; variant = Chess; colour = None }))
 unfolding words_of terms_of number_of

@@ -1,18 +1,15 @@
 -- `unseek [N]`: takes back the seek of that number, or all of the player's.
-use Rattle.std.specs.Prelude.{◌≡◌, ℕ, List, [], ◌∷◌, Option, Some, None, Result, Ok, Err, codes, refl}
+use Rattle.std.specs.Prelude.{◌≡◌, ℕ, List, [], ◌∷◌, Some, None, Result, Ok, Err, codes, refl}
 use Rattle.fics_words.specs.declared.refusal.Refusal.{Refusal}
 use Rattle.fics_words.specs.declared.refusal.Refusal.TheVariants.{BadArguments}
 use Rattle.command_words.specs.declared.command.Command.{Command}
 use Rattle.command_words.specs.declared.command.Command.TheVariants.{Unseek}
 use Rattle.command_words.specs.Numbers.{number_of}
-
-abbrev pub unseek_from : Option ℕ → Result Command Refusal
-unseek_from None = Err BadArguments
-unseek_from (Some number) = Ok (Unseek (Some number))
+use Rattle.command_words.specs.Shapes.{read_as}
 
 abbrev pub unseek_of : List ℕ → Result Command Refusal
 unseek_of [] = Ok (Unseek None)
-unseek_of (b ∷ rest) = unseek_from (number_of 65535 (b ∷ rest))
+unseek_of (b ∷ rest) = read_as (λ number. Unseek (Some number)) (number_of 65535 (b ∷ rest))
 
 example_all : unseek_of [] ≡ Ok (Unseek None)
 example_all = refl

@@ -5,12 +5,9 @@ ghost use Rattle.std.specs.List.{list_all};
 ghost use Rattle.fics_words.specs.HandleTest.{handle_of};
 ghost use Rattle.command_words.specs.Texts.{is_text};
 
-use fics_words::{Handle, Line};
+use fics_words::{Handle, Line, MOST_TEXT_BYTES};
 use memory::NoMemory;
 use std::alloc::Global;
-
-/// The most bytes that a text has.
-const MOST_TEXT: usize = 800;
 
 /// The handle that the bytes spell.
 pub(crate) fn handle_of(bytes: &[u8]) -> Option<Handle>
@@ -26,7 +23,7 @@ pub(crate) fn is_text(bytes: &[u8]) -> bool
     if bytes.is_empty() {
         return false;
     }
-    if bytes.len() > MOST_TEXT {
+    if bytes.len() > MOST_TEXT_BYTES {
         return false;
     }
     are_within(bytes, 0x20, 0x7E)

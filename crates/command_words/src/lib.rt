@@ -24,5 +24,5 @@ pub use aliases::{Alias, Aliases};
 pub use command::Command;
 pub use laws::terms_are_read_as_spelled;
 pub use reading::read_command;
-pub use rows::{CommandRow, ROWS};
+pub use rows::{Bare, ByName, ByNumber, CommandRow, MaybeByName, OnChannel, ROWS, WithText};
 pub use style::Style;

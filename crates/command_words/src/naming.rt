@@ -33,7 +33,7 @@ fn one_by_front(count: usize, begun: Option<Takes>) -> Result<Takes, Refusal>
 
 /// The command whose name or short form the word is.
 fn called(word: &[u8]) -> Option<Takes>
-    ensures { result ≡ taken (find (is_called word.now) ROWS) }
+    ensures { result ≡ taken (find (is_called word.now) ROWS.now) }
 {
     let row = ROWS.iter().find(|row| is_called(row, word))?;
     Some(row.2)
@@ -41,7 +41,7 @@ fn called(word: &[u8]) -> Option<Takes>
 
 /// The first command whose name begins with the word.
 fn first_begun(word: &[u8]) -> Option<Takes>
-    ensures { result ≡ taken (find (begins word.now) ROWS) }
+    ensures { result ≡ taken (find (begins word.now) ROWS.now) }
 {
     let row = ROWS.iter().find(|row| begins(row, word))?;
     Some(row.2)
@@ -49,7 +49,7 @@ fn first_begun(word: &[u8]) -> Option<Takes>
 
 /// How many commands have a name that begins with the word.
 fn count_begun(word: &[u8]) -> usize
-    ensures { result ≡ count_by (begins word.now) ROWS }
+    ensures { result ≡ count_by (begins word.now) ROWS.now }
 {
     ROWS.iter().filter(|row| begins(row, word)).count()
 }

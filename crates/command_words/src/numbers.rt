@@ -2,11 +2,10 @@
 
 ghost use Rattle.std.specs.Prelude.{◌≡◌};
 ghost use Rattle.std.specs.Str.{all_ascii_digits};
-ghost use Rattle.command_words.specs.Numbers.{channel_number, is_decimal, is_no_channel, number_of};
+ghost use Rattle.command_words.specs.Numbers.{is_decimal, is_no_channel, number_of};
 
 use crate::arguments::are_within;
-use crate::blanks::first_word;
-use fics_words::{Refusal, read_number};
+use fics_words::read_number;
 
 /// The number of which the word is the decimal, without leading zeros, if it is at most `most`.
 pub(crate) fn number_of(most: u16, word: &[u8]) -> Option<u16>
@@ -25,20 +24,6 @@ pub(crate) fn channel_of(word: &[u8]) -> Option<u8>
     match read_number(word, 255) {
         Some(number) => Some(number as u8),
         None => None,
-    }
-}
-
-/// The channel that an argument names, where it is the whole. Refuses with `BadChannel` where it begins with a decimal
-/// above 255, and else with `BadArguments`.
-pub(crate) fn channel_number(rest: &[u8]) -> Result<u8, Refusal>
-    ensures { result ≡ channel_number rest.now }
-{
-    if is_no_channel(first_word(rest)) {
-        return Err(Refusal::BadChannel);
-    }
-    match channel_of(rest) {
-        Some(number) => Ok(number),
-        None => Err(Refusal::BadArguments),
     }
 }
 

@@ -14,7 +14,7 @@ use crate::commands::{alias, matching, observe, seek, set, style, takeback, tell
 use crate::expansion::expanded;
 use crate::naming::named_by;
 use crate::rows::Takes;
-use crate::shapes::{named, nothing, numbered, on_channel, perhaps, saying};
+use crate::shapes::{maybe_named, named, nothing, numbered, on_channel, with_text};
 use chess_model::MoveWord;
 use fics_words::{Fail, Line, MOST_LINE_BYTES, Refusal};
 use memory::NoMemory;
@@ -108,8 +108,8 @@ fn read_arguments(alloc: Global, takes: Takes, rest: &[u8]) -> Result<Command, F
     match takes {
         Takes::Nothing(which) => settled(nothing(which, rest)),
         Takes::Name(which) => settled(named(which, rest)),
-        Takes::MaybeName(which) => settled(perhaps(which, rest)),
-        Takes::Text(which) => saying(alloc, which, rest),
+        Takes::MaybeName(which) => settled(maybe_named(which, rest)),
+        Takes::Text(which) => with_text(alloc, which, rest),
         Takes::Number(which) => settled(numbered(which, rest)),
         Takes::Channel(which) => settled(on_channel(which, rest)),
         Takes::Alias => alias::read(alloc, rest),

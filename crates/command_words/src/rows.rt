@@ -1,5 +1,5 @@
-//! The table of commands, a row each, and what they take. `tools/commands` prints the table of docs/CLIENTS.md from the
-//! comments here.
+//! The table of commands, a row each, and what they take. What each does is said above its row, from where
+//! `tools/commands` prints the table of docs/CLIENTS.md.
 
 /// The commands that take nothing.
 #[derive(Clone, Copy)]
@@ -34,7 +34,7 @@ pub enum ByName {
 
 /// The commands that take a handle or nothing.
 #[derive(Clone, Copy)]
-pub enum Perhaps {
+pub enum MaybeByName {
     Accept,
     Decline,
     Partner,
@@ -43,7 +43,7 @@ pub enum Perhaps {
 
 /// The commands that take a text.
 #[derive(Clone, Copy)]
-pub enum Saying {
+pub enum WithText {
     Kibitz,
     Ptell,
     Register,
@@ -73,9 +73,9 @@ pub enum Takes {
     /// A handle.
     Name(ByName),
     /// A handle, or nothing.
-    MaybeName(Perhaps),
+    MaybeName(MaybeByName),
     /// A text: 1 to 800 bytes from 0x20 to 0x7E.
-    Text(Saying),
+    Text(WithText),
     /// A decimal up to 65,535.
     Number(ByNumber),
     /// A channel.
@@ -107,12 +107,12 @@ pub enum Takes {
 pub struct CommandRow(pub [u8; 9], pub u8, pub Takes);
 
 /// The commands by their letters, of which signs are none. The comment above a row is what docs/CLIENTS.md says of it.
-pub const ROWS: [CommandRow; 44] = [
+pub const ROWS: &[CommandRow] = &[
     // `abort`: offers to end the game without a result.
     CommandRow(*b"abort    ", b' ', Takes::Nothing(Bare::Abort)),
     // `accept [H]`: accepts H's challenge; without H the earliest offer at the own board, and where there is none
     // the oldest challenge.
-    CommandRow(*b"accept   ", b'a', Takes::MaybeName(Perhaps::Accept)),
+    CommandRow(*b"accept   ", b'a', Takes::MaybeName(MaybeByName::Accept)),
     // `adjourn`: offers to go on another day, where all players have accounts.
     CommandRow(*b"adjourn  ", b' ', Takes::Nothing(Bare::Adjourn)),
     // `alias NAME TEXT`: lets NAME, 1 to 15 lower-case letters, stand for TEXT at the beginning of a line; at most
@@ -129,7 +129,7 @@ pub const ROWS: [CommandRow; 44] = [
     CommandRow(*b"-channel ", b' ', Takes::Channel(OnChannel::Leave)),
     // `decline [H]`: turns H's challenge down; without H the earliest offer at the own board, and where there is
     // none the oldest challenge.
-    CommandRow(*b"decline  ", b' ', Takes::MaybeName(Perhaps::Decline)),
+    CommandRow(*b"decline  ", b' ', Takes::MaybeName(MaybeByName::Decline)),
     // `draw`: offers a draw, or claims one where the rules grant it (50 moves, a third time).
     CommandRow(*b"draw     ", b' ', Takes::Nothing(Bare::Draw)),
     // `flag`: calls the flag on the opponent.
@@ -143,7 +143,7 @@ pub const ROWS: [CommandRow; 44] = [
     CommandRow(*b"inchannel", b' ', Takes::Channel(OnChannel::Ask)),
     // `kibitz TEXT`: tells all players and observers of the game: the present one, or else the first at which one
     // looks on.
-    CommandRow(*b"kibitz   ", b'k', Takes::Text(Saying::Kibitz)),
+    CommandRow(*b"kibitz   ", b'k', Takes::Text(WithText::Kibitz)),
     // `match H [M I] [unrated] [VARIANT] [COLOUR]`: challenges H; 2 12 and chess where nothing is said. For
     // bughouse both must have a partner: where H accepts, the partners sit down at a second board, each with the
     // colour that its partner doesn't have.
@@ -156,13 +156,13 @@ pub const ROWS: [CommandRow; 44] = [
     // without the men in hand, and what comes from then on is news; at most 32 games.
     CommandRow(*b"observe  ", b'o', Takes::Look),
     // `partner [H]`: asks H to be one's partner; without H parts with the one that one has.
-    CommandRow(*b"partner  ", b' ', Takes::MaybeName(Perhaps::Partner)),
+    CommandRow(*b"partner  ", b' ', Takes::MaybeName(MaybeByName::Partner)),
     // `pending`: the challenges to one, and then those by one.
     CommandRow(*b"pending  ", b' ', Takes::Nothing(Bare::Pending)),
     // `play N`: takes the seek of that number, and its game starts.
     CommandRow(*b"play     ", b' ', Takes::Number(ByNumber::Play)),
     // `ptell TEXT`: tells the partner.
-    CommandRow(*b"ptell    ", b' ', Takes::Text(Saying::Ptell)),
+    CommandRow(*b"ptell    ", b' ', Takes::Text(WithText::Ptell)),
     // `quit`: leaves: `Goodbye.`, and the server closes.
     CommandRow(*b"quit     ", b' ', Takes::Nothing(Bare::Quit)),
     // `refresh`: prints the board at the present place again, in bughouse both, and the men in hand where the
@@ -170,7 +170,7 @@ pub const ROWS: [CommandRow; 44] = [
     CommandRow(*b"refresh  ", b' ', Takes::Nothing(Bare::Refresh)),
     // `register TEXT`: makes an account of this session's handle, with TEXT as its password; it lives as long as
     // the server, or as its store where it has one.
-    CommandRow(*b"register ", b' ', Takes::Text(Saying::Register)),
+    CommandRow(*b"register ", b' ', Takes::Text(WithText::Register)),
     // `resign`: gives up.
     CommandRow(*b"resign   ", b' ', Takes::Nothing(Bare::Resign)),
     // `resume H`: goes on with the adjourned game of least number that one has with H, once each of its players has
@@ -183,7 +183,7 @@ pub const ROWS: [CommandRow; 44] = [
     // hear of seeks. With 1 the other way round; all are 1 at the login.
     CommandRow(*b"set      ", b' ', Takes::Setting),
     // `shout TEXT`: tells all others who have `shout` on.
-    CommandRow(*b"shout    ", b' ', Takes::Text(Saying::Shout)),
+    CommandRow(*b"shout    ", b' ', Takes::Text(WithText::Shout)),
     // `simnext`: goes to the next of one's games, in a circle.
     CommandRow(*b"simnext  ", b' ', Takes::Nothing(Bare::SimNext)),
     // `simopen`: gives a simul from now on, or gives none any more; [below](#simuls).
@@ -209,5 +209,5 @@ pub const ROWS: [CommandRow; 44] = [
     // `who`: the handles of those who are in.
     CommandRow(*b"who      ", b' ', Takes::Nothing(Bare::Who)),
     // `withdraw [H]`: takes back the challenge to H, or the oldest.
-    CommandRow(*b"withdraw ", b' ', Takes::MaybeName(Perhaps::Withdraw)),
+    CommandRow(*b"withdraw ", b' ', Takes::MaybeName(MaybeByName::Withdraw)),
 ];

@@ -2,7 +2,9 @@
 
 use crate::{lists, offers, resuming, simuls, watching};
 use chess_model::{Colour, Terms, variant_word};
-use command_words::{Aliases, Command, Style, read_command};
+use command_words::{
+    Aliases, Bare, ByName, ByNumber, Command, MaybeByName, OnChannel, Style, WithText, read_command,
+};
 use fics_words::{Fail as Failed, Handle, Line, write_number};
 use memory::NoMemory;
 use std::alloc::Global;
@@ -358,137 +360,137 @@ fn told(alloc: Global, command: &Command) -> Result<Vec<u8>, NoMemory> {
     match command {
         Command::Nothing => of(alloc, b"nothing"),
         Command::Move(_) => of(alloc, b"move"),
-        Command::Match(name, terms) => challenge(alloc, name, terms),
-        Command::Seek(terms) => with_terms(alloc, b"seek", terms),
-        Command::Unseek(None) => of(alloc, b"unseek"),
-        Command::Unseek(Some(number)) => with_number(alloc, b"unseek ", *number),
-        Command::Sought => of(alloc, b"sought"),
-        Command::Play(number) => with_number(alloc, b"play ", *number),
-        Command::Who => of(alloc, b"who"),
-        Command::Pending => of(alloc, b"pending"),
-        Command::Games => of(alloc, b"games"),
-        Command::Censor { name, on } => list(alloc, b"censor ", name, *on),
-        Command::Noplay { name, on } => list(alloc, b"noplay ", name, *on),
-        Command::Accept(None) => of(alloc, b"accept"),
-        Command::Accept(Some(name)) => with_text(alloc, b"accept ", name.letters()),
-        Command::Decline(None) => of(alloc, b"decline"),
-        Command::Decline(Some(name)) => with_text(alloc, b"decline ", name.letters()),
-        Command::Withdraw(None) => of(alloc, b"withdraw"),
-        Command::Withdraw(Some(name)) => with_text(alloc, b"withdraw ", name.letters()),
-        Command::Tell(name, text) => tell(alloc, name, text),
-        Command::TellChannel(channel, text) => tell_channel(alloc, *channel, text),
-        Command::InChannel(channel) => with_number(alloc, b"inchannel ", u16::from(*channel)),
-        Command::Channel { number, on: true } => with_number(
-            alloc,
-            b"+channel ",
-            u16::from(*number),
-        ),
-        Command::Channel { number, on: false } => with_number(
-            alloc,
-            b"-channel ",
-            u16::from(*number),
-        ),
-        Command::Partner(None) => of(alloc, b"partner"),
-        Command::Partner(Some(name)) => with_text(alloc, b"partner ", name.letters()),
-        Command::Ptell(text) => with_text(alloc, b"ptell ", text.bytes()),
-        Command::Shout(text) => with_text(alloc, b"shout ", text.bytes()),
-        Command::SetOpen(on) => with_text(alloc, b"set open ", digit(*on)),
-        Command::SetShout(on) => with_text(alloc, b"set shout ", digit(*on)),
-        Command::SetSeek(on) => with_text(alloc, b"set seek ", digit(*on)),
-        Command::Draw => of(alloc, b"draw"),
-        Command::Abort => of(alloc, b"abort"),
-        Command::Takeback(number) => with_number(alloc, b"takeback ", *number),
-        Command::Resign => of(alloc, b"resign"),
-        Command::Flag => of(alloc, b"flag"),
-        Command::Register(password) => with_text(alloc, b"register ", password.bytes()),
-        Command::Alias { name, text } => alias(alloc, name, text),
-        Command::Unalias(name) => with_text(alloc, b"unalias ", name.bytes()),
-        Command::Quit => of(alloc, b"quit"),
-        _ => told_of_watching(alloc, command),
-    }
-}
-
-/// The text of a command about looking on, or of a strange one.
-fn told_of_watching(alloc: Global, command: &Command) -> Result<Vec<u8>, NoMemory> {
-    match command {
-        Command::Refresh => of(alloc, b"refresh"),
-        Command::Kibitz(text) => with_text(alloc, b"kibitz ", text.bytes()),
-        Command::ObserveGame(number) => with_number(alloc, b"observe ", *number),
-        Command::ObservePlayer(name) => with_text(alloc, b"observe ", name.letters()),
-        Command::Unobserve(number) => with_number(alloc, b"unobserve ", *number),
+        Command::Bare(which) => of(alloc, bare(*which)),
+        Command::ByName(which, name) => with_text(alloc, by_name(*which), name.letters()),
+        Command::MaybeByName(which, name) => with_maybe(alloc, maybe_by_name(*which), name),
+        Command::WithText(which, text) => with_text(alloc, saying(*which), text.bytes()),
+        Command::ByNumber(which, number) => with_number(alloc, by_number(*which), *number),
+        Command::OnChannel(which, channel) => {
+            with_number(alloc, on_channel(*which), u16::from(*channel))
+        }
+        Command::Alias { name, text } => {
+            behind(with_text(alloc, b"alias", name.bytes())?, text.bytes())
+        }
+        Command::Match(name, terms) => {
+            with_terms(with_text(alloc, b"match", name.letters())?, terms)
+        }
+        Command::ObserveGame(number) => with_number(alloc, b"observe", *number),
+        Command::ObservePlayer(name) => with_text(alloc, b"observe", name.letters()),
+        Command::Seek(terms) => with_terms(of(alloc, b"seek")?, terms),
+        Command::SetOpen(on) => with_text(alloc, b"set open", digit(*on)),
+        Command::SetSeek(on) => with_text(alloc, b"set seek", digit(*on)),
+        Command::SetShout(on) => with_text(alloc, b"set shout", digit(*on)),
         Command::Style(Style::One) => of(alloc, b"style 1"),
         Command::Style(Style::Twelve) => of(alloc, b"style 12"),
-        _ => told_of_simuls(alloc, command),
+        Command::Takeback(number) => with_number(alloc, b"takeback", *number),
+        Command::Tell(name, text) => {
+            behind(with_text(alloc, b"tell", name.letters())?, text.bytes())
+        }
+        Command::TellChannel(channel, text) => {
+            behind(
+                with_number(alloc, b"tell", u16::from(*channel))?,
+                text.bytes(),
+            )
+        }
+        Command::Unalias(name) => with_text(alloc, b"unalias", name.bytes()),
+        Command::Unseek(None) => of(alloc, b"unseek"),
+        Command::Unseek(Some(number)) => with_number(alloc, b"unseek", *number),
     }
 }
 
-/// The text of a command of who gives a simul, or of a strange one.
-fn told_of_simuls(alloc: Global, command: &Command) -> Result<Vec<u8>, NoMemory> {
-    match command {
-        Command::SimOpen => of(alloc, b"simopen"),
-        Command::SimNext => of(alloc, b"simnext"),
-        Command::SimPrev => of(alloc, b"simprev"),
-        Command::GoBoard(name) => with_text(alloc, b"goboard ", name.letters()),
-        _ => told_of_stored_games(alloc, command),
+fn bare(which: Bare) -> &'static [u8] {
+    match which {
+        Bare::Abort => b"abort",
+        Bare::Adjourn => b"adjourn",
+        Bare::Draw => b"draw",
+        Bare::Flag => b"flag",
+        Bare::Games => b"games",
+        Bare::Pending => b"pending",
+        Bare::Quit => b"quit",
+        Bare::Refresh => b"refresh",
+        Bare::Resign => b"resign",
+        Bare::SimNext => b"simnext",
+        Bare::SimOpen => b"simopen",
+        Bare::SimPrev => b"simprev",
+        Bare::Sought => b"sought",
+        Bare::Stored => b"stored",
+        Bare::Who => b"who",
     }
 }
 
-/// The text of a command about adjourned games, or of a strange one.
-fn told_of_stored_games(alloc: Global, command: &Command) -> Result<Vec<u8>, NoMemory> {
-    match command {
-        Command::Adjourn => of(alloc, b"adjourn"),
-        Command::Stored => of(alloc, b"stored"),
-        Command::Resume(name) => with_text(alloc, b"resume ", name.letters()),
-        _ => of(alloc, b"strange"),
+fn by_name(which: ByName) -> &'static [u8] {
+    match which {
+        ByName::AddCensor => b"+censor",
+        ByName::AddNoplay => b"+noplay",
+        ByName::DropCensor => b"-censor",
+        ByName::DropNoplay => b"-noplay",
+        ByName::GoBoard => b"goboard",
+        ByName::Resume => b"resume",
     }
 }
 
-/// The text of the change of a list.
-fn list(alloc: Global, word: &[u8], name: &Handle, on: bool) -> Result<Vec<u8>, NoMemory> {
-    let front: &[u8] = if on { b"+" } else { b"-" };
-    let mut whole = with_text(alloc, front, word)?;
-    whole.extend_from_slice(name.letters())?;
-    Ok(whole)
+fn maybe_by_name(which: MaybeByName) -> &'static [u8] {
+    match which {
+        MaybeByName::Accept => b"accept",
+        MaybeByName::Decline => b"decline",
+        MaybeByName::Partner => b"partner",
+        MaybeByName::Withdraw => b"withdraw",
+    }
 }
 
-/// The text of the making of an alias.
-fn alias(alloc: Global, name: &Line, text: &Line) -> Result<Vec<u8>, NoMemory> {
-    let mut whole = with_text(alloc, b"alias ", name.bytes())?;
-    whole.push(b' ')?;
-    whole.extend_from_slice(text.bytes())?;
-    Ok(whole)
+fn saying(which: WithText) -> &'static [u8] {
+    match which {
+        WithText::Kibitz => b"kibitz",
+        WithText::Ptell => b"ptell",
+        WithText::Register => b"register",
+        WithText::Shout => b"shout",
+    }
+}
+
+fn by_number(which: ByNumber) -> &'static [u8] {
+    match which {
+        ByNumber::Play => b"play",
+        ByNumber::Unobserve => b"unobserve",
+    }
+}
+
+fn on_channel(which: OnChannel) -> &'static [u8] {
+    match which {
+        OnChannel::Ask => b"inchannel",
+        OnChannel::Join => b"+channel",
+        OnChannel::Leave => b"-channel",
+    }
 }
 
 fn of(alloc: Global, word: &[u8]) -> Result<Vec<u8>, NoMemory> {
     Ok(Vec::from_slice(alloc, word)?)
 }
 
+/// A word and a text behind it.
 fn with_text(alloc: Global, word: &[u8], text: &[u8]) -> Result<Vec<u8>, NoMemory> {
-    let mut whole = Vec::from_slice(alloc, word)?;
-    whole.extend_from_slice(text)?;
-    Ok(whole)
+    behind(of(alloc, word)?, text)
 }
 
+/// A word and a handle behind it, if there is one.
+fn with_maybe(alloc: Global, word: &[u8], name: &Option<Handle>) -> Result<Vec<u8>, NoMemory> {
+    match name {
+        None => of(alloc, word),
+        Some(name) => with_text(alloc, word, name.letters()),
+    }
+}
+
+/// A word and a number behind it.
 fn with_number(alloc: Global, word: &[u8], number: u16) -> Result<Vec<u8>, NoMemory> {
-    let mut whole = Vec::from_slice(alloc, word)?;
+    let mut whole = with_text(alloc, word, b"")?;
     write_number(&mut whole, number as u64)?;
     Ok(whole)
 }
 
-/// The text of a tell.
-fn tell(alloc: Global, name: &Handle, text: &Line) -> Result<Vec<u8>, NoMemory> {
-    let mut whole = with_text(alloc, b"tell ", name.letters())?;
-    whole.push(b' ')?;
-    whole.extend_from_slice(text.bytes())?;
-    Ok(whole)
-}
-
-/// The text of a tell to a channel.
-fn tell_channel(alloc: Global, channel: u8, text: &Line) -> Result<Vec<u8>, NoMemory> {
-    let mut whole = with_number(alloc, b"tell ", u16::from(channel))?;
-    whole.push(b' ')?;
-    whole.extend_from_slice(text.bytes())?;
-    Ok(whole)
+/// A text behind a front and a blank.
+fn behind(mut front: Vec<u8>, text: &[u8]) -> Result<Vec<u8>, NoMemory> {
+    front.push(b' ')?;
+    front.extend_from_slice(text)?;
+    Ok(front)
 }
 
 /// How a variable's value is typed.
@@ -496,16 +498,9 @@ fn digit(on: bool) -> &'static [u8] {
     if on { b"1" } else { b"0" }
 }
 
-/// The text of a challenge, with all its terms.
-fn challenge(alloc: Global, name: &Handle, terms: &Terms) -> Result<Vec<u8>, NoMemory> {
-    let front = with_text(alloc, b"match ", name.letters())?;
-    with_terms(alloc, &front, terms)
-}
-
-/// A text with all the terms of a game behind it.
-fn with_terms(alloc: Global, front: &[u8], terms: &Terms) -> Result<Vec<u8>, NoMemory> {
-    let mut text = Vec::from_slice(alloc, front)?;
-    text.push(b' ')?;
+/// All the terms of a game behind a front.
+fn with_terms(front: Vec<u8>, terms: &Terms) -> Result<Vec<u8>, NoMemory> {
+    let mut text = behind(front, b"")?;
     write_number(&mut text, terms.minutes as u64)?;
     text.push(b' ')?;
     write_number(&mut text, terms.increment as u64)?;

@@ -1,7 +1,7 @@
 //! Accounts, passwords and guests.
 
 use fics_words::{Digest, Fail as Refused, Handle, HandleKey, Refusal};
-use login_handles::{Accounts, Check, digest_of, guest_name};
+use login_handles::{Accounts, Check, NamesInUse, digest_of, guest_name};
 use std::alloc::Global;
 use std::process::Abort;
 use std::test::Fail;
@@ -104,6 +104,18 @@ fn an_account_guards_its_handle(rt: HostRuntime) -> Result<(), Fail> {
     Ok(())
 }
 
+/// Names in use, by their keys.
+#[derive(Drop)]
+struct Keys(Vec<HandleKey>);
+
+impl NamesInUse for Keys {
+    ghost keys = { λ keys. keys.0.items };
+
+    fn has(&self, key: HandleKey) -> bool {
+        self.0.contains(&key)
+    }
+}
+
 /// Names that are taken, and the name of the next guest. In the fourth row the first guest has left, and its name is
 /// free again.
 const GUESTS: &[(&[&[u8]], &[u8])] = &[
@@ -123,7 +135,7 @@ fn is_next(alloc: Global, rt: &impl Abort, taken: &[&[u8]], name: &[u8]) -> Resu
     if keys.len() > 2 {
         return Ok(false);
     }
-    Ok(guest_name(keys.as_slice()).letters() == name)
+    Ok(guest_name(&Keys(keys)).letters() == name)
 }
 
 #[test]
