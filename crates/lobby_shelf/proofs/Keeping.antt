@@ -40,7 +40,7 @@ pub filter_step : {X : Type 0} (Q : X → Type 0) (b : Bool) (x : X) (xs : List 
 filter_step Q true x xs head tail = All-cons Q x xs (head refl) tail
 filter_step Q false x xs head tail = tail
 
-All-filter_passing : {X : Type 0} (P Q : X → Type 0) (p : X → Bool) → ((x : X) → p x ≡ true → P x → Q x) → (xs : List X)
+pub All-filter_passing : {X : Type 0} (P Q : X → Type 0) (p : X → Bool) → ((x : X) → p x ≡ true → P x → Q x) → (xs : List X)
     → All P xs → All Q (filter p xs)
 All-filter_passing P Q p step [] h = All-nil Q
 All-filter_passing P Q p step (x ∷ xs) h =

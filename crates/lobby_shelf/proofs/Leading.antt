@@ -68,13 +68,6 @@ no_account (account ∷ accounts) number =
     (other_key (account_key (key_of account.name)) (game_key number) (account_not_game (key_of account.name) number))
     ∙ no_account accounts number
 
-no_game : (games : List Shelved) (letters : List ℕ) → find (is_game_at (account_key letters)) games ≡ None
-no_game [] letters = refl
-no_game (row ∷ games) letters =
-    ap (λ t. cond t (Some row) (find (is_game_at (account_key letters)) games))
-    (other_key (game_key row.number) (account_key letters) (λ e. account_not_game letters row.number (sym e)))
-    ∙ no_game games letters
-
 find-push_this : (q : Account → Bool) (accounts : List Account) (new : Account) → find q accounts ≡ None → q new ≡ true → find q (accounts ++ new ∷ []) ≡ Some new
 find-push_this q [] new none this = ap (λ t. cond t (Some new) None) this
 find-push_this q (account ∷ accounts) new none this =

@@ -7,3 +7,5 @@ pub mod Held
 pub mod Finding
 pub mod Meaning
 pub mod Leading
+pub mod Gaps
+pub mod Marked

@@ -1,6 +1,7 @@
 -- What the contracts of this crate cite.
 pub mod Numbers
 pub mod Players
+pub mod Marks
 pub mod Shelf
 pub mod Facts
 pub mod Held

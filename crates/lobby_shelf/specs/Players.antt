@@ -1,6 +1,6 @@
 -- Who plays in a stored game. This server's own.
-use Rattle.std.specs.Prelude.{◌≡◌, ℕ, ◌≤◌, ◌&&◌, Bool, true, List, Contains, Option, bytes_eq}
-use Rattle.std.specs.List.{find, list_any}
+use Rattle.std.specs.Prelude.{◌≡◌, ℕ, ◌+◌, ◌<◌, ◌≤◌, ◌&&◌, Bool, true, List, [], ◌∷◌, Contains, Option, None, Some, bytes_eq, drop, length, slice_get}
+use Rattle.std.specs.List.{filter, find, list_any}
 use Rattle.fics_words.specs.Handle.{key_of}
 use Rattle.game_records.specs.declared.stored_game.StoredGame.{StoredGame}
 use Rattle.lobby_shelf.specs.declared.shelved.Shelved.{Shelved}
@@ -8,6 +8,10 @@ use Rattle.lobby_shelf.specs.declared.shelved.Shelved.{Shelved}
 -- the handle with this key is among the players of the game
 abbrev pub has_player : List ℕ → StoredGame → Bool
 has_player key game = list_any (λ name. bytes_eq (key_of name) key) game.names
+
+-- the games that the handle with this key plays in, in the order of their numbers
+abbrev pub of_player : List ℕ → List Shelved → List Shelved
+of_player key games = filter (λ row. has_player key row.game) games
 
 -- both are among the players of the game
 abbrev pub is_of_both : List ℕ → List ℕ → Shelved → Bool
@@ -23,3 +27,9 @@ pub record IsLeastOf (games : List Shelved) (one other : List ℕ) (row : Shelve
   pub both : is_of_both one other row ≡ true
   pub least : (another : Shelved) → Contains games another → is_of_both one other another ≡ true
       → row.number ≤ another.number
+
+-- of the games from a place on those that pass begin with the one at this place, or none of them passes
+abbrev pub IsNext : (Shelved → Bool) → ℕ → List Shelved → Option ℕ → Type 0
+IsNext passes from games None = filter passes (drop from games) ≡ []
+IsNext passes from games (Some place) = (place < length games) × ((row : Shelved) → slice_get games place ≡ Some row
+    → filter passes (drop from games) ≡ row ∷ filter passes (drop (place + 1) games))

@@ -14,7 +14,7 @@ use game_records::StoredGame;
 use memory::NoMemory;
 
 /// How many orders are told at once.
-const ORDERS_AT_ONCE: usize = 16;
+pub const ORDERS_AT_ONCE: usize = 16;
 
 impl GameShelf {
     /// Puts a game that was kept elsewhere on the shelf, under the number that it has there, and makes no order: the

@@ -1,17 +1,16 @@
 //! The shelf, and the look-ups in it.
-ghost use Rattle.std.specs.Prelude.{◌≡◌, ◌&&◌, bytes_eq, option_copied};
-ghost use Rattle.fics_words.specs.Handle.{key_of};
+ghost use Rattle.std.specs.Prelude.{◌≡◌, option_copied};
 ghost use Rattle.game_records.specs.Replays.{Replays};
 ghost use Rattle.lobby_shelf.specs.Numbers.{stored_game};
-ghost use Rattle.lobby_shelf.specs.Players.{has_player, is_of_both, least_of};
+ghost use Rattle.lobby_shelf.specs.Players.{least_of, of_player};
 
 use crate::cells::Cells;
+use crate::games_of::GamesOf;
 use crate::order::Order;
 use crate::rack::Rack;
 use crate::request::Request;
 use crate::shelved::Shelved;
-use collections::{Predicate, find};
-use fics_words::{Handle, HandleKey};
+use fics_words::HandleKey;
 use game_records::StoredGame;
 use memory::NoMemory;
 use std::alloc::Global;
@@ -64,28 +63,13 @@ impl Model for GameShelf {
     }) };
 }
 
-/// A game that both have among its players.
-#[derive(Clone, Copy)]
-struct OfBoth {
-    one: HandleKey,
-    other: HandleKey,
-}
-
-impl Predicate<Shelved> for OfBoth {
-    ghost passes = { λ test row. is_of_both test.one test.other row };
-
-    fn passes(&self, row: &Shelved) -> bool {
-        has_player(&row.game, self.one) && has_player(&row.game, self.other)
-    }
-}
-
 impl GameShelf {
     ghost use Rattle.std.specs.Prelude.{◌≡◌, IfOk, IfSome, option_copied};
     ghost use Rattle.game_records.specs.Replays.{Replays};
     ghost use Rattle.lobby_shelf.specs.Shelf.{empty};
     ghost use Rattle.lobby_shelf.specs.Facts.{IsShelf};
     ghost use Rattle.lobby_shelf.specs.Numbers.{stored_game};
-    ghost use Rattle.lobby_shelf.specs.Players.{least_of};
+    ghost use Rattle.lobby_shelf.specs.Players.{least_of, of_player};
 
     /// An empty shelf, with the room for 10,000 games. It fails only when out of memory.
     pub fn new(alloc: Global) -> Result<GameShelf, NoMemory>
@@ -123,25 +107,18 @@ impl GameShelf {
         Some(&row.game)
     }
 
+    /// The games that the handle with this key plays in, in the order of their numbers, given one after another.
+    pub fn of_player(&self, key: HandleKey) -> GamesOf<'_>
+        ensures { result ≡ of_player key self.now.games }
+    {
+        GamesOf::all(&self.games, key, key)
+    }
+
     /// The stored game of least number that has both handles among its players, if there is one.
     pub fn least_of(&self, one: HandleKey, other: HandleKey) -> Option<&Shelved>
         ensures row { option_copied result ≡ least_of self.now.games one other }
         ensures replays { IfSome result (λ row. Replays row.now.game) }
     {
-        find(self.games.rows(), &OfBoth { one, other })
+        GamesOf::all(&self.games, one, other).next()
     }
-}
-
-/// Whether the handle with this key is among the players of the game.
-pub fn has_player(game: &StoredGame, key: HandleKey) -> bool
-    ensures { result ≡ has_player key game.now }
-{
-    game.names.iter().any(|name| has_key(name, &key))
-}
-
-/// Whether the handle has this key. The letters are compared as they stand: a walk over many games makes no keys.
-fn has_key(name: &Handle, key: &HandleKey) -> bool
-    ensures { result ≡ bytes_eq (key_of name.now) key.now }
-{
-    name.letters().eq_ignore_ascii_case(key.letters())
 }

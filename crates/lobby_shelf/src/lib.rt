@@ -13,7 +13,9 @@ mod asking;
 mod cells;
 mod changes;
 mod game_shelf;
+mod games_of;
 mod laws;
+mod marks;
 mod order;
 mod rack;
 mod request;
@@ -23,13 +25,16 @@ mod written;
 
 pub use asking::Asking;
 pub use cells::Cells;
+pub use changes::ORDERS_AT_ONCE;
 pub use game_records::{Half, StoredGame};
-pub use game_shelf::{GameShelf, has_player};
+pub use game_shelf::GameShelf;
+pub use games_of::GamesOf;
 pub use laws::{
     games_are_found, orders_lead, requests_stand, saved_orders_are_the_first, shelves_are_sound,
     the_least_is_found,
 };
 pub use order::Order;
+pub use rack::MOST_STORED;
 pub use request::Request;
 pub use saving::{GameSaving, Saving};
 pub use shelved::Shelved;

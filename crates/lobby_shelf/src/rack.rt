@@ -1,28 +1,36 @@
 //! The places of the shelf.
-ghost use Rattle.std.specs.Prelude.{◌≡◌, ◌+◌, ◌≤◌, ◌<◌, false, filter, length, option_copied, vec_capacity};
+ghost use Rattle.std.specs.Prelude.{◌≡◌, ◌+◌, ◌≤◌, ◌<◌, false, All, Some, bytes_eq, filter, length, option_copied, slice_get, vec_capacity};
 ghost use Rattle.std.specs.List.{find};
+ghost use Rattle.fics_words.specs.Handle.{key_of};
 ghost use Rattle.lobby_shelf.specs.Numbers.{AreInOrder, has_number, is_below, is_used, next_number, with_game, without_game};
+ghost use Rattle.lobby_shelf.specs.Players.{IsNext, has_player, is_of_both};
+ghost use Rattle.lobby_shelf.specs.declared.shelved.Shelved.{Shelved};
 
+use crate::marks::{Marked, Marks};
 use crate::shelved::Shelved;
+use fics_words::{Handle, HandleKey};
 use game_records::StoredGame;
 use memory::NoMemory;
 use std::alloc::Global;
 use std::marker::Model;
 
 /// The most games that are stored.
-pub(crate) const MOST_STORED: usize = 10_000;
+pub const MOST_STORED: usize = 10_000;
 
 /// The stored games in the order of their numbers, which contracts see as that list. The room for 10,000 is taken when
 /// it is made, and kept.
 #[derive(Drop)]
 pub(crate) struct Rack {
     games: Vec<Shelved>,
+    /// The marks of the players of each.
+    marks: Vec<Marks>,
 }
 
 impl Model for Rack {
-    ghost use Rattle.std.specs.Prelude.{◌≤◌, List, vec_capacity};
+    ghost use Rattle.std.specs.Prelude.{◌≡◌, ◌≤◌, List, map, vec_capacity};
     ghost use Rattle.std.specs.Vec.{vec_len};
     ghost use Rattle.lobby_shelf.specs.declared.shelved.Shelved.{Shelved};
+    ghost use Rattle.lobby_shelf.specs.Marks.{marks_row};
     ghost use Rattle.lobby_shelf.specs.Numbers.{AreInOrder};
 
     ghost Value = { List Shelved };
@@ -33,6 +41,9 @@ impl Model for Rack {
       within : vec_len rack.games ≤ 10000;
       room : 10000 ≤ vec_capacity rack.games;
       order : AreInOrder rack.games.items;
+      marks : rack.marks.items ≡ map marks_row rack.games.items;
+      marks_within : vec_len rack.marks ≤ 10000;
+      marks_room : 10000 ≤ vec_capacity rack.marks;
     } };
 }
 
@@ -45,6 +56,7 @@ impl Rack {
     {
         Ok(Rack {
             games: Vec::with_capacity(alloc, MOST_STORED)?,
+            marks: Vec::with_capacity(alloc, MOST_STORED)?,
         })
     }
 
@@ -85,7 +97,9 @@ impl Rack {
         ensures { self.new ≡ with_game (record { number = number; game = game }) self.old }
     {
         let place = self.place(number);
+        let marks = Marks::of(game.names.as_slice());
         let _room = self.games.insert(place, Shelved { number, game });
+        let _room = self.marks.insert(place, marks);
     }
 
     /// Takes the game of that number off, if there is one.
@@ -97,6 +111,7 @@ impl Rack {
         }
         let place = self.place(number);
         drop(self.games.remove(place));
+        self.marks.remove(place);
     }
 
     /// The least positive number that no game has.
@@ -105,13 +120,62 @@ impl Rack {
         ensures positive { 1 ≤ result }
         ensures within { result ≤ length self.now + 1 }
     {
-        let mut number = 1;
-        for row in self.games.as_slice() {
-            if row.number != number {
-                return number;
+        let mut low = 0;
+        let mut high = self.games.len();
+        while low < high {
+            let middle = low + (high - low) / 2;
+            let row = &self.games[middle];
+            if row.number == middle as u64 + 1 {
+                low = middle + 1;
+            } else {
+                high = middle;
             }
-            number += 1;
         }
-        number
+        low as u64 + 1
     }
+
+    /// The place of the first game from a place on that both handles play in, if there is one. The marks tell of nearly
+    /// all others that they aren't it, and these aren't looked at.
+    pub(crate) fn next_of(&self, from: usize, one: &Marked, other: &Marked) -> Option<usize>
+        requires few { All (λ row. length row.game.names ≤ 4) self.now }
+        ensures { IsNext (is_of_both one.now other.now) from self.now result }
+    {
+        for place in from..self.games.len() {
+            if self.is_of_both(place, one, other) {
+                return Some(place);
+            }
+        }
+        None
+    }
+
+    /// Whether both handles are among the players of the game at this place.
+    fn is_of_both(&self, place: usize, one: &Marked, other: &Marked) -> bool
+        requires place { place < length self.now }
+        requires few { All (λ row. length row.game.names ≤ 4) self.now }
+        ensures { (row : Shelved) → slice_get self.now place ≡ Some row → result ≡ is_of_both one.now other.now row }
+    {
+        let marks = &self.marks[place];
+        if !one.is_among(marks) {
+            return false;
+        }
+        if !other.is_among(marks) {
+            return false;
+        }
+        let game = &self.games[place].game;
+        has_player(game, one.key()) && has_player(game, other.key())
+    }
+}
+
+/// Whether the handle with this key is among the players of the game.
+fn has_player(game: &StoredGame, key: HandleKey) -> bool
+    ensures { result ≡ has_player key game.now }
+{
+    game.names.iter().any(|name| has_key(name, &key))
+}
+
+/// Whether the handle has this key. The letters are compared as they stand: a walk over many games makes no keys.
+fn has_key(name: &Handle, key: &HandleKey) -> bool
+    ensures { result ≡ bytes_eq (key_of name.now) key.now }
+{
+    name.letters().eq_ignore_ascii_case(key.letters())
 }

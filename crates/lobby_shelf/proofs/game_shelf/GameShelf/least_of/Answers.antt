@@ -1,10 +1,13 @@
-use Rattle.std.proofs.Common.{◌≡◌, Bool, true, false, cond, List, [], ◌∷◌, Option, None, Some, Bor, sym, subst}
+use Rattle.std.proofs.Common.{◌≡◌, Bool, true, false, cond, List, [], ◌∷◌, Option, None, Some, Bor, sym, ap, subst, ◌∙◌}
 use Rattle.std.specs.Prelude.{All, IfSome, option_copied}
 use Rattle.std.specs.List.{find}
 use Rattle.std.proofs.lemmas.List.Elements.{All-head, All-tail}
 use Rattle.game_records.specs.Replays.{Replays}
 use Rattle.lobby_shelf.specs.declared.shelved.Shelved.{Shelved}
-use Rattle.lobby_shelf.specs.Players.{is_of_both}
+use Rattle.std.specs.Map.Iter.{TakesFirst}
+use Rattle.lobby_shelf.specs.Players.{is_of_both, least_of}
+use Rattle.lobby_shelf.specs.Shelf.{ShelfState}
+use Rattle.lobby_shelf.proofs.Marked.{All-few, first-found}
 use Rattle.lobby_shelf.proofs.game_shelf.GameShelf.least_of.Goals as goal
 
 -- what was found in a row has what each game has
@@ -21,8 +24,16 @@ lent_has : (P : Shelved → Type 0) (p : Shelved → Bool) (games : List Shelved
 lent_has P p games None all e = tt
 lent_has P p games (Some row) all e = found_has P p games row.now all (sym e)
 
+pub all-requires : goal.all-requires
+all-requires c = All-few c.self.inside.games c.self.invariant.replay
+
+pub returns-clause-row : goal.returns-clause-row
+returns-clause-row c =
+    first-found (is_of_both c.args.one c.args.other) c.self.inside.games c.next.new.self c.next.result
+    (subst (λ (l : List Shelved). TakesFirst (λ (row : Bor Shelved). row.now) l c.next.result c.next.new.self) c.all.ensures c.next.ensures.steps)
+    ∙ ap (λ (s : ShelfState). least_of s.games c.args.one c.args.other) c.self.view_is
+
 pub returns-clause-replays : goal.returns-clause-replays
 returns-clause-replays c =
-    let P : Shelved → Type 0 = λ row. Replays row.game in
-    let all = subst (All P) (sym c.rows.ensures.rows) c.self.invariant.replay in
-    lent_has P (is_of_both c.args.one c.args.other) c.rows.result.now c.find.result all c.find.ensures
+    let all = subst (λ (s : ShelfState). All (λ row. Replays row.game) s.games) c.self.view_is c.self.invariant.replay in
+    lent_has (λ row. Replays row.game) (is_of_both c.args.one c.args.other) c.args.self.now.games c.next.result all (returns-clause-row c)

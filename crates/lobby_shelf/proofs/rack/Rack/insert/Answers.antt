@@ -1,9 +1,13 @@
-use Rattle.std.proofs.Common.{◌≡◌, ℕ, ◌+◌, ◌<◌, ◌≤◌, ◌++◌, ◌∷◌, true, false, cond, Result, Ok, Err, List, length, drop, sym, ap, subst, ◌∙◌, arith, rules}
+use Rattle.std.proofs.Common.{◌≡◌, ℕ, ◌+◌, ◌<◌, ◌≤◌, ◌++◌, ◌∷◌, true, false, cond, Result, Ok, Err, List, length, drop, map, sym, ap, subst, ◌∙◌, arith, rules}
 use Rattle.std.specs.List.{filter, insert}
 use Rattle.std.specs.Result.{IsOk, is_ok}
 use Rattle.std.specs.Vec.{vec_len}
+use Rattle.lobby_shelf.specs.declared.marks.Marks.{Marks}
 use Rattle.lobby_shelf.specs.declared.shelved.Shelved.{Shelved}
 use Rattle.lobby_shelf.specs.Numbers.{is_below, is_used, AreInOrder, with_game}
+use Rattle.std.proofs.lemmas.List.{length-map}
+use Rattle.lobby_shelf.specs.Marks.{marks_of, marks_row}
+use Rattle.lobby_shelf.proofs.Marked.{insert-map}
 use Rattle.lobby_shelf.proofs.Rising.{RiseAbove-with, take-place, drop-place}
 use Rattle.lobby_shelf.proofs.rack.Rack.insert.Goals as goal
 
@@ -46,9 +50,24 @@ invariant_of-self c =
     let unused = subst (λ (l : List Shelved). is_used l c.args.number ≡ false) (sym c.self.view_is) c.requires.unused in
     let positive : 0 < c.args.number = c.requires.positive in
     let fits = c.ranges.number.fits in
+    let place = c.place-place.result in
+    let marks_len : vec_len c.self.inside.marks ≡ length c.self.inside.marks.items = search rules in
+    let marked = marks_len ∙ ap (λ (l : List Marks). length l) c.self.invariant.marks ∙ length-map c.self.inside.games.items marks_row in
+    let beside = c.self.invariant.marks_room in
+    let ok = c.insert-room.ensures.succeeds (omega (arith, len, room, short)) in
+    let marks_ok = c.insert-room-2.ensures.succeeds (omega (arith, marked, beside, short)) in
+    let put = went_in c.insert-room.result _ _ _ ok c.insert-room.ensures.items in
+    let beside_more = c.insert-room-2.ensures.capacity in
     record {
       within = grown c.insert-room.result (vec_len c.self.inside.games) _ (omega (arith, len, short)) c.insert-room.ensures.len;
       room = omega (arith, room, more);
       order = subst AreInOrder (sym (returns c ∙ ap (with_game new) (sym c.self.view_is)))
           (RiseAbove-with new 0 c.self.inside.games.items positive fits unused c.self.invariant.order);
+      marks = went_in c.insert-room-2.result _ _ _ marks_ok c.insert-room-2.ensures.items
+          ∙ ap (λ l. insert l place c.of-marks.result) c.self.invariant.marks
+          ∙ ap (λ m. insert (map marks_row c.self.inside.games.items) place m) (c.of-marks.ensures ∙ ap marks_of c.as_slice.ensures)
+          ∙ insert-map marks_row c.self.inside.games.items place new
+          ∙ ap (map marks_row) (sym put);
+      marks_within = grown c.insert-room-2.result (vec_len c.self.inside.marks) _ (omega (arith, marked, short)) c.insert-room-2.ensures.len;
+      marks_room = omega (arith, beside, beside_more);
     }
