@@ -7,6 +7,7 @@ use crate::names::NameList;
 use fics_words::HandleKey;
 
 /// Who joins a channel is in it, and is in no other than before; nobody else is moved.
+#[tactic(auto, using(crate::proofs::Meaning::joins))]
 pub fn joining_is_being_in(channels: &Channels, who: u32, channel: u8)
     ensures { Joins channels.now who channel }
 {}
@@ -17,6 +18,7 @@ pub fn leaving_is_being_out(channels: &Channels, who: u32, channel: u8)
 {}
 
 /// Who leaves all channels is in none; nobody else is moved.
+#[tactic(auto, using(crate::proofs::Meaning::leaves_all))]
 pub fn leaving_all_is_being_in_none(channels: &Channels, who: u32)
     ensures { LeavesAll channels.now who }
 {}

@@ -1,5 +1,5 @@
 -- What an answer says of a table, where that is told.
-use Rattle.std.proofs.Common.{◌≡◌, ℕ, List, IfOk, IfSome, Ok, Err, Result, sym, subst}
+use Rattle.std.proofs.Common.{◌≡◌, ℕ, List, IfOk, IfSome, Err, Result, sym, subst}
 use Rattle.std.specs.declared.option.Option.{Option}
 use Rattle.std.specs.declared.option.Option.TheVariants.{None, Some}
 use Rattle.std.specs.FinMap as map
@@ -37,12 +37,6 @@ pub good_told : (told : Option Records) (rows : Pairs) (r : Result LobbyState Lo
 good_told told rows r rise all made =
     IfOk-weaker r (HasRows rows) (λ lobby. IfSome told IsGoodStore)
     (λ lobby h. of_told told rows IsGoodStore all (λ table e. made_good table lobby rows rise e h)) made
-
-pub no_fault : {A : Type 0} (r : Result A LoadRefusal) (P : Type 0) → OnKeeperFault r ⊥ → OnKeeperFault r P
-no_fault (Ok lobby) P none = tt
-no_fault (Err (BadRecord key)) P none = tt
-no_fault (Err KeeperFault) P none = absurd none
-no_fault (Err Memory) P none = tt
 
 -- a refusal that names a key says of it what holds of it
 pub on_named : (A : Type 0) (key : List ℕ) (refusal : LoadRefusal) (P : List ℕ → Type 0) → NamesKey key refusal → P key

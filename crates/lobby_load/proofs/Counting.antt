@@ -12,7 +12,8 @@ use Rattle.edge_traits.specs.Pairs.{IsAscending, Pairs, keys_order}
 use Rattle.lobby_store.proofs.OrdersOut.{tied_same}
 use Rattle.lobby_load.specs.BadRows.{ComesBefore, HasBefore, Row}
 use Rattle.lobby_load.specs.Filling.{count_of}
-use Rattle.lobby_load.proofs.RowsSorted.{IsBelow-all, all_before, all_behind, is_less, turned}
+use Rattle.edge_traits.proofs.Rising.{is_less}
+use Rattle.lobby_load.proofs.RowsSorted.{IsBelow-all, all_before, all_behind, turned}
 
 -- one row more
 pub count_cons : (p : Row → Bool) (row : Row) (rows : Pairs) → count_by p (row ∷ rows) ≡ cond (p row) 1 0 + count_by p rows

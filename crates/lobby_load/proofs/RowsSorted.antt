@@ -1,24 +1,15 @@
 -- Rows whose keys rise: what is found among them, and which come before which.
-use Rattle.std.proofs.Common.{◌≡◌, ℕ, Bool, true, false, cond, List, [], ◌∷◌, ◌++◌, None, Some, All, is_eq, is_lt, Ordering, Less, Equal, Greater, refl, sym, ap, subst, ◌∙◌}
+use Rattle.std.proofs.Common.{◌≡◌, ℕ, true, false, cond, List, [], ◌∷◌, ◌++◌, None, Some, All, is_eq, Greater, refl, sym, ap, subst, ◌∙◌}
 use Rattle.std.specs.Ordering.{eq_by_cmp, ordering_reverse}
 use Rattle.std.specs.Cmp.{tied_itself, first_so, second_so}
 use Rattle.std.specs.Cmp.Lexicographic.{nat_list_cmp_total}
 use Rattle.std.specs.FinMap.{find}
-use Rattle.std.specs.FinMap.Entries.{below_all}
 use Rattle.std.proofs.lemmas.List.Elements.{All-nil, All-cons, All-head, All-tail}
 use Rattle.edge_traits.specs.Pairs.{IsAscending, Pairs, keys_order}
 use Rattle.lobby_store.proofs.OrdersOut.{tied_same}
 use Rattle.lobby_load.specs.BadRows.{ComesBefore, Row}
 use Rattle.std.proofs.lemmas.Option.{same_Some}
-
-pub is_less : (o : Ordering) → is_lt o ≡ true → o ≡ Less
-is_less Less p = refl
-is_less Equal p = absurd (let bad : false ≡ true = p in cc)
-is_less Greater p = absurd (let bad : false ≡ true = p in cc)
-
--- the key comes before all of these
-abbrev pub IsBelow : List ℕ → Pairs → Type 0
-IsBelow key rows = below_all keys_order key rows ≡ true
+use Rattle.edge_traits.proofs.Rising.{IsBelow, is_less}
 
 -- who comes before another comes behind nobody of those that the other comes before
 pub before_then : (one other third : List ℕ) → ComesBefore one other → ComesBefore other third → ComesBefore one third

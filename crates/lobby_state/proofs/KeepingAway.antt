@@ -12,7 +12,7 @@ use Rattle.lobby_state.specs.Match.{is_full, match_effect}
 use Rattle.lobby_state.specs.NameList.{censors}
 use Rattle.lobby_state.specs.Play.{play_effect}
 use Rattle.lobby_state.specs.Tell.{tell_effect}
-use Rattle.lobby_state.proofs.Causes.{none_holds}
+use Rattle.fics_words.proofs.Causes.{none_holds}
 
 first_refused : (first second : Option Member) (member other : Member) (rest : List Cause) → first ≡ Some member → second ≡ Some other
     → censors (Some member) other ≡ true

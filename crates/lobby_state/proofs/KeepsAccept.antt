@@ -1,12 +1,12 @@
 -- What an Accept keeps: its plan can be carried out.
-use Rattle.std.proofs.Common.{◌≡◌, ℕ, Bool, true, false, List, Option, None, Some, is_none, refl, sym, ◌∙◌}
+use Rattle.std.proofs.Common.{◌≡◌, ℕ, Bool, false, List, Option, None, Some, is_none, refl, sym, ◌∙◌}
 use Rattle.std.specs.Prelude.{nat_le}
 use Rattle.std.proofs.lemmas.Bool.{eqb-true, or_parts, and_parts}
 use Rattle.seek_match.specs.declared.challenge.Challenge.{Challenge}
 use Rattle.lobby_state.specs.declared.member.Member.{Member}
 use Rattle.lobby_state.specs.Accept.{accept_effect, offer_from, offer_of, offering_in, terms_in}
 use Rattle.lobby_state.specs.Change.{holds}
-use Rattle.lobby_state.specs.Keeps.{KeepsPlanned}
+use Rattle.lobby_state.proofs.StartPlans.{CanPlan, planned_where}
 use Rattle.lobby_state.specs.Lobby.{LobbyState, free_slot, most_games, member_of, named}
 use Rattle.lobby_state.specs.Pairing.{are_partners, lack_partner, pairing_of}
 use Rattle.lobby_state.specs.Planned.{IsPlanned}
@@ -14,7 +14,6 @@ use Rattle.lobby_state.specs.ShelfRoom.{is_shelf_full}
 use Rattle.lobby_state.specs.StartPlan.{start_plan}
 use Rattle.lobby_state.specs.WellFormed.{AreChallengesOf, IsWellFormed, IsBetweenMembers, sessions_of}
 use Rattle.lobby_state.proofs.Lists.{find-passes}
-use Rattle.lobby_state.proofs.StartPlans.{planned_where}
 use Rattle.lobby_state.proofs.WellFormed.{find-has}
 use Rattle.seek_match.specs.Matches.{is_between, is_to}
 
@@ -51,9 +50,7 @@ planned_by lobby session name (Some accepting) (Some offer) (Some offering) (Som
     planned_where lobby session offer.from accepting offer.terms offering slot is_offer.1.terms first third
     (λ same. is_offer.1.differ (same ∙ sym is_offer.0)) away full found few room h
 
-pub keeps_accept : (lobby : LobbyState) (session : ℕ) (name : Option (List ℕ)) → KeepsPlanned lobby (accept_effect lobby session name)
-keeps_accept lobby session name = record {
-  planned = λ allowed h.
-      planned_by lobby session name (member_of lobby session) (offer_of lobby session name) (offering_in lobby (offer_of lobby session name)) (free_slot lobby)
-      refl refl refl refl allowed.0 allowed.1.0 allowed.1.1.0 allowed.1.1.1.1.0 (or_parts _ _ allowed.1.1.1.1.1.1.1.0).0 (or_parts _ _ allowed.1.1.1.1.1.1.1.0).1 allowed.1.1.1.1.1.1.1.1.0 h;
-}
+pub keeps_accept : (lobby : LobbyState) (session : ℕ) (name : Option (List ℕ)) → CanPlan lobby (accept_effect lobby session name)
+keeps_accept lobby session name allowed h =
+    planned_by lobby session name (member_of lobby session) (offer_of lobby session name) (offering_in lobby (offer_of lobby session name)) (free_slot lobby)
+    refl refl refl refl allowed.0 allowed.1.0 allowed.1.1.0 allowed.1.1.1.1.0 (or_parts _ _ allowed.1.1.1.1.1.1.1.0).0 (or_parts _ _ allowed.1.1.1.1.1.1.1.0).1 allowed.1.1.1.1.1.1.1.1.0 h

@@ -1,26 +1,38 @@
--- What a Bye keeps.
-use Rattle.std.proofs.Common.{◌≡◌, ◌≢◌, ℕ, Bool, not, eqb, List, filter, refl, sym, subst, arith}
+-- What a Going and a Bye keep.
+use Rattle.std.proofs.Common.{◌≡◌, ◌≢◌, ℕ, Bool, not, eqb, List, None, filter, refl, sym, subst, arith}
 use Rattle.std.proofs.lemmas.List.Elements.{All-filter}
 use Rattle.std.proofs.lemmas.List.Kept.{AllPairs-filter}
 use Rattle.std.proofs.lemmas.List.Sums.{count_by-le-length, length-filter}
 use Rattle.fics_words.specs.Handle.{key_of}
 use Rattle.lobby_state.specs.declared.member.Member.{Member}
 use Rattle.lobby_state.specs.Bye.{bye_effect}
-use Rattle.lobby_state.specs.Keeps.{Keeps}
-use Rattle.lobby_state.specs.Lobby.{LobbyState, is_session}
+use Rattle.lobby_state.specs.Change.{change_first}
+use Rattle.lobby_state.specs.Going.{going_effect, leaving_member}
+use Rattle.lobby_state.specs.Lobby.{LobbyState, is_session, without_challenges, without_partner, without_seeks}
 use Rattle.lobby_state.specs.WellFormed.{IsWellFormed, AreChallengesOf, AreSeeksOf, ArePartnersOf, HasSeats, IsShelfOf, sessions_of}
 use Rattle.lobby_state.proofs.Lists.{map-filter}
 use Rattle.lobby_state.proofs.ChallengeRows.{AreChallengesOf-without}
 use Rattle.lobby_state.proofs.SeekRows.{AreSeeksOf-without}
-use Rattle.lobby_state.proofs.PartnerRows.{ArePartnersOf-without}
+use Rattle.lobby_state.proofs.PartnerRows.{ArePartnersOf-forgotten, ArePartnersOf-without}
 use Rattle.lobby_shelf.specs.Shelf.{without_requests}
 use Rattle.lobby_state.proofs.ShelfRows.{IsShelfOf-without}
+use Rattle.lobby_state.proofs.WellFormed.{challenges_gone, member_changed, resumes_gone, seeks_gone, with_partners}
 use Rattle.partner_link.specs.Partners.{without}
-use Rattle.seek_match.specs.Matches.{without_challenges_of}
-use Rattle.seek_match.specs.Seeks.{without_seeks_of}
+use Rattle.seek_match.specs.Matches.{concerns, without_challenges_of}
+use Rattle.seek_match.specs.Seeks.{is_by, without_seeks_of}
 
-parted : (lobby : LobbyState) (session : ℕ) → IsWellFormed lobby → IsWellFormed (bye_effect lobby session).after
-parted lobby session h =
+pub formed_going : (lobby : LobbyState) (session : ℕ) → IsWellFormed lobby → IsWellFormed (going_effect lobby session).after
+formed_going lobby session h =
+    let gone : LobbyState = record lobby { members = change_first (is_session session) leaving_member lobby.members } in
+    let left : LobbyState = without_seeks session (without_challenges session gone) in
+    let formed : IsWellFormed left = seeks_gone (without_challenges session gone) (λ seek. not (is_by session None seek))
+    (challenges_gone gone (λ c. not (concerns session c))
+    (member_changed lobby (is_session session) leaving_member (λ _. refl) (λ _. refl) (λ _ seats. seats) h)) in
+    resumes_gone (without_partner session left) (λ request. not (eqb request.by session))
+    (with_partners left (without left.partners session) (ArePartnersOf-forgotten (sessions_of left.members) session left.partners formed.partners) formed)
+
+pub formed_gone : (lobby : LobbyState) (session : ℕ) → IsWellFormed lobby → IsWellFormed (bye_effect lobby session).after
+formed_gone lobby session h =
     let others : Member → Bool = λ m. not (is_session session m) in
     let stays : ℕ → Bool = λ s. not (eqb s session) in
     let left : List ℕ = filter stays (sessions_of lobby.members) in
@@ -43,6 +55,3 @@ parted lobby session h =
           (IsShelfOf-without (sessions_of lobby.members) session lobby.shelf h.shelf);
       counted = record { few = h.counted.few; room = h.counted.room; orders = h.counted.orders };
     }
-
-pub keeps_bye : (lobby : LobbyState) (session : ℕ) → Keeps lobby (bye_effect lobby session)
-keeps_bye lobby session = record { formed = λ _ h. parted lobby session h; games = refl; tells = λ _. tt }

@@ -1,4 +1,4 @@
--- What a Clear keeps: the plan of it, and the carrying out.
+-- What carrying out a Clear keeps.
 use Rattle.std.proofs.Common.{◌≡◌, ◌≢◌, ℕ, ◌-◌, ◌<◌, ◌≤◌, Bool, true, false, eqb, List, length, Option, None, Some, map, slice_get, refl, ap, ◌∙◌, arith, sym, subst}
 use Rattle.std.proofs.Math.ListN.{set}
 use Rattle.std.proofs.lemmas.Bool.{eqb-false, not-true}
@@ -9,13 +9,13 @@ use Rattle.fics_words.specs.Handle.{key_of}
 use Rattle.lobby_state.specs.declared.acts.Plan.TheVariants.{Clear}
 use Rattle.lobby_state.specs.declared.game.ListedGame.{ListedGame}
 use Rattle.simul_control.specs.declared.place.Place.{Place}
-use Rattle.lobby_state.specs.Clear.{clear_effect, off_desk, freed, cleared}
-use Rattle.lobby_state.specs.Keeps.{KeepsPlan, KeepsPlanned}
+use Rattle.lobby_state.specs.Clear.{off_desk, freed, cleared}
+use Rattle.lobby_state.specs.Keeps.{KeepsPlan}
 use Rattle.lobby_state.specs.Desks.{IsDesk}
 use Rattle.lobby_state.specs.Lobby.{LobbyState, game_at, game_in, is_session}
 use Rattle.lobby_state.specs.Places.{is_elsewhere}
 use Rattle.lobby_state.specs.Plans.{committed, game_after, put_away}
-use Rattle.lobby_state.specs.WellFormed.{IsWellFormed, IsSeatOf, IsStarted, HasSeats}
+use Rattle.lobby_state.specs.WellFormed.{AreCounted, IsWellFormed, IsSeatOf, IsStarted, HasSeats}
 use Rattle.lobby_state.proofs.Lists.{map-map_same, All-map_each, All-filter_passing, get-set_other, get-set_same}
 use Rattle.std.specs.Prelude.{IfSome, IsSome}
 use Rattle.game_records.specs.Replays.{Replays}
@@ -28,9 +28,6 @@ use Rattle.lobby_shelf.proofs.Rising.{next_number-least}
 use Rattle.lobby_state.specs.Reserve.{CanShelve}
 use Rattle.lobby_state.proofs.DesksUsed.{desks_used-free, desks_used-freed}
 use Rattle.lobby_state.proofs.WellFormed.{kept, member_changed}
-
-pub keeps_clear : (lobby : LobbyState) (session desk serial : ℕ) → IsDesk desk → KeepsPlanned lobby (clear_effect lobby session desk serial)
-keeps_clear lobby session desk serial is_desk = record { planned = λ _ h. is_desk }
 
 formed_freed : (lobby : LobbyState) (session desk : ℕ) → IsWellFormed lobby → IsWellFormed (freed lobby session desk)
 formed_freed lobby session desk h =
@@ -89,20 +86,10 @@ formed_shelved lobby desk game is_desk replays there h =
     let long = length-with new 0 lobby.shelf.games least.unused sound.numbers in
     let room = h.counted.room in
     let orders = h.counted.orders in
-    record {
-      accounts = left.accounts;
-      hall = left.hall;
-      sessions = left.sessions;
-      handles = left.handles;
-      challenges = left.challenges;
-      seeks = left.seeks;
-      partners = left.partners;
-      games = left.games;
-      serials = left.serials;
-      places = left.places;
-      shelf = record { sound = IsShelf-shelved lobby.shelf game (omega (arith, fewer, room)) replays sound; members = left.shelf.members };
-      counted = record { few = h.counted.few; room = omega (arith, fewer, long, room); orders = omega (arith, fewer, orders) };
-    }
+    let stored = IsShelf-shelved lobby.shelf game (omega (arith, fewer, room)) replays sound in
+    let counted : AreCounted lobby.accounts (cleared lobby desk).games lobby.started (shelved lobby.shelf game) =
+    record { few = h.counted.few; room = omega (arith, fewer, long, room); orders = omega (arith, fewer, orders) } in
+    assumption (stored, left.shelf.members, counted, left)
 
 formed_by : (lobby : LobbyState) (session desk serial : ℕ) → IsDesk desk → (game : Option StoredGame) (is_cleared : Bool)
     → CanShelve lobby (Clear session desk serial) game → IsWellFormed lobby → IsWellFormed (committed lobby (Clear session desk serial) game is_cleared)

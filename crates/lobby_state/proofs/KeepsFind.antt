@@ -1,12 +1,12 @@
--- What a Find keeps and tells.
+-- What a Find tells.
 use Rattle.std.proofs.Common.{◌≡◌, ℕ, zero, suc, List, [], ◌∷◌, Option, None, Some, IfSome, refl, arith}
 use Rattle.std.specs.Prelude.{slice_get}
 use Rattle.std.proofs.lemmas.List.Elements.{All-nil, All-tail, All-weaker}
 use Rattle.lobby_state.specs.declared.member.Member.{Member}
 use Rattle.simul_control.specs.declared.place.Place.{Place}
 use Rattle.lobby_state.specs.Desks.{IsDesk}
-use Rattle.lobby_state.specs.Find.{found, find_effect, present_of}
-use Rattle.lobby_state.specs.Keeps.{Keeps, TellsDesks}
+use Rattle.lobby_state.specs.Find.{found, present_of}
+use Rattle.lobby_state.specs.Keeps.{TellsDesks}
 use Rattle.lobby_state.specs.Lobby.{LobbyState, is_named, named, places_in}
 use Rattle.lobby_state.specs.Places.{AreAtDesks}
 use Rattle.lobby_state.specs.WellFormed.{HasSeats, IsSeatOf, IsWellFormed}
@@ -30,10 +30,7 @@ row_at_desk [] at h = tt
 row_at_desk (p ∷ rows) zero h = h 0 p (omega arith)
 row_at_desk (p ∷ rows) (suc at) h = row_at_desk rows at (All-tail (λ place. IsDesk place.desk) p rows h)
 
-pub keeps_find : (lobby : LobbyState) (session : ℕ) (name : List ℕ) → Keeps lobby (find_effect lobby session name)
-keeps_find lobby session name = record {
-  formed = λ _ h. h;
-  games = refl;
-  tells = λ h. found_is (present_of (named lobby name))
-      (row_at_desk (places_in (named lobby name)).rows (places_in (named lobby name)).at (named_at_desks lobby name (named lobby name) refl h));
-}
+pub tells_found : (lobby : LobbyState) (name : List ℕ) → IsWellFormed lobby → TellsDesks (found (present_of (named lobby name)))
+tells_found lobby name h =
+    found_is (present_of (named lobby name))
+    (row_at_desk (places_in (named lobby name)).rows (places_in (named lobby name)).at (named_at_desks lobby name (named lobby name) refl h))

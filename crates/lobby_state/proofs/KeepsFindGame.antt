@@ -1,10 +1,11 @@
--- What a FindGame keeps and tells.
+-- What a FindGame tells.
 use Rattle.std.proofs.Common.{◌≡◌, ℕ, Bool, true, false, cond, Option, None, Some, IfSome, refl, arith}
 use Rattle.lobby_state.specs.declared.game.ListedGame.{ListedGame}
 use Rattle.simul_control.specs.declared.place.Place.{Place}
 use Rattle.lobby_state.specs.Desks.{IsDesk}
-use Rattle.lobby_state.specs.FindGame.{desk_of_game, find_game_effect, first_at, first_seat, hall_desk, has_board, is_in_hall, seat_at}
-use Rattle.lobby_state.specs.Keeps.{Keeps}
+use Rattle.lobby_state.specs.Find.{found}
+use Rattle.lobby_state.specs.FindGame.{desk_of_game, first_at, first_seat, hall_desk, has_board, is_in_hall, seat_at}
+use Rattle.lobby_state.specs.Keeps.{TellsDesks}
 use Rattle.lobby_state.specs.Lobby.{LobbyState, game_at}
 use Rattle.lobby_state.proofs.KeepsFind.{found_is}
 
@@ -28,10 +29,7 @@ first_at_desk : (lobby : LobbyState) (number : ℕ) (desk : Option ℕ) → IfSo
 first_at_desk lobby number None h = tt
 first_at_desk lobby number (Some desk) h = seat_at_desk number desk (game_at lobby desk) h
 
-pub keeps_find_game : (lobby : LobbyState) (session number : ℕ) → Keeps lobby (find_game_effect lobby session number)
-keeps_find_game lobby session number = record {
-  formed = λ _ h. h;
-  games = refl;
-  tells = λ h. found_is (first_seat lobby number)
-      (first_at_desk lobby number (hall_desk number) (hall_desk_is (is_in_hall (desk_of_game number)) (desk_of_game number) (is_desk (desk_of_game number))));
-}
+pub tells_found_game : (lobby : LobbyState) (number : ℕ) → TellsDesks (found (first_seat lobby number))
+tells_found_game lobby number =
+    found_is (first_seat lobby number)
+    (first_at_desk lobby number (hall_desk number) (hall_desk_is (is_in_hall (desk_of_game number)) (desk_of_game number) (is_desk (desk_of_game number))))

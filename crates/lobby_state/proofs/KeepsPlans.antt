@@ -1,13 +1,12 @@
 -- What each pair act and each plan keeps, and what follows of the plans that a lobby gives, for all of them alike.
-use Rattle.std.proofs.Common.{◌≡◌, ℕ, Option, None, Some, Result, Ok, Err, refl, subst}
+use Rattle.std.proofs.Common.{◌≡◌, ℕ, Option, Result, Ok, Err, subst}
 use Rattle.std.specs.Prelude.{Bool, IfOk, IfSome}
-use Rattle.fics_words.specs.Effect.{answered, first_cause}
 use Rattle.fics_words.specs.declared.refusal.Refusal.{Refusal}
 use Rattle.lobby_state.specs.declared.acts.PairAct.{PairAct}
 use Rattle.lobby_state.specs.declared.acts.PairAct.TheVariants.{Accept, Play, Clear, Resume}
 use Rattle.lobby_state.specs.declared.acts.Plan.{Plan}
 use Rattle.lobby_state.specs.declared.acts.Plan.TheVariants.{Start, Clear as Clearing, Resume as Resuming, Ask}
-use Rattle.lobby_state.specs.Keeps.{KeepsPlan, KeepsPlanned}
+use Rattle.lobby_state.specs.Keeps.{KeepsPlan}
 use Rattle.lobby_state.specs.Desks.{IsDesk}
 use Rattle.lobby_state.specs.Lobby.{LobbyState}
 use Rattle.lobby_state.specs.Planned.{IsPlanned}
@@ -15,19 +14,20 @@ use Rattle.lobby_state.specs.Plans.{NamesDesk, committed, desk_of, plan_effect, 
 use Rattle.game_records.specs.declared.stored_game.StoredGame.{StoredGame}
 use Rattle.lobby_state.specs.Reserve.{CanShelve}
 use Rattle.lobby_state.specs.WellFormed.{IsWellFormed}
-use Rattle.lobby_state.proofs.Causes.{none_holds}
 use Rattle.lobby_state.proofs.KeepsAccept.{keeps_accept}
-use Rattle.lobby_state.proofs.KeepsClear.{keeps_clear, keeps_cleared}
+use Rattle.lobby_state.proofs.KeepsClear.{keeps_cleared}
 use Rattle.lobby_state.proofs.KeepsPlay.{keeps_play}
 use Rattle.lobby_state.proofs.KeepsResume.{keeps_resume}
 use Rattle.lobby_state.proofs.KeepsResumed.{keeps_asked, keeps_resumed}
 use Rattle.lobby_state.proofs.KeepsStart.{keeps_started}
+use Rattle.lobby_state.proofs.Refusals.{holds_of_answer}
+use Rattle.lobby_state.proofs.StartPlans.{CanPlan}
 
 -- the table: what each pair act keeps
-pub keeps_pair : (lobby : LobbyState) (session : ℕ) (act : PairAct) → NamesDesk act → KeepsPlanned lobby (plan_effect lobby session act)
+pub keeps_pair : (lobby : LobbyState) (session : ℕ) (act : PairAct) → NamesDesk act → CanPlan lobby (plan_effect lobby session act)
 keeps_pair lobby session (Accept name) names = keeps_accept lobby session name
 keeps_pair lobby session (Play number) names = keeps_play lobby session number
-keeps_pair lobby session (Clear desk serial) names = keeps_clear lobby session desk serial names
+keeps_pair lobby session (Clear desk serial) names = λ _ _. names
 keeps_pair lobby session (Resume name) names = keeps_resume lobby session name
 
 -- and what each plan keeps
@@ -37,17 +37,10 @@ keeps_plan lobby (Clearing session desk serial) is_desk = keeps_cleared lobby se
 keeps_plan lobby (Resuming desk serial number terms seats) can = keeps_resumed lobby desk serial number terms seats can
 keeps_plan lobby (Ask from to number) can = keeps_asked lobby from to number can
 
-planned_if : (lobby : LobbyState) (refused : Option Refusal) (plan : Plan) → (refused ≡ None → IsPlanned lobby plan)
-    → IfOk (answered refused plan) (IsPlanned lobby)
-planned_if lobby None plan step = step refl
-planned_if lobby (Some cause) plan step = tt
-
 -- a plan that the lobby gave can be carried out in it
 pub IfOk-plan_of : (lobby : LobbyState) (session : ℕ) (act : PairAct) → NamesDesk act → IsWellFormed lobby → IfOk (plan_of lobby session act) (IsPlanned lobby)
 IfOk-plan_of lobby session act names h =
-    let effect = plan_effect lobby session act in
-    planned_if lobby (first_cause effect.causes) effect.reply
-    (λ none. (keeps_pair lobby session act names).planned (none_holds effect.causes none) h)
+    holds_of_answer (IsPlanned lobby) (plan_effect lobby session act) (λ none. keeps_pair lobby session act names none h)
 
 pub plan_of-is : (lobby : LobbyState) (session : ℕ) (act : PairAct) (plan : Plan) → IsWellFormed lobby → NamesDesk act
     → plan_of lobby session act ≡ Ok plan → IsPlanned lobby plan

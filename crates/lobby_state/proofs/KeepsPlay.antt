@@ -4,7 +4,6 @@ use Rattle.std.specs.Prelude.{nat_le}
 use Rattle.std.proofs.lemmas.Bool.{eqb-true, eqb-false, or_parts}
 use Rattle.lobby_state.specs.declared.member.Member.{Member}
 use Rattle.lobby_state.specs.Change.{holds}
-use Rattle.lobby_state.specs.Keeps.{KeepsPlanned}
 use Rattle.lobby_state.specs.Lobby.{LobbyState, free_slot, most_games, is_session, member_of}
 use Rattle.lobby_state.specs.Pairing.{pairing_of}
 use Rattle.lobby_state.specs.Planned.{IsPlanned}
@@ -13,7 +12,7 @@ use Rattle.lobby_state.specs.ShelfRoom.{is_shelf_full}
 use Rattle.lobby_state.specs.StartPlan.{start_plan}
 use Rattle.lobby_state.specs.WellFormed.{IsByMember, IsWellFormed, sessions_of}
 use Rattle.lobby_state.proofs.Lists.{find-passes}
-use Rattle.lobby_state.proofs.StartPlans.{alone_together, planned_where}
+use Rattle.lobby_state.proofs.StartPlans.{CanPlan, alone_together, planned_where}
 use Rattle.lobby_state.proofs.WellFormed.{find-has}
 use Rattle.seek_match.specs.declared.seek.Seek.{Seek}
 use Rattle.seek_match.specs.Seeks.{has_number, seek_of}
@@ -33,9 +32,7 @@ planned_by lobby session number (Some accepting) (Some seek) (Some offering) (So
     planned_where lobby session seek.by accepting seek.terms offering slot by.terms first third
     (λ same. eqb-false offering.session session c (theirs ∙ same)) together.0 together.1 found few room h
 
-pub keeps_play : (lobby : LobbyState) (session number : ℕ) → KeepsPlanned lobby (play_effect lobby session number)
-keeps_play lobby session number = record {
-  planned = λ allowed h.
-      planned_by lobby session number (member_of lobby session) (seek_of lobby.seeks number) (seeking_in lobby (seek_of lobby.seeks number)) (free_slot lobby)
-      refl refl refl refl allowed.0 allowed.1.0 allowed.1.1.0 (or_parts _ _ allowed.1.1.1.1.1.1.1.0).0 (or_parts _ _ allowed.1.1.1.1.1.1.1.0).1 allowed.1.1.1.1.1.1.1.1.0 h;
-}
+pub keeps_play : (lobby : LobbyState) (session number : ℕ) → CanPlan lobby (play_effect lobby session number)
+keeps_play lobby session number allowed h =
+    planned_by lobby session number (member_of lobby session) (seek_of lobby.seeks number) (seeking_in lobby (seek_of lobby.seeks number)) (free_slot lobby)
+    refl refl refl refl allowed.0 allowed.1.0 allowed.1.1.0 (or_parts _ _ allowed.1.1.1.1.1.1.1.0).0 (or_parts _ _ allowed.1.1.1.1.1.1.1.0).1 allowed.1.1.1.1.1.1.1.1.0 h

@@ -21,7 +21,6 @@ use Rattle.lobby_shelf.specs.declared.shelved.Shelved.{Shelved}
 use Rattle.lobby_shelf.proofs.Rising.{rises_at}
 use Rattle.lobby_state.specs.declared.member.Member.{Member}
 use Rattle.lobby_state.specs.Change.{holds}
-use Rattle.lobby_state.specs.Keeps.{KeepsPlanned}
 use Rattle.lobby_state.specs.Lobby.{LobbyState, free_slot, has_handle, is_named, is_session, member_of, most_games, named}
 use Rattle.lobby_state.specs.Pairing.{needs_partners}
 use Rattle.lobby_state.specs.Planned.{AreApart, CanAsk, FitsVariant, IsMember, IsPlanned}
@@ -29,7 +28,7 @@ use Rattle.lobby_state.specs.Resume.{Resuming, as_they_sat, asking, going_on, ha
 use Rattle.lobby_state.specs.WellFormed.{IsWellFormed, sessions_of}
 use Rattle.lobby_state.proofs.KeepsResumed.{used-stored}
 use Rattle.lobby_state.proofs.Lists.{find-contained, find-passes, find-step}
-use Rattle.lobby_state.proofs.StartPlans.{all_of_four, all_of_two, free-is, pairs_of_four, pairs_of_two}
+use Rattle.lobby_state.proofs.StartPlans.{CanPlan, all_of_four, all_of_two, free-is, pairs_of_four, pairs_of_two}
 use Rattle.lobby_state.proofs.WellFormed.{find-has}
 use Rattle.lobby_shelf.proofs.Leading.{same_key}
 use Rattle.login_handles.proofs.GuestNames.{bytes_eq-self}
@@ -362,9 +361,7 @@ planned_by lobby session key (Some caller) (Some other) (Some row) first second 
     let r : Resuming = record { caller = caller; other = other; row = row } in
     resuming_by lobby session key r (would_start lobby caller row) (record { caller = first; other = second; row = third; differ = c }) refl allowed h
 
-pub keeps_resume : (lobby : LobbyState) (session : ℕ) (key : List ℕ) → KeepsPlanned lobby (resume_effect lobby session key)
-keeps_resume lobby session key = record {
-  planned = λ allowed h.
-      planned_by lobby session key (member_of lobby session) (named lobby key) (meant lobby (member_of lobby session) key) refl refl refl
-      allowed.0 allowed.1.0 allowed.1.1.0 allowed.1.1.1.0 allowed.1.1.1.1 h;
-}
+pub keeps_resume : (lobby : LobbyState) (session : ℕ) (key : List ℕ) → CanPlan lobby (resume_effect lobby session key)
+keeps_resume lobby session key allowed h =
+    planned_by lobby session key (member_of lobby session) (named lobby key) (meant lobby (member_of lobby session) key) refl refl refl
+    allowed.0 allowed.1.0 allowed.1.1.0 allowed.1.1.1.0 allowed.1.1.1.1 h

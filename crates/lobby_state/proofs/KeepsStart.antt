@@ -35,6 +35,7 @@ use Rattle.lobby_state.proofs.DesksUsed.{desks_used-taken}
 use Rattle.lobby_state.proofs.WellFormed.{kept, resumes_gone, seeks_gone}
 use Rattle.tables.proofs.Placed.{position-within, find-found}
 use Rattle.lobby_state.proofs.Lent.{at_place}
+use Rattle.lobby_state.proofs.Seated.{in_seat_session}
 
 -- a number of a seat is that of the session's own
 record Sits (session : ℕ) (seats : Seats) (number : ℕ) : Type 0 where
@@ -101,10 +102,6 @@ boards_by Bughouse seats h = h
 boards_by Chess seats h = h
 boards_by Crazyhouse seats h = h
 boards_by (Fischer n) seats h = h
-
-in_seat_session : (desk serial : ℕ) (number : Option ℕ) (m : Member) → (in_seat desk serial number m).session ≡ m.session
-in_seat_session desk serial None m = refl
-in_seat_session desk serial (Some number) m = refl
 
 in_seat_name : (desk serial : ℕ) (number : Option ℕ) (m : Member) → (in_seat desk serial number m).name ≡ m.name
 in_seat_name desk serial None m = refl

@@ -1,6 +1,6 @@
 -- A part of one member that is lent: the member at a place with that part written, where the place is that of the first
 -- member that passes a test.
-use Rattle.std.proofs.Common.{◌≡◌, ℕ, ◌<◌, ◌≤◌, zero, suc, Bool, true, false, not, filter, List, [], ◌∷◌, ◌++◌, cond, Some, length, slice_get, refl, sym, ap, ◌∙◌, arith}
+use Rattle.std.proofs.Common.{◌≡◌, ℕ, ◌<◌, ◌≤◌, zero, suc, Bool, not, filter, List, [], ◌∷◌, ◌++◌, cond, Some, length, slice_get, refl, sym, ap, ◌∙◌, arith}
 use Rattle.std.specs.Prelude.{◌==◌}
 use Rattle.std.specs.List.{position}
 use Rattle.std.proofs.Math.ListN.{set}

@@ -6,7 +6,8 @@ use Rattle.std.proofs.Math.ListN.{set, get_or-map}
 use Rattle.std.proofs.lemmas.List.{length-map}
 use Rattle.std.proofs.lemmas.List.Elements.{All-nil, All-cons, All-head, All-tail}
 use Rattle.lobby_state.specs.Change.{change_first}
-use Rattle.lobby_shelf.proofs.Keeping.{filter_step}
+pub use Rattle.lobby_shelf.proofs.Keeping.{All-filter_passing}
+use Rattle.fics_words.proofs.Causes.{first_none}
 
 pub map-map_same : {X Y : Type 0} (g : X → Y) (f : X → X) → ((x : X) → g (f x) ≡ g x) → (xs : List X) → map g (map f xs) ≡ map g xs
 map-map_same g f same [] = refl
@@ -54,13 +55,6 @@ All-change_first_passing P p f step (x ∷ xs) h =
     let head = All-head P x xs h in
     let tail = All-tail P x xs h in
     by_test-passing P (p x) x (f x) xs (change_first p f xs) head (λ passes. step x passes head) tail (All-change_first_passing P p f step xs tail)
-
--- what passes the test has more than each item has
-pub All-filter_passing : {X : Type 0} (P Q : X → Type 0) (p : X → Bool) → ((x : X) → p x ≡ true → P x → Q x) → (xs : List X)
-    → All P xs → All Q (filter p xs)
-All-filter_passing P Q p step [] h = All-nil Q
-All-filter_passing P Q p step (x ∷ xs) h =
-    filter_step Q (p x) x (filter p xs) (λ e. step x e (All-head P x xs h)) (All-filter_passing P Q p step xs (All-tail P x xs h))
 
 pub map-cond_cons : {X Y : Type 0} (g : X → Y) (b : Bool) (x : X) (xs : List X) → map g (cond b (x ∷ xs) xs) ≡ cond b (g x ∷ map g xs) (map g xs)
 map-cond_cons g true x xs = refl
@@ -115,15 +109,11 @@ find-contained g p (x ∷ xs) y e = elim (find-step (p x) x y (find p xs) e) [
   | inr h ↦ Contains-later (g y) (g x) (map g xs) (find-contained g p xs y h)
 ]
 
-pub find-none_step : {X : Type 0} (b : Bool) (x : X) (r : Option X) → cond b (Some x) r ≡ None → (b ≡ false) × (r ≡ None)
-find-none_step true x r e = cc
-find-none_step false x r e = (refl, e)
-
 -- where nothing was found nothing passes
 pub find-none : {X : Type 0} (p : X → Bool) (xs : List X) → find p xs ≡ None → All (λ x. p x ≡ false) xs
 find-none p [] e = All-nil (λ x. p x ≡ false)
 find-none p (x ∷ xs) e =
-    let step = find-none_step (p x) x (find p xs) e in
+    let step = first_none (p x) x (find p xs) e in
     All-cons (λ z. p z ≡ false) x xs step.0 (find-none p xs step.1)
 
 pub get-set_same : {X : Type 0} (xs : List X) (i : ℕ) (y : X) → i < length xs → slice_get (set xs i y) i ≡ Some y

@@ -17,7 +17,7 @@ use Rattle.lobby_state.specs.GoBoard.{MeetsPlayer, first_against, go_board_effec
 use Rattle.lobby_state.specs.Lobby.{LobbyState, is_session, member_of, named, places_in, places_of}
 use Rattle.lobby_state.specs.OwnPlaces.{placed, with_places}
 use Rattle.lobby_state.specs.Places.{PlaceList, present_at}
-use Rattle.lobby_state.proofs.Causes.{none_holds}
+use Rattle.fics_words.proofs.Causes.{none_holds}
 use Rattle.lobby_state.proofs.KeepingAway.{none_where_done}
 use Rattle.simul_control.specs.declared.place.Place.{Place}
 use Rattle.tables.proofs.Placed.{position-within}

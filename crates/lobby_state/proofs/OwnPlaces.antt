@@ -3,15 +3,16 @@ use Rattle.std.proofs.Common.{◌≡◌, ℕ, List, Option, None, Some, refl, sy
 use Rattle.std.specs.Prelude.{All}
 use Rattle.std.proofs.lemmas.Bool.{eqb-true}
 use Rattle.std.proofs.lemmas.List.Elements.{All-nil}
-use Rattle.fics_words.specs.Effect.{Effect}
 use Rattle.fics_words.specs.Handle.{key_of}
 use Rattle.lobby_state.specs.declared.member.Member.{Member}
 use Rattle.lobby_state.specs.Change.{change_first}
-use Rattle.lobby_state.specs.Keeps.{Keeps}
+use Rattle.lobby_state.specs.GoBoard.{gone_to}
 use Rattle.lobby_state.specs.Lobby.{LobbyState, is_session, member_of, places_in, places_of}
-use Rattle.lobby_state.specs.OwnPlaces.{changing, placed, with_places}
+use Rattle.lobby_state.specs.OwnPlaces.{placed, with_places}
 use Rattle.lobby_state.specs.Places.{PlaceList}
 use Rattle.lobby_state.specs.WellFormed.{HasSeats, IsSeatOf, IsWellFormed}
+use Rattle.lobby_state.proofs.Follows.{Follows}
+use Rattle.lobby_state.proofs.LinesKept.{kept_change, same_lines}
 use Rattle.lobby_state.proofs.Lists.{All-change_first_passing, find-passes, map-change_first_same}
 use Rattle.lobby_state.proofs.WellFormed.{find-has, kept}
 use Rattle.simul_control.specs.declared.place.Place.{Place}
@@ -39,11 +40,17 @@ own_seats lobby session (Some member) is h =
     (eqb-true member.session session (find-passes (is_session session) lobby.members member is))
     (find-has (HasSeats lobby.games) (is_session session) lobby.members member h.places is)
 
-pub keeps_own : (lobby : LobbyState) (session : ℕ) (change : Effect PlaceList (Unit {0})) → change.after.rows ≡ (places_of lobby session).rows
-    → Keeps lobby (changing lobby session change)
-keeps_own lobby session change same = record {
-  formed = λ _ h. formed_placed lobby session change.after
+pub placed_follows : {conditions silent : Type 0} (lobby : LobbyState) (session : ℕ) (places : PlaceList) → places.rows ≡ (places_of lobby session).rows
+    → Follows conditions silent lobby (placed lobby session places)
+placed_follows lobby session places same = record {
+  formed = λ _ h. formed_placed lobby session places
       (subst (λ (rows : List Place). All (IsSeatOf lobby.games session) rows) (sym same) (own_seats lobby session (member_of lobby session) refl h)) h;
   games = refl;
-  tells = λ _. tt;
+  lines = λ own. kept_change (is_session session) (with_places places) (λ m. same_lines m (with_places places m) refl refl) own lobby.members;
+  store = λ _. refl;
 }
+
+-- the list of places stays where another one is the present one
+pub rows_gone : (found : Option ℕ) (places : PlaceList) → (gone_to found places).rows ≡ places.rows
+rows_gone None places = refl
+rows_gone (Some at) places = refl

@@ -11,12 +11,14 @@ use Rattle.std.proofs.lemmas.Option.{get_or_from_slice_get, slice_get_within, sa
 use Rattle.chess_model.specs.declared.variant.Terms.{Terms}
 use Rattle.chess_model.specs.declared.variant.Variant.{Variant}
 use Rattle.chess_model.specs.declared.variant.Variant.TheVariants.{Chess, Crazyhouse, Bughouse, Fischer}
+use Rattle.fics_words.specs.Effect.{Effect, NoneHolds}
 use Rattle.fics_words.specs.Handle.{key_of}
 use Rattle.fics_words.specs.declared.account.Account.{Account}
 use Rattle.fics_words.specs.declared.seats.Seats.{Seats}
 use Rattle.fics_words.specs.Seats.{seat_list}
 use Rattle.partner_link.specs.Partners.{partner_of}
 use Rattle.partner_link.proofs.Links.{partner_of-other, partner_of-partner_of}
+use Rattle.lobby_state.specs.declared.acts.Plan.{Plan}
 use Rattle.lobby_state.specs.declared.game.ListedGame.{ListedGame}
 use Rattle.lobby_state.specs.declared.member.Member.{Member}
 use Rattle.lobby_state.specs.Change.{holds}
@@ -30,6 +32,10 @@ use Rattle.lobby_state.specs.WellFormed.{IsWellFormed}
 use Rattle.lobby_state.proofs.Lists.{find-contained, find-passes}
 use Rattle.tables.proofs.Placed.{position-within, find-found}
 use Rattle.lobby_state.proofs.Lent.{at_place}
+
+-- where the act isn't refused, its plan can be carried out
+abbrev pub CanPlan : LobbyState → Effect LobbyState Plan → Type 0
+CanPlan lobby effect = NoneHolds effect.causes → IsWellFormed lobby → IsPlanned lobby effect.reply
 
 none_there : {X : Type 0} (o : Option X) → is_none o ≡ true → o ≡ None
 none_there None e = refl

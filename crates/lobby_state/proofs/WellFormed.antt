@@ -64,23 +64,16 @@ member_changed lobby test change session name seats h =
     h.challenges h.games h.serials
     (All-change_first (HasSeats lobby.games) test change seats lobby.members h.places) h.shelf h.counted h
 
+-- there are other challenges
+pub with_challenges : (lobby : LobbyState) (challenges : List Challenge) → AreChallengesOf (sessions_of lobby.members) challenges → IsWellFormed lobby
+    → IsWellFormed (record lobby { challenges = challenges })
+with_challenges lobby challenges are h = assumption (are, h)
+
 -- some challenges go
 pub challenges_gone : (lobby : LobbyState) (test : Challenge → Bool) → IsWellFormed lobby
     → IsWellFormed (record lobby { challenges = filter test lobby.challenges })
-challenges_gone lobby test h = record {
-  accounts = h.accounts;
-  hall = h.hall;
-  sessions = h.sessions;
-  handles = h.handles;
-  challenges = AreChallengesOf-filter (sessions_of lobby.members) test lobby.challenges h.challenges;
-  seeks = h.seeks;
-  partners = h.partners;
-  games = h.games;
-  serials = h.serials;
-  places = h.places;
-  shelf = h.shelf;
-  counted = h.counted;
-}
+challenges_gone lobby test h =
+    with_challenges lobby (filter test lobby.challenges) (AreChallengesOf-filter (sessions_of lobby.members) test lobby.challenges h.challenges) h
 
 -- there are at most as many sessions as members
 pub members_few : (lobby : LobbyState) → IsWellFormed lobby → length (sessions_of lobby.members) ≤ 256
@@ -93,20 +86,7 @@ has_number_left lobby h = has_numbers_left (sessions_of lobby.members) lobby.see
 -- there are other seeks
 pub with_seeks : (lobby : LobbyState) (seeks : List Seek) → AreSeeksOf (sessions_of lobby.members) seeks → IsWellFormed lobby
     → IsWellFormed (record lobby { seeks = seeks })
-with_seeks lobby seeks are h = record {
-  accounts = h.accounts;
-  hall = h.hall;
-  sessions = h.sessions;
-  handles = h.handles;
-  challenges = h.challenges;
-  seeks = are;
-  partners = h.partners;
-  games = h.games;
-  serials = h.serials;
-  places = h.places;
-  shelf = h.shelf;
-  counted = h.counted;
-}
+with_seeks lobby seeks are h = assumption (are, h)
 
 -- some seeks go
 pub seeks_gone : (lobby : LobbyState) (test : Seek → Bool) → IsWellFormed lobby → IsWellFormed (record lobby { seeks = filter test lobby.seeks })
@@ -115,56 +95,17 @@ seeks_gone lobby test h =
 
 -- others are in the channels
 pub with_channels : (lobby : LobbyState) (channels : List Membership) → IsWellFormed lobby → IsWellFormed (record lobby { channels = channels })
-with_channels lobby channels h = record {
-  accounts = h.accounts;
-  hall = h.hall;
-  sessions = h.sessions;
-  handles = h.handles;
-  challenges = h.challenges;
-  seeks = h.seeks;
-  partners = h.partners;
-  games = h.games;
-  serials = h.serials;
-  places = h.places;
-  shelf = h.shelf;
-  counted = h.counted;
-}
+with_channels lobby channels h = assumption h
 
 -- there are other requests and links of partners
 pub with_partners : (lobby : LobbyState) (partners : PartnerLists) → ArePartnersOf (sessions_of lobby.members) partners → IsWellFormed lobby
     → IsWellFormed (record lobby { partners = partners })
-with_partners lobby partners are h = record {
-  accounts = h.accounts;
-  hall = h.hall;
-  sessions = h.sessions;
-  handles = h.handles;
-  challenges = h.challenges;
-  seeks = h.seeks;
-  partners = are;
-  games = h.games;
-  serials = h.serials;
-  places = h.places;
-  shelf = h.shelf;
-  counted = h.counted;
-}
+with_partners lobby partners are h = assumption (are, h)
 
 -- some requests to resume go
 pub resumes_gone : (lobby : LobbyState) (test : Request → Bool) → IsWellFormed lobby
     → IsWellFormed (record lobby { shelf = record lobby.shelf { requests = filter test lobby.shelf.requests } })
-resumes_gone lobby test h = record {
-  accounts = h.accounts;
-  hall = h.hall;
-  sessions = h.sessions;
-  handles = h.handles;
-  challenges = h.challenges;
-  seeks = h.seeks;
-  partners = h.partners;
-  games = h.games;
-  serials = h.serials;
-  places = h.places;
-  shelf = IsShelfOf-fewer (sessions_of lobby.members) lobby.shelf test h.shelf;
-  counted = record { few = h.counted.few; room = h.counted.room; orders = h.counted.orders };
-}
+resumes_gone lobby test h = assumption (IsShelfOf-fewer (sessions_of lobby.members) lobby.shelf test h.shelf, h)
 
 -- another save order can be made
 pub one_more_order : (lobby : LobbyState) → IsWellFormed lobby → lobby.shelf.made + 1 < 2 ^ 64

@@ -2,6 +2,7 @@
 use Rattle.std.specs.Prelude.{ℕ, ◌≤◌, length, Result}
 use Rattle.fics_words.specs.declared.refusal.Refusal.{Refusal}
 use Rattle.fics_words.specs.Effect.{Effect, answer_of, state_of}
+use Rattle.fics_words.specs.Line.{most_text_bytes}
 use Rattle.lobby_state.specs.declared.acts.LobbyAct.{LobbyAct}
 use Rattle.lobby_state.specs.declared.acts.LobbyAct.TheVariants.{Enter, Register, Match, Unpost, Sought, Who, Where, Fetch, Going, Bye, InUse, Var, Tell, Shout, Decline, Withdraw, Post, Channel, TellChannel, InChannel, Partner, Ptell, List, Pending, Games, Find, FindGame, SimOpen, SimNext, SimPrev, GoBoard, Stored, Orders, Saved}
 use Rattle.lobby_state.specs.declared.acts.LobbyReply.{LobbyReply}
@@ -90,10 +91,10 @@ lobby_after lobby session act = state_of lobby (lobby_effect lobby session act)
 -- the conditions on the numbers of an act, and a text that a member says to others has at most 800 bytes
 abbrev pub FitsLobby : LobbyAct → Type 0
 FitsLobby (Match to terms) = AreTerms terms
-FitsLobby (Tell to text) = length text ≤ 800
-FitsLobby (TellChannel channel text) = length text ≤ 800
-FitsLobby (Shout text) = length text ≤ 800
-FitsLobby (Ptell text) = length text ≤ 800
+FitsLobby (Tell to text) = length text ≤ most_text_bytes
+FitsLobby (TellChannel channel text) = length text ≤ most_text_bytes
+FitsLobby (Shout text) = length text ≤ most_text_bytes
+FitsLobby (Ptell text) = length text ≤ most_text_bytes
 FitsLobby (Post terms) = AreTerms terms
 FitsLobby _ = Unit {0}
 

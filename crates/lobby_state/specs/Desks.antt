@@ -1,2 +1,2 @@
--- The desks of the hall: the words of the crate below, passed on.
-pub use Rattle.simul_control.specs.Desks.{IsDesk, desks}
+-- The desks of the hall: the words of fics_words, passed on.
+pub use Rattle.fics_words.specs.Desks.{IsDesk, desks}

@@ -10,7 +10,6 @@ use Rattle.lobby_state.specs.declared.game.ListedGame.{ListedGame}
 use Rattle.lobby_state.specs.Desks.{IsDesk}
 use Rattle.lobby_state.specs.Lobby.{LobbyState}
 use Rattle.lobby_state.specs.Places.{AreAtDesks}
-use Rattle.lobby_state.specs.Planned.{IsPlanned}
 use Rattle.lobby_state.specs.Plans.{committed, desk_of, game_after}
 use Rattle.lobby_state.specs.Reserve.{CanShelve}
 use Rattle.lobby_state.specs.WellFormed.{IsWellFormed}
@@ -30,21 +29,12 @@ TellsDesks (Waiting lines places) = AreAtDesks places.rows
 TellsDesks (Desks desks) = All (λ row. IsDesk row.desk) desks
 TellsDesks (Orders orders) = Unit {0}
 
--- what a lobby act keeps: it leaves a lobby well-formed, it starts and ends no game, and it tells of desks alone
-pub record Keeps (lobby : LobbyState) (effect : Effect LobbyState LobbyReply) : Type 0 where
-  pub formed : NoneHolds effect.causes → IsWellFormed lobby → IsWellFormed effect.after
-  pub games : effect.after.games ≡ lobby.games
-  pub tells : IsWellFormed lobby → TellsDesks effect.reply
-
--- what a lobby act keeps that is made under these conditions
+-- what a lobby act keeps that is made under these conditions: it leaves a lobby well-formed, it starts and ends no game,
+-- and it tells of desks alone
 pub record KeepsWhere (conditions : Type 0) (lobby : LobbyState) (effect : Effect LobbyState LobbyReply) : Type 0 where
   pub formed : conditions → NoneHolds effect.causes → IsWellFormed lobby → IsWellFormed effect.after
   pub games : effect.after.games ≡ lobby.games
   pub tells : IsWellFormed lobby → TellsDesks effect.reply
-
--- what a pair act keeps: where it isn't refused, its plan can be carried out
-pub record KeepsPlanned (lobby : LobbyState) (effect : Effect LobbyState Plan) : Type 0 where
-  pub planned : NoneHolds effect.causes → IsWellFormed lobby → IsPlanned lobby effect.reply
 
 -- what a plan that can be carried out keeps: its desk is one of the hall's, it leaves a lobby well-formed, and it
 -- changes the game of no desk but its own

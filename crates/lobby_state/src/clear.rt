@@ -15,7 +15,7 @@ impl Change<Member> for GetUp {
     ghost changed = { λ from member. off_desk from.0 member };
 
     fn change(&self, member: &mut Member) {
-        member.places = member.places.without(self.0);
+        member.places.leave(self.0);
     }
 }
 

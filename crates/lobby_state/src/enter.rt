@@ -1,5 +1,5 @@
 //! Enter: a session comes in under a handle, or as a guest.
-ghost use Rattle.std.specs.Prelude.{◌≡◌, ◌<◌, ◌++◌, IfOk, None, OnOk, length, map};
+ghost use Rattle.std.specs.Prelude.{◌≡◌, ◌<◌, ◌++◌, None, length, map};
 ghost use Rattle.fics_words.specs.Effect.{Takes};
 ghost use Rattle.fics_words.specs.Handle.{key_of};
 ghost use Rattle.lobby_state.specs.Enter.{enter_effect, entering, entrant_of, guest_in};
@@ -7,17 +7,32 @@ ghost use Rattle.lobby_state.specs.Lobby.{holder_of, member_of, most_members};
 
 use crate::acts::LobbyReply;
 use crate::member::Member;
-use crate::members::MOST_MEMBERS;
+use crate::members::{MOST_MEMBERS, Members};
 use crate::roster::Roster;
-use fics_words::{Account, Digest, Fail, Handle, HandleKey, Refusal};
-use login_handles::{Check, guest_name};
-use memory::NoMemory;
+use fics_words::{Digest, Fail, Handle, HandleKey, Refusal};
+use login_handles::{Accounts, Check, NamesInUse, guest_name};
 
 /// Who asks to come in: under which handle, and what its account says of the password.
 #[derive(Clone, Copy)]
 pub(crate) struct Entrant {
     pub(crate) name: Handle,
     pub(crate) check: Check,
+}
+
+/// The names that members and accounts have.
+#[derive(Clone, Copy)]
+struct NamesTaken<'a> {
+    members: &'a Members,
+    accounts: &'a Accounts,
+}
+
+impl<'a> NamesInUse for NamesTaken<'a> {
+    ghost keys = { λ names. map (λ member. key_of member.name) names.members.now
+        ++ map (λ account. key_of account.name) names.accounts.now };
+
+    fn has(&self, key: HandleKey) -> bool {
+        self.members.with_handle(key).is_some() || self.accounts.get(key).is_some()
+    }
 }
 
 impl Roster {
@@ -34,7 +49,7 @@ impl Roster {
         if self.members.len() >= MOST_MEMBERS {
             return Err(Fail::Refused(Refusal::HallFull));
         }
-        let entrant = self.entrant(name, digest)?;
+        let entrant = self.entrant(name, digest);
         if self.member(session).is_some() || self.with_handle(entrant.name.key()).is_some() {
             return Err(Fail::Refused(Refusal::HandleTaken));
         }
@@ -60,54 +75,36 @@ impl Roster {
 
     /// Who asks to come in: a guest under the next name; or whoever gives a handle, which has its account's spelling
     /// where it has an account.
-    fn entrant(&self, name: Option<Handle>, digest: Option<Digest>) -> Result<Entrant, NoMemory>
+    fn entrant(&self, name: Option<Handle>, digest: Option<Digest>) -> Entrant
         requires { length self.now.members < most_members }
-        ensures { IfOk result (λ entrant. entrant ≡ entrant_of self.now name digest) }
+        ensures { result ≡ entrant_of self.now name digest }
     {
         let Some(name) = name else {
-            return Ok(Entrant {
-                name: self.next_guest()?,
+            return Entrant {
+                name: self.next_guest(),
                 check: Check::Free,
-            });
+            };
         };
         let check = self.accounts.check(name.key(), digest);
         match self.accounts.get(name.key()) {
-            Some(account) => Ok(Entrant {
+            Some(account) => Entrant {
                 name: account.name,
                 check,
-            }),
-            None => Ok(Entrant { name, check }),
+            },
+            None => Entrant { name, check },
         }
     }
 
     /// The least name of a guest that no member and no account has.
-    fn next_guest(&self) -> Result<Handle, NoMemory>
+    fn next_guest(&self) -> Handle
         requires { length self.now.members < most_members }
-        ensures { IfOk result (λ name. name ≡ guest_in self.now) }
+        ensures { result ≡ guest_in self.now }
     {
-        let mut taken = Vec::new(self.alloc);
-        push_members(&mut taken, self.members.as_slice())?;
-        push_accounts(&mut taken, self.accounts.rows())?;
-        Ok(guest_name(&taken))
+        // The accounts are what says that they are few.
+        let _accounts = self.accounts.rows();
+        guest_name(&NamesTaken {
+            members: &self.members,
+            accounts: &self.accounts,
+        })
     }
-}
-
-/// Puts the keys of the members' handles behind the others.
-fn push_members(keys: &mut Vec<HandleKey>, members: &[Member]) -> Result<(), NoMemory>
-    ensures { OnOk result (keys.new.items ≡ keys.old.items ++ map (λ member. key_of member.name) members.now) }
-{
-    for member in members {
-        keys.push(member.name.key())?;
-    }
-    Ok(())
-}
-
-/// Puts the keys of the accounts' handles behind the others.
-fn push_accounts(keys: &mut Vec<HandleKey>, accounts: &[Account]) -> Result<(), NoMemory>
-    ensures { OnOk result (keys.new.items ≡ keys.old.items ++ map (λ account. key_of account.name) accounts.now) }
-{
-    for account in accounts {
-        keys.push(account.name.key())?;
-    }
-    Ok(())
 }

@@ -9,7 +9,7 @@
 //! says by the lobby alone which desk and what is to be done there, `reserve` makes ready what that needs of memory and
 //! changes nothing, and `commit`, which takes no memory, does the lobby's share.
 //!
-//! An act is a room of its own: a file of `src/`, one of `specs/` and one of `proofs/` that says what the act keeps.
+//! An act is a room of its own: a file of `src/` and one of `specs/`. What acts keep is one table of `proofs/`.
 #![tactic(auto)]
 
 mod accept;

@@ -1,19 +1,22 @@
 //! Partner: a member asks another to be its partner, or parts with the one it has.
 ghost use Rattle.std.specs.Prelude.{◌≡◌, IfOk, OnErr, OnOk, true};
+ghost use Rattle.channel_feed.specs.Waiting.{with_line as with_one_more};
 ghost use Rattle.fics_words.specs.Effect.{Takes, first_cause};
 ghost use Rattle.lobby_state.specs.Broadcast.{broadcast};
 ghost use Rattle.lobby_state.specs.Lobby.{is_session};
 ghost use Rattle.lobby_state.specs.Partner.{ask_causes, ask_effect, asked_reply, asking_effect, part_effect};
 ghost use Rattle.lobby_state.specs.Partner.{partner_effect, partner_words};
+ghost use Rattle.partner_link.specs.Partners.{asking};
 
 use crate::acts::LobbyReply;
-use crate::broadcast::tell_session;
+use crate::inbox::Inbox;
 use crate::member::Member;
 use crate::members::Members;
 use crate::roster::Roster;
 use crate::said::{joined, said_line};
 use fics_words::{Fail, Handle, HandleKey, Line, Refusal};
 use memory::NoMemory;
+use partner_link::Partners;
 use std::alloc::Global;
 
 impl Roster {
@@ -73,10 +76,8 @@ impl Roster {
         ensures { Takes (asking_effect self.old session name other) self.old self.new result }
     {
         let linked = self.partners.has_asked(other, session);
-        // requests and links are made anew beside the old ones, so that want of memory for the line changes nothing
-        let asked = self.partners.after_ask(session, other)?;
-        tell_asked(self.alloc, &mut self.members, other, name, linked)?;
-        self.partners = asked;
+        let line = partner_line(self.alloc, name, linked)?;
+        ask_and_tell(&mut self.partners, session, other, &mut self.members, line)?;
         Ok(asked_reply(linked))
     }
 
@@ -98,20 +99,48 @@ impl Roster {
     }
 }
 
-/// Tells the other of an ask by the player of this name, where fewer than 512 lines wait there.
-fn tell_asked(
-    alloc: Global,
+/// The one asks the other to be its partner, and the line of it waits for the other, where fewer than 512 do.
+fn ask_and_tell(
+    partners: &mut Partners,
+    from: u32,
+    to: u32,
     members: &mut Members,
-    other: u32,
-    name: Handle,
-    linked: bool,
-) -> Result<(), NoMemory>
-    ensures ok { OnOk result
-        (members.new ≡ broadcast (is_session other) (partner_words linked name) members.old) }
-    ensures err { OnErr result (members.new ≡ members.old) }
+    line: Line,
+) -> Result<bool, Fail>
+    ensures asked { Takes (asking partners.old from to) partners.old partners.new result }
+    ensures told { OnOk result (members.new ≡ broadcast (is_session to) line members.old) }
+    ensures untold { OnErr result (members.new ≡ members.old) }
 {
-    let line = partner_line(alloc, name, linked)?;
-    tell_session(members, other, line)
+    // The slice is what says that no two sessions are equal.
+    let _rows = members.as_slice();
+    let Some(place) = members.place(to) else {
+        return Ok(partners.ask(from, to)?);
+    };
+    Ok(ask_and_wait(partners, from, to, members.waiting_mut(place), line)?)
+}
+
+/// The one asks the other, and the line of it waits behind these. Where the ask isn't made, the line is taken back.
+fn ask_and_wait(
+    partners: &mut Partners,
+    from: u32,
+    to: u32,
+    waiting: &mut Inbox,
+    line: Line,
+) -> Result<bool, Fail>
+    ensures asked { Takes (asking partners.old from to) partners.old partners.new result }
+    ensures told { OnOk result (waiting.new ≡ with_one_more line waiting.old) }
+    ensures untold { OnErr result (waiting.new ≡ waiting.old) }
+{
+    let is_told = waiting.push(line)?;
+    match partners.ask(from, to) {
+        Ok(linked) => Ok(linked),
+        Err(fail) => {
+            if is_told {
+                waiting.take_back();
+            }
+            Err(fail)
+        }
+    }
 }
 
 /// What an ask is answered, where the two are partners from then on and where not.

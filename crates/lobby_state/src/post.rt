@@ -3,6 +3,7 @@ ghost use Rattle.std.specs.Prelude.{◌≡◌, ◌<◌, IfOk, OnErr, OnOk, lengt
 ghost use Rattle.fics_words.specs.Effect.{Takes};
 ghost use Rattle.lobby_state.specs.Broadcast.{broadcast};
 ghost use Rattle.lobby_state.specs.Post.{hears_seeks, post_effect, seek_words, seeking_effect};
+ghost use Rattle.seek_match.specs.Seeks.{next_number, posting};
 
 use crate::acts::LobbyReply;
 use crate::broadcast::broadcast;
@@ -14,7 +15,8 @@ use crate::terms::words_of_terms;
 use chess_model::{Terms, Variant};
 use collections::Predicate;
 use fics_words::{Fail, Handle, Line, Refusal};
-use memory::{Duplicate, NoMemory};
+use memory::NoMemory;
+use seek_match::SeekBook;
 use std::alloc::Global;
 
 /// A member of another session who wants to hear of seeks.
@@ -55,13 +57,35 @@ impl Roster {
         requires { length self.old.seeks < 65535 }
         ensures { Takes (seeking_effect self.old session name terms) self.old self.new result }
     {
-        // the seeks are made anew beside the old ones, so that want of memory for the lines changes nothing
-        let mut seeks = self.seeks.duplicate()?;
-        let number = seeks.post(session, terms)?;
-        tell_of_seek(self.alloc, &mut self.members, session, name, number, terms)?;
-        self.seeks = seeks;
+        let seeks = &mut self.seeks;
+        let number = post_and_tell(self.alloc, seeks, &mut self.members, session, name, terms)?;
         Ok(LobbyReply::Number(number))
     }
+}
+
+/// A seek of the session, which goes by that name, stands, and others are told. Where they can't be, it is taken back.
+fn post_and_tell(
+    alloc: Global,
+    seeks: &mut SeekBook,
+    members: &mut Members,
+    session: u32,
+    name: Handle,
+    terms: Terms,
+) -> Result<u16, Fail>
+    requires { length seeks.old < 65535 }
+    ensures posted { Takes (posting seeks.old session terms) seeks.old seeks.new result }
+    ensures told { OnOk result (members.new
+        ≡ broadcast (hears_seeks session) (seek_words name (next_number seeks.old) terms) members.old) }
+    ensures untold { OnErr result (members.new ≡ members.old) }
+{
+    // The seeks are what says that no two have one number.
+    let _seeks = seeks.rows();
+    let number = seeks.post(session, terms)?;
+    if let Err(NoMemory) = tell_of_seek(alloc, members, session, name, number, terms) {
+        seeks.take_back(number);
+        return Err(Fail::Memory);
+    }
+    Ok(number)
 }
 
 /// Tells of a seek by the session, which goes by that name, to the others who want to hear of seeks.

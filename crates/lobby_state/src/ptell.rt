@@ -1,6 +1,7 @@
 //! Ptell: a member says something to its partner.
 ghost use Rattle.std.specs.Prelude.{◌≡◌, ◌≤◌, Some, length};
 ghost use Rattle.fics_words.specs.Effect.{Takes};
+ghost use Rattle.fics_words.specs.Line.{most_text_bytes};
 ghost use Rattle.lobby_state.specs.Ptell.{is_partner_full, ptell_effect};
 
 use crate::acts::LobbyReply;
@@ -11,7 +12,7 @@ impl Roster {
     /// The member says the text to its partner. The causes of a refusal, in order: the session isn't a member; it has
     /// no partner; 512 lines wait for the partner.
     pub(crate) fn ptell(&mut self, session: u32, text: &Line) -> Result<LobbyReply, Fail>
-        requires { length text.now ≤ 800 }
+        requires { length text.now ≤ most_text_bytes }
         ensures { Takes (ptell_effect self.old session text.now) self.old self.new result }
     {
         let Some(caller) = self.member(session) else {

@@ -7,10 +7,7 @@ ghost use Rattle.lobby_state.specs.ShelfRoom.{desks_used, is_shelf_full, storing
 
 use crate::roster::Roster;
 use fics_words::{Fail, Refusal};
-use lobby_shelf::StoredGame;
-
-/// The most stored games and desks in use, together.
-const MOST_STORED: usize = 10_000;
+use lobby_shelf::{MOST_STORED, StoredGame};
 
 impl Roster {
     /// Whether stored games and desks in use are 10,000 together, so that one game more that starts couldn't be

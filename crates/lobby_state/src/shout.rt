@@ -1,6 +1,7 @@
 //! Shout: a member says something to all others who want to hear it.
 ghost use Rattle.std.specs.Prelude.{◌≤◌, length};
 ghost use Rattle.fics_words.specs.Effect.{Takes};
+ghost use Rattle.fics_words.specs.Line.{most_text_bytes};
 ghost use Rattle.lobby_state.specs.Shout.{hears_shouts, shout_effect};
 
 use crate::acts::LobbyReply;
@@ -24,7 +25,7 @@ impl Predicate<Member> for HearsShouts {
 impl Roster {
     /// The member says the text to all others who want to hear it. It is refused where the session isn't a member.
     pub(crate) fn shout(&mut self, session: u32, text: &Line) -> Result<LobbyReply, Fail>
-        requires { length text.now ≤ 800 }
+        requires { length text.now ≤ most_text_bytes }
         ensures { Takes (shout_effect self.old session text.now) self.old self.new result }
     {
         let Some(caller) = self.member(session) else {

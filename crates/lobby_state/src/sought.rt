@@ -2,6 +2,7 @@
 ghost use Rattle.std.specs.Prelude.{◌≡◌, ◌≤◌, ◌∷◌, ◌++◌, [], IfOk, OnOk, All, length};
 ghost use Rattle.fics_words.specs.Effect.{Takes};
 ghost use Rattle.fics_words.specs.Line.{IsPrintable};
+ghost use Rattle.fics_words.specs.Handle.{most_handle_letters};
 ghost use Rattle.lobby_state.specs.Lobby.{member_of};
 ghost use Rattle.lobby_state.specs.Sought.{name_in, sought_effect, sought_line, sought_lines, sought_words};
 
@@ -48,7 +49,7 @@ impl Roster {
     /// The letters of the session's handle; none where it isn't a member.
     pub(crate) fn letters_of(&self, session: u32) -> &[u8]
         ensures letters { result.now ≡ name_in (member_of self.now session) }
-        ensures short { length result.now ≤ 17 }
+        ensures short { length result.now ≤ most_handle_letters }
         ensures shows { All IsPrintable result.now }
     {
         match self.member(session) {

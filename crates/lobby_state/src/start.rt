@@ -2,6 +2,7 @@
 ghost use Rattle.std.specs.Prelude.{◌≡◌, filter, map, not};
 ghost use Rattle.fics_words.specs.Seats.{seat_list, seat_number};
 ghost use Rattle.lobby_state.specs.Desks.{IsDesk};
+ghost use Rattle.lobby_state.specs.Planned.{AreApart};
 ghost use Rattle.lobby_state.specs.Start.{in_seat, is_by_seated, is_settled, seated};
 
 use crate::challenges::Stays;
@@ -56,7 +57,8 @@ impl Roster {
     /// The game starts: the desk is in use, the players have their places, and their challenges go, but for a giver's
     /// with others, and their seeks and requests to resume. It takes no memory.
     pub(crate) fn start(&mut self, desk: u8, serial: u64, terms: Terms, seats: &Seats)
-        requires { IsDesk desk }
+        requires desk { IsDesk desk }
+        requires apart { AreApart seats.now }
         ensures { self.new ≡ seated self.old desk serial terms seats.now }
     {
         drop_challenges(&mut self.challenges, &self.members, seats);
@@ -76,16 +78,25 @@ impl Roster {
 
 /// The players have their places.
 fn sit_down(members: &mut Members, desk: u8, serial: u64, seats: &Seats)
-    requires { IsDesk desk }
+    requires desk { IsDesk desk }
+    requires apart { AreApart seats.now }
     ensures { members.new
         ≡ map (λ member. in_seat desk serial (seat_number member.session (seat_list seats.now)) member) members.old }
 {
+    // The slice is what says that no two sessions are equal.
+    let _rows = members.as_slice();
     let sit = Sit {
         desk,
         serial,
         seats: *seats,
     };
-    members.change_each(&sit);
+    members.change(seats.first.white.session, &sit);
+    members.change(seats.first.black.session, &sit);
+    let Some(second) = &seats.second else {
+        return;
+    };
+    members.change(second.white.session, &sit);
+    members.change(second.black.session, &sit);
 }
 
 /// The challenges of the players go, but for a giver's with others.

@@ -9,7 +9,6 @@ use crate::roster::Roster;
 use crate::terms::put_terms;
 use chess_model::Terms;
 use fics_words::{Fail, Handle, HandleKey, Lines, Refusal, write_number};
-use lobby_shelf::has_player;
 use memory::NoMemory;
 
 impl Roster {
@@ -41,11 +40,10 @@ impl Roster {
     {
         let mut lines = Lines::new(self.alloc);
         let mut text = Vec::new(self.alloc);
-        for row in self.shelf.games() {
-            if has_player(&row.game, key) {
-                write_stored(&mut text, row.number, &row.game.names, row.game.terms)?;
-                lines.push(text.as_slice())?;
-            }
+        let mut games = self.shelf.of_player(key);
+        while let Some(row) = games.next() {
+            write_stored(&mut text, row.number, &row.game.names, row.game.terms)?;
+            lines.push(text.as_slice())?;
         }
         Ok(lines)
     }

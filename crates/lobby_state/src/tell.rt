@@ -1,6 +1,7 @@
 //! Tell: a member says something to another.
 ghost use Rattle.std.specs.Prelude.{◌≤◌, length};
 ghost use Rattle.fics_words.specs.Effect.{Takes};
+ghost use Rattle.fics_words.specs.Line.{most_text_bytes};
 ghost use Rattle.lobby_state.specs.Tell.{tell_effect};
 
 use crate::acts::LobbyReply;
@@ -19,7 +20,7 @@ impl Roster {
         to: HandleKey,
         text: &Line,
     ) -> Result<LobbyReply, Fail>
-        requires { length text.now ≤ 800 }
+        requires { length text.now ≤ most_text_bytes }
         ensures { Takes (tell_effect self.old session to text.now) self.old self.new result }
     {
         let Some(caller) = self.member(session) else {

@@ -1,6 +1,7 @@
 //! TellChannel: a member says something to all others in a channel.
 ghost use Rattle.std.specs.Prelude.{◌≡◌, ◌≤◌, IfOk, length, ◌&&◌};
 ghost use Rattle.fics_words.specs.Effect.{Takes};
+ghost use Rattle.fics_words.specs.Line.{most_text_bytes};
 ghost use Rattle.lobby_state.specs.TellChannel.{channel_words, hears_channel, tell_channel_effect};
 
 use crate::acts::LobbyReply;
@@ -38,7 +39,7 @@ impl Roster {
         channel: u8,
         text: &Line,
     ) -> Result<LobbyReply, Fail>
-        requires { length text.now ≤ 800 }
+        requires { length text.now ≤ most_text_bytes }
         ensures { Takes (tell_channel_effect self.old session channel text.now) self.old self.new result }
     {
         let Some(caller) = self.member(session) else {

@@ -6,7 +6,7 @@ ghost use Rattle.lobby_state.specs.Who.{who_effect, who_lines};
 use crate::acts::LobbyReply;
 use crate::name_row::NameRow;
 use crate::roster::Roster;
-use fics_words::{Fail, Handle, Lines, Refusal};
+use fics_words::{Fail, Handle, Lines, MOST_HANDLE_LETTERS, Refusal};
 use memory::NoMemory;
 use std::alloc::Global;
 
@@ -30,15 +30,12 @@ impl Roster {
     }
 }
 
-/// The most letters of a handle.
-const MOST_LETTERS: usize = 17;
-
 /// The names as lines, whose room is taken once.
 fn lines_of(alloc: Global, names: &[NameRow]) -> Result<Lines, NoMemory>
     ensures { IfOk result (λ lines. lines ≡ map (λ row. row.name) names.now) }
 {
     let mut lines = Lines::new(alloc);
-    lines.reserve(names.len(), names.len().saturating_mul(MOST_LETTERS))?;
+    lines.reserve(names.len(), names.len().saturating_mul(MOST_HANDLE_LETTERS))?;
     for row in names {
         push_name(&mut lines, row.name)?;
     }

@@ -1,5 +1,5 @@
 -- Orders that are carried out one after another.
-use Rattle.std.proofs.Common.{◌≡◌, ℕ, Bool, true, false, cond, List, [], ◌∷◌, ◌++◌, Option, None, Some, refl, sym, ap, subst, ◌∙◌}
+use Rattle.std.proofs.Common.{◌≡◌, ℕ, true, cond, List, [], ◌∷◌, ◌++◌, Option, None, Some, refl, sym, ap, subst, ◌∙◌}
 use Rattle.std.specs.Prelude.{bytes_eq}
 use Rattle.std.specs.Ordering.{eq_by_cmp, is_eq}
 use Rattle.std.specs.declared.cmp.Ordering.{Ordering}
@@ -13,17 +13,17 @@ use Rattle.edge_traits.specs.Keeper.{HasPut, HasRemoved}
 use Rattle.edge_traits.specs.Pairs.{Records, keys_order}
 use Rattle.edge_traits.specs.declared.keeper.Kept.{Kept}
 use Rattle.edge_traits.specs.declared.keeper.Kept.TheVariants.{Done, Failed, Memory}
-use Rattle.lobby_shelf.specs.Wanted.{StoreMap as Records, table_with, with_order}
+use Rattle.lobby_shelf.specs.Wanted.{StoreMap, table_with, with_order}
 use Rattle.lobby_shelf.specs.declared.order.Order.{Order}
 use Rattle.lobby_store.specs.Carrying.{Carries, CarriesOne, held}
 
 -- orders one after another
-pub table_with-append : (table : Records) (first rest : List Order) → table_with table (first ++ rest) ≡ table_with (table_with table first) rest
+pub table_with-append : (table : StoreMap) (first rest : List Order) → table_with table (first ++ rest) ≡ table_with (table_with table first) rest
 table_with-append table [] rest = refl
 table_with-append table (order ∷ orders) rest = table_with-append (with_order table order) orders rest
 
 -- tables that hold the same under a key still do after the same orders
-pub same_table : (one other : Records) (orders : List Order) (key : List ℕ) → one key ≡ other key → table_with one orders key ≡ table_with other orders key
+pub same_table : (one other : StoreMap) (orders : List Order) (key : List ℕ) → one key ≡ other key → table_with one orders key ≡ table_with other orders key
 same_table one other [] key same = same
 same_table one other (order ∷ orders) key same =
     same_table (with_order one order) (with_order other order) orders key (ap (λ r. cond (bytes_eq order.key key) order.bytes r) same)
@@ -41,7 +41,7 @@ carries_then (Some old) None new first rest p q = absurd p
 carries_then (Some old) (Some mid) None first rest p q = absurd q
 carries_then (Some old) (Some mid) (Some new) first rest p q = λ key.
     q key ∙ same_table (held mid) (table_with (held old) first) rest key (p key)
-    ∙ ap (λ (t : Records). t key) (sym (table_with-append (held old) first rest))
+    ∙ ap (λ (t : StoreMap). t key) (sym (table_with-append (held old) first rest))
 
 -- the two tests of keys say the same
 is_tied : (o : Ordering) → is_eq o ≡ true → o ≡ Equal

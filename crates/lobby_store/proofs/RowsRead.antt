@@ -1,5 +1,5 @@
 -- A pair whose record is known is a row where its key is the record's own, and no other row.
-use Rattle.std.proofs.Common.{◌≡◌, ℕ, Bool, true, false, not, List, ap, subst}
+use Rattle.std.proofs.Common.{◌≡◌, ℕ, Bool, true, not, List, ap, subst}
 use Rattle.fics_words.specs.Handle.{key_of}
 use Rattle.fics_words.specs.declared.account.Account.{Account}
 use Rattle.game_records.specs.Keys.{account_key}

@@ -95,9 +95,6 @@ at (suc n) [] = 0
 at zero (x ∷ xs) = x
 at (suc n) (x ∷ xs) = at n xs
 
-key_at : (k m n : ℕ) → key_of (guest_of m) ≡ key_of (guest_of n) → at k (key_of (guest_of m)) ≡ at k (key_of (guest_of n))
-key_at k m n e = ap (at k) e
-
 -- two guests with one key are one
 guest_keys_differ : (m n : ℕ) → m < 456976 → n < 456976 → key_of (guest_of m) ≡ key_of (guest_of n) → m ≡ n
 unfolding at

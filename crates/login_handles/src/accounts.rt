@@ -4,7 +4,6 @@ ghost use Rattle.fics_words.specs.Handle.{key_of};
 
 use crate::check::Check;
 use fics_words::{Account, Digest, Fail, Handle, HandleKey, Refusal};
-use memory::{Duplicate, NoMemory};
 use std::alloc::Global;
 use std::marker::Model;
 use tables::{Keyed, Table};
@@ -105,13 +104,5 @@ impl Accounts {
         ensures accounts { AreAccounts self.now }
     {
         self.rows.as_slice()
-    }
-}
-
-impl Duplicate for Accounts {
-    fn duplicate(&self) -> Result<Accounts, NoMemory> {
-        Ok(Accounts {
-            rows: self.rows.duplicate()?,
-        })
     }
 }

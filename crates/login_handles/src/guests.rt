@@ -1,20 +1,30 @@
 //! The names of guests.
 
-ghost use Rattle.std.specs.Prelude.{◌≡◌, ◌+◌, ◌<◌, length};
+ghost use Rattle.std.specs.Prelude.{◌≡◌, ℕ, ◌+◌, ◌<◌, List, length};
 ghost use Rattle.login_handles.specs.Guests.{GuestsAreLeast, GuestsInOrder, IsLeastFree, guest_among, guest_of, is_taken};
 
 use fics_words::{Handle, HandleKey};
 
+/// Names that are in use, each found by its key.
+pub trait NamesInUse {
+    /// The keys of these names.
+    ghost keys: { Self → List (List ℕ) };
+
+    /// Whether one of the names has this key.
+    fn has(&self, key: HandleKey) -> bool
+        ensures { result ≡ is_taken (keys self.now) key };
+}
+
 /// The name of the guest that enters next: the least of the guest names, `GuestAAAA`, `GuestAAAB` and so on to
-/// `GuestZZZZ` in alphabetical order, that none of these keys takes.
-pub fn guest_name(taken: &[HandleKey]) -> Handle
-    requires { length taken.now < 456976 }
-    ensures least { IsLeastFree taken.now result }
-    ensures among { result ≡ guest_among taken.now }
+/// `GuestZZZZ` in alphabetical order, that isn't in use.
+pub fn guest_name<N: NamesInUse>(names: &N) -> Handle
+    requires { length (N.keys names.now) < 456976 }
+    ensures least { IsLeastFree (N.keys names.now) result }
+    ensures among { result ≡ guest_among (N.keys names.now) }
 {
     let mut number = 0;
     let mut name = numbered_guest(0);
-    while is_taken(taken, &name.key()) {
+    while names.has(name.key()) {
         number += 1;
         name = numbered_guest(number);
     }
@@ -22,6 +32,7 @@ pub fn guest_name(taken: &[HandleKey]) -> Handle
 }
 
 /// The names of guests stand in alphabetical order, and the one that enters next has the least that is free.
+#[tactic(auto, using(crate::proofs::GuestNames::guests_are_least))]
 pub fn guests_in_order()
     ensures order { GuestsInOrder }
     ensures least { GuestsAreLeast }
@@ -52,11 +63,4 @@ fn letter(number: u32) -> u8
     ensures { result ≡ 65 + number }
 {
     b'A' + number as u8
-}
-
-/// Whether the key is one of these.
-fn is_taken(taken: &[HandleKey], key: &HandleKey) -> bool
-    ensures { result ≡ is_taken taken.now key.now }
-{
-    taken.contains(key)
 }

@@ -12,5 +12,5 @@ mod passwords;
 
 pub use accounts::Accounts;
 pub use check::Check;
-pub use guests::guest_name;
+pub use guests::{NamesInUse, guest_name};
 pub use passwords::digest_of;

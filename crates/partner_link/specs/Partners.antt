@@ -72,15 +72,6 @@ asking lists from to = record {
   after = if has_asked lists.requests to from then linked lists from to else asked lists from to;
 }
 
--- what asking would leave, told by a call that changes nothing
-abbrev pub trying : PartnerLists → ℕ → ℕ → Effect PartnerLists PartnerLists
-trying lists from to = record {
-  causes = (asking lists from to).causes;
-  memory = true;
-  reply = (asking lists from to).after;
-  after = lists;
-}
-
 -- the player's link is gone
 abbrev pub parted : PartnerLists → ℕ → PartnerLists
 parted lists who = record lists { links = filter (λ link. not (is_of who link)) lists.links }

@@ -3,7 +3,6 @@ ghost use Rattle.std.specs.Prelude.{◌≡◌, Ok, not, ◌||◌};
 ghost use Rattle.partner_link.specs.Partners.{is_of, names, other_of};
 
 use collections::Predicate;
-use memory::{Duplicate, NoMemory};
 use tables::Keyed;
 
 /// A request that stands: which player has asked which to be its partner.
@@ -31,15 +30,6 @@ impl Keyed<PartnerRequest> for PartnerRequest {
     }
 }
 
-impl Duplicate for PartnerRequest {
-    /// Takes no memory.
-    fn duplicate(&self) -> Result<PartnerRequest, NoMemory>
-        ensures { result ≡ Ok self.now }
-    {
-        Ok(*self)
-    }
-}
-
 /// Two players who are partners: the one who asked first, and the one who asked back.
 #[derive(Clone, Copy)]
 pub struct PartnerLink {
@@ -64,15 +54,6 @@ impl PartnerLink {
         } else {
             self.first
         }
-    }
-}
-
-impl Duplicate for PartnerLink {
-    /// Takes no memory.
-    fn duplicate(&self) -> Result<PartnerLink, NoMemory>
-        ensures { result ≡ Ok self.now }
-    {
-        Ok(*self)
     }
 }
 

@@ -6,7 +6,6 @@ ghost use Rattle.partner_link.specs.Partners.{is_of, partner_of, stands};
 use crate::pairs::{LinkOfOthers, PartnerLink, PartnerRequest, RequestOfNeither, RequestOfOthers};
 use collections::{Listed, Predicate};
 use fics_words::{Fail, Refusal};
-use memory::{Duplicate, NoMemory};
 use std::alloc::Global;
 use std::marker::Model;
 use tables::Table;
@@ -35,7 +34,7 @@ impl Partners {
     ghost use Rattle.std.specs.Prelude.{◌≡◌, ok_or, OnErr, OnOk, []};
     ghost use Rattle.fics_words.specs.Effect.{Takes};
     ghost use Rattle.fics_words.specs.declared.refusal.Refusal.TheVariants.{NoPartner};
-    ghost use Rattle.partner_link.specs.Partners.{asking, has_asked, parted, partner_of, trying, without};
+    ghost use Rattle.partner_link.specs.Partners.{asking, has_asked, parted, partner_of, without};
 
     /// No requests and no links; takes no memory.
     pub fn new(alloc: Global) -> Partners
@@ -80,15 +79,6 @@ impl Partners {
         Ok(false)
     }
 
-    /// The requests and links as they would be after that ask, which changes nothing here. Refused as the ask is.
-    pub fn after_ask(&self, from: u32, to: u32) -> Result<Partners, Fail>
-        ensures { Takes (trying self.now from to) self.now self.now result }
-    {
-        let mut after = self.duplicate()?;
-        after.ask(from, to)?;
-        Ok(after)
-    }
-
     /// Whether the other has a request to this player standing, so that an ask links the two.
     pub fn has_asked(&self, other: u32, who: u32) -> bool
         ensures { result ≡ has_asked self.now.requests other who }
@@ -115,15 +105,6 @@ impl Partners {
     {
         keep_requests(&mut self.requests, &RequestOfOthers(who));
         keep_links(&mut self.links, &LinkOfOthers(who));
-    }
-}
-
-impl Duplicate for Partners {
-    fn duplicate(&self) -> Result<Partners, NoMemory> {
-        Ok(Partners {
-            requests: self.requests.duplicate()?,
-            links: self.links.duplicate()?,
-        })
     }
 }
 

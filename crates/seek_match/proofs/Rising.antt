@@ -1,10 +1,12 @@
 -- Rows of seeks whose numbers rise: some go, one comes, and which number is the first that is left out.
-use Rattle.std.proofs.Common.{◌≡◌, ℕ, zero, suc, ◌+◌, ◌<◌, ◌≤◌, Bool, true, false, cond, List, [], ◌∷◌, None, Some, length, refl, sym, ap, subst, ◌∙◌, arith}
+use Rattle.std.proofs.Common.{◌≡◌, ℕ, zero, suc, ◌+◌, ◌-◌, ◌<◌, ◌≤◌, Bool, true, false, not, cond, List, [], ◌∷◌, None, Some, length, refl, sym, ap, subst, ◌∙◌, arith}
 use Rattle.std.specs.Prelude.{◌==◌, ◌||◌}
 use Rattle.std.specs.List.{filter, find, insert}
-use Rattle.std.proofs.lemmas.Bool.{eqb-true, eqb-false, ne_eqb, or_from}
+use Rattle.std.proofs.lemmas.Bool.{eq-eqb, eqb-true, eqb-false, ne_eqb, or_from}
+use Rattle.std.proofs.lemmas.Option.{none-some}
+use Rattle.chess_model.specs.declared.variant.Terms.{Terms}
 use Rattle.seek_match.specs.declared.seek.Seek.{Seek}
-use Rattle.seek_match.specs.Seeks.{AreSeeks, IsLeastUnused, RiseAbove, first_gap, is_used, next_number}
+use Rattle.seek_match.specs.Seeks.{AreSeeks, IsLeastUnused, RiseAbove, first_gap, is_used, next_number, posting, without_number}
 use Rattle.collections.proofs.Numbers.{turned, past, not_same, not_same_above}
 
 rise_on : (low : ℕ) (seek : Seek) (seeks : List Seek) → low < seek.number → seek.number < 65536 → RiseAbove seek.number seeks → RiseAbove low (seek ∷ seeks)
@@ -144,3 +146,30 @@ not_found (seek ∷ seeks) n none =
 -- no seek has the next number, as a table asks it
 pub next_number-new : (seeks : List Seek) → AreSeeks seeks → find (λ seek. next_number seeks == seek.number) seeks ≡ None
 next_number-new seeks rise = not_found seeks (next_number seeks) (next_number-least seeks rise).unused
+
+-- where none passes, all are left
+all_stay : (p : Seek → Bool) (seeks : List Seek) → find p seeks ≡ None → filter (λ seek. not (p seek)) seeks ≡ seeks
+all_stay p [] none = refl
+all_stay p (seek ∷ seeks) none =
+    elim (p seek) as (λ t. cond t (Some seek) (find p seeks) ≡ None → cond (not t) (seek ∷ filter (λ seek. not (p seek)) seeks) (filter (λ seek. not (p seek)) seeks) ≡ seek ∷ seeks) [
+      | true ↦ λ h. absurd (none-some _ (sym h))
+      | false ↦ λ h. ap (λ l. seek ∷ l) (all_stay p seeks h)
+    ] none
+
+-- what comes in at a place and alone passes goes again without a trace
+left_out : (p : Seek → Bool) (seeks : List Seek) (k : ℕ) (new : Seek) → find p seeks ≡ None → p new ≡ true → filter (λ seek. not (p seek)) (insert seeks k new) ≡ seeks
+left_out p [] zero new none passes = ap (λ t. cond (not t) (new ∷ []) []) passes
+left_out p [] (suc k) new none passes = ap (λ t. cond (not t) (new ∷ []) []) passes
+left_out p (seek ∷ seeks) zero new none passes =
+    ap (λ t. cond (not t) (new ∷ filter (λ seek. not (p seek)) (seek ∷ seeks)) (filter (λ seek. not (p seek)) (seek ∷ seeks))) passes ∙ all_stay p (seek ∷ seeks) none
+left_out p (seek ∷ seeks) (suc k) new none passes =
+    elim (p seek) as (λ t. cond t (Some seek) (find p seeks) ≡ None → cond (not t) (seek ∷ filter (λ seek. not (p seek)) (insert seeks k new)) (filter (λ seek. not (p seek)) (insert seeks k new)) ≡ seek ∷ seeks) [
+      | true ↦ λ h. absurd (none-some _ (sym h))
+      | false ↦ λ h. ap (λ l. seek ∷ l) (left_out p seeks k new h passes)
+    ] none
+
+-- a new seek that is taken back
+pub taken_back : (seeks : List Seek) (by : ℕ) (terms : Terms) → AreSeeks seeks → without_number (next_number seeks) (posting seeks by terms).after ≡ seeks
+taken_back seeks by terms rise =
+    let number = next_number seeks in
+    left_out (λ seek. number == seek.number) seeks (number - 1) (record { number = number; by = by; terms = terms }) (next_number-new seeks rise) (eq-eqb number number refl)

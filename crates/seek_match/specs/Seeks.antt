@@ -51,6 +51,10 @@ is_by by (Some number) seek = (seek.by == by) && (seek.number == number)
 abbrev pub without_seeks_of : ℕ → List Seek → List Seek
 without_seeks_of who seeks = filter (λ seek. not (is_by who None seek)) seeks
 
+-- the seeks without the one of this number
+abbrev pub without_number : ℕ → List Seek → List Seek
+without_number number seeks = filter (λ seek. not (number == seek.number)) seeks
+
 -- the most seeks of a player
 abbrev pub most_seeks : ℕ
 most_seeks = 3

@@ -4,7 +4,6 @@ ghost use Rattle.seek_match.specs.Matches.{concerns, is_between, is_to};
 
 use chess_model::Terms;
 use collections::Predicate;
-use memory::{Duplicate, NoMemory};
 
 /// A game that a player offers to one other: by which session, to which, and on which terms.
 #[derive(Clone, Copy)]
@@ -23,15 +22,6 @@ impl Challenge {
             None => self.to == to,
             Some(from) => self.from == from && self.to == to,
         }
-    }
-}
-
-impl Duplicate for Challenge {
-    /// Takes no memory.
-    fn duplicate(&self) -> Result<Challenge, NoMemory>
-        ensures { result ≡ Ok self.now }
-    {
-        Ok(*self)
     }
 }
 

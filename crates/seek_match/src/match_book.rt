@@ -5,7 +5,7 @@ ghost use Rattle.seek_match.specs.Matches.{is_between};
 
 use crate::challenge::{ByPlayer, Challenge, NotBetween, ToPlayer, WithoutPlayer};
 use collections::{Predicate, Reserved, find};
-use memory::{Duplicate, NoMemory};
+use memory::NoMemory;
 use std::alloc::Global;
 use std::marker::Model;
 
@@ -102,14 +102,6 @@ impl MatchBook {
         ensures pairs { AreChallenges self.now }
     {
         self.rows.as_slice()
-    }
-}
-
-impl Duplicate for MatchBook {
-    fn duplicate(&self) -> Result<MatchBook, NoMemory> {
-        Ok(MatchBook {
-            rows: self.rows.duplicate()?,
-        })
     }
 }
 

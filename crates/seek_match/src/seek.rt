@@ -4,7 +4,6 @@ ghost use Rattle.seek_match.specs.Seeks.{is_by};
 
 use chess_model::Terms;
 use collections::Predicate;
-use memory::{Duplicate, NoMemory};
 use tables::Keyed;
 
 /// A game that a player offers to whoever takes it: under which number, by which session, and on which terms.
@@ -33,15 +32,6 @@ impl Keyed<u16> for Seek {
 
     fn key(&self) -> u16 {
         self.number
-    }
-}
-
-impl Duplicate for Seek {
-    /// Takes no memory.
-    fn duplicate(&self) -> Result<Seek, NoMemory>
-        ensures { result ≡ Ok self.now }
-    {
-        Ok(*self)
     }
 }
 

@@ -7,7 +7,6 @@ use crate::seek::{NotBy, Seek};
 use chess_model::Terms;
 use collections::Predicate;
 use fics_words::{Fail, Refusal};
-use memory::{Duplicate, NoMemory};
 use std::alloc::Global;
 use std::marker::Model;
 use tables::Table;
@@ -37,7 +36,7 @@ impl SeekBook {
     ghost use Rattle.std.specs.Prelude.{◌≡◌, ◌<◌, [], length};
     ghost use Rattle.std.specs.List.{filter};
     ghost use Rattle.fics_words.specs.Effect.{Takes, answer_of, state_of};
-    ghost use Rattle.seek_match.specs.Seeks.{AreSeeks, posting, removing, seek_of, without_seeks_of};
+    ghost use Rattle.seek_match.specs.Seeks.{AreSeeks, posting, removing, seek_of, without_number, without_seeks_of};
 
     /// No seeks; takes no memory.
     pub fn new(alloc: Global) -> SeekBook
@@ -61,6 +60,14 @@ impl SeekBook {
         self.rows
             .insert(number as usize - 1, Seek { number, by, terms })?;
         Ok(number)
+    }
+
+    /// Takes back the seek that was made last, under this number.
+    pub fn take_back(&mut self, number: u16)
+        ensures { self.new ≡ without_number number self.old }
+    {
+        self.rows.remove(number);
+        self.rows.shrink();
     }
 
     /// The seek of that number, if there is one.
@@ -107,14 +114,6 @@ impl SeekBook {
         ensures order { AreSeeks self.now }
     {
         self.rows.as_slice()
-    }
-}
-
-impl Duplicate for SeekBook {
-    fn duplicate(&self) -> Result<SeekBook, NoMemory> {
-        Ok(SeekBook {
-            rows: self.rows.duplicate()?,
-        })
     }
 }
 

@@ -8,7 +8,7 @@ use Rattle.std.proofs.lemmas.List.Folds.{fold-map}
 use Rattle.std.proofs.lemmas.List.Sums.{length-filter, count_by-le-length}
 use Rattle.fics_words.specs.Effect.{unless}
 use Rattle.fics_words.specs.declared.refusal.Refusal.TheVariants.{SimulFull}
-use Rattle.simul_control.specs.Desks.{IsDesk}
+use Rattle.fics_words.specs.Desks.{IsDesk}
 use Rattle.simul_control.specs.Places.{AreAtDesks, PlaceList, is_elsewhere, is_full, is_other, with_place}
 use Rattle.std.proofs.Math.ListN.{set}
 use Rattle.std.proofs.Math.Seq.{take-append_seam, set-append_seam, append_snoc}
@@ -17,7 +17,7 @@ use Rattle.simul_control.specs.declared.place.Place.{Place}
 use Rattle.simul_control.specs.declared.places.Places.TheInside.{Inside}
 
 -- what the places have stands at the front of their column
-take-column : (told : Place → ℕ) (rows : List Place) → take (length rows) (column_of told rows) ≡ map told rows
+pub take-column : (told : Place → ℕ) (rows : List Place) → take (length rows) (column_of told rows) ≡ map told rows
 take-column told rows =
     ap (λ n. take n (column_of told rows)) (sym (length-map rows told))
     ∙ take-append_seam (map told rows) (replicate (32 - length rows) 0)

@@ -1,3 +1,4 @@
 -- Lemmas of this crate.
 pub mod Field
+pub mod Leaving
 pub mod Circle

@@ -1,4 +1,3 @@
-pub mod Desks
 pub mod Places
 pub mod PlaceFields
 pub mod Laws

@@ -8,7 +8,7 @@ use Rattle.fics_words.specs.declared.refusal.Refusal.TheVariants.{NotGiving, Pla
 use Rattle.simul_control.specs.declared.place.Place.{Place}
 use Rattle.simul_control.specs.declared.direction.Direction.{Direction}
 use Rattle.simul_control.specs.declared.direction.Direction.TheVariants.{Next, Previous}
-use Rattle.simul_control.specs.Desks.{IsDesk}
+use Rattle.fics_words.specs.Desks.{IsDesk}
 
 -- whether the player gives a simul; and its places in the order in which they came, of which `at` counts the present
 -- one from 0, and is 0 where there is none
@@ -55,6 +55,10 @@ with_place place places = state_of places (adding place places)
 -- another desk than this one
 abbrev pub is_other : ℕ → ℕ → Bool
 is_other desk other = not (other == desk)
+
+-- the place is at this desk
+abbrev pub is_at : ℕ → Place → Bool
+is_at desk place = place.desk == desk
 
 -- the place isn't at this desk
 abbrev pub is_elsewhere : ℕ → Place → Bool

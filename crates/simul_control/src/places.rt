@@ -1,7 +1,8 @@
 //! The places of a player, in columns of fixed room.
-ghost use Rattle.std.specs.Prelude.{◌≡◌, ◌-◌, ◌<◌, ◌≤◌, IfSome, count_by, filter, get_or, length, slice_get, take};
-ghost use Rattle.simul_control.specs.Desks.{IsDesk};
-ghost use Rattle.simul_control.specs.Places.{AreAtDesks, is_elsewhere, is_other, most_at_switch, turned_from};
+ghost use Rattle.std.specs.Prelude.{◌≡◌, ◌-◌, ◌<◌, ◌≤◌, ◌==◌, IfSome, count_by, filter, get_or, length, slice_get, take};
+ghost use Rattle.std.specs.List.{list_any};
+ghost use Rattle.fics_words.specs.Desks.{IsDesk};
+ghost use Rattle.simul_control.specs.Places.{AreAtDesks, is_at, is_elsewhere, is_other, most_at_switch, turned_from};
 
 use crate::direction::Direction;
 use crate::place::Place;
@@ -45,7 +46,8 @@ impl Model for Places {
 }
 
 impl Places {
-    ghost use Rattle.simul_control.specs.Places.{Makes, adding, gives_nowhere, is_full, no_places, present_at};
+    ghost use Rattle.std.specs.List.{list_any};
+    ghost use Rattle.simul_control.specs.Places.{Makes, adding, gives_nowhere, is_at, is_full, no_places, present_at};
     ghost use Rattle.simul_control.specs.Places.{switching, turning, with_place, without_desk};
 
     /// No places, of a player that gives no simul.
@@ -148,9 +150,27 @@ impl Places {
         Ok(())
     }
 
-    /// The places without those at this desk. The present one stays, or becomes the first where it would be behind the
-    /// last.
-    pub fn without(&self, desk: u8) -> Places
+    /// Leaves the places at this desk. The present one stays, or becomes the first where it would be behind the last.
+    pub fn leave(&mut self, desk: u8)
+        ensures { self.new ≡ without_desk desk self.old }
+    {
+        // The count is what says that the present place is one of these.
+        let _count = self.len();
+        if !self.is_at(desk) {
+            return;
+        }
+        *self = self.without(desk);
+    }
+
+    /// Whether one of the places is at this desk.
+    fn is_at(&self, desk: u8) -> bool
+        ensures { result ≡ list_any (is_at desk) self.now.rows }
+    {
+        has_desk(&self.desks[..self.count], desk)
+    }
+
+    /// The places without those at this desk.
+    fn without(&self, desk: u8) -> Places
         ensures { result ≡ without_desk desk self.now }
     {
         let mut kept = elsewhere(self, desk);
@@ -217,6 +237,13 @@ fn count_elsewhere(places: &Places, first: usize, desk: u8) -> usize
     ensures { result ≡ count_by (is_elsewhere desk) (take first places.now.rows) }
 {
     count_others(&places.desks[..first], desk)
+}
+
+/// Whether the desk is one of these.
+fn has_desk(desks: &[u8], desk: u8) -> bool
+    ensures { result ≡ list_any (λ other. other == desk) desks.now }
+{
+    desks.iter().any(|other| *other == desk)
 }
 
 /// How many of these desks are other ones.

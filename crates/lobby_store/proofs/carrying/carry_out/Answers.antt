@@ -1,4 +1,4 @@
-use Rattle.std.proofs.Common.{List, take, sym, subst, ◌+◌, ◌++◌, ◌∙◌, ◌∷◌, [], ap, arith}
+use Rattle.std.proofs.Common.{take, sym, subst, ◌+◌, ◌++◌, ◌∙◌, ◌∷◌, [], ap, arith}
 use Rattle.std.proofs.lemmas.List.{take_more}
 use Rattle.lobby_shelf.specs.declared.order.Order.{Order}
 use Rattle.edge_traits.specs.declared.keeper.Kept.{Kept}

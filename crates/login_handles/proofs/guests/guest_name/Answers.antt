@@ -15,34 +15,34 @@ next_fits : (taken : List (List ℕ)) (n : ℕ) → AllTaken taken (n + 1) → n
 next_fits taken n all h few = let bound = AllTaken-length (n + 1) taken (omega arith) all in omega (arith, bound)
 
 pub loop-name-init : goal.loop-name-init
-loop-name-init c = (c.numbered_guest-name.ensures, AllTaken-none c.args.taken.now, omega arith)
+loop-name-init g c = (c.numbered_guest-name.ensures, AllTaken-none (g.N.NamesInUse.keys c.args.names.now), omega arith)
 
 pub numbered_guest-name-requires-in-loop-name : goal.numbered_guest-name-requires-in-loop-name
-numbered_guest-name-requires-in-loop-name c =
-    next_fits c.args.taken.now c.loop-name.number
-    (AllTaken-more c.args.taken.now c.loop-name.number c.loop-name.invariant.1
-    (of_guest c.args.taken.now _ _ c.loop-name.number true _ c.is_taken.ensures c.loop-name-test.true c.key.ensures c.loop-name.invariant.0))
+numbered_guest-name-requires-in-loop-name g c =
+    next_fits (g.N.NamesInUse.keys c.args.names.now) c.loop-name.number
+    (AllTaken-more (g.N.NamesInUse.keys c.args.names.now) c.loop-name.number c.loop-name.invariant.1
+    (of_guest (g.N.NamesInUse.keys c.args.names.now) _ _ c.loop-name.number true _ c.has.ensures c.loop-name-test.true c.key.ensures c.loop-name.invariant.0))
     c.loop-name.invariant.2 c.requires
 
 pub loop-name-smaller : goal.loop-name-smaller
-loop-name-smaller c = omega (arith, c.loop-name.invariant.2)
+loop-name-smaller g c = omega (arith, c.loop-name.invariant.2)
 
 pub loop-name-preserved : goal.loop-name-preserved
-loop-name-preserved c =
-    let all = AllTaken-more c.args.taken.now c.loop-name.number c.loop-name.invariant.1
-    (of_guest c.args.taken.now _ _ c.loop-name.number true _ c.is_taken.ensures c.loop-name-test.true c.key.ensures c.loop-name.invariant.0) in
-    (c.numbered_guest-name-in-loop-name.ensures, all, next_fits c.args.taken.now c.loop-name.number all c.loop-name.invariant.2 c.requires)
+loop-name-preserved g c =
+    let all = AllTaken-more (g.N.NamesInUse.keys c.args.names.now) c.loop-name.number c.loop-name.invariant.1
+    (of_guest (g.N.NamesInUse.keys c.args.names.now) _ _ c.loop-name.number true _ c.has.ensures c.loop-name-test.true c.key.ensures c.loop-name.invariant.0) in
+    (c.numbered_guest-name-in-loop-name.ensures, all, next_fits (g.N.NamesInUse.keys c.args.names.now) c.loop-name.number all c.loop-name.invariant.2 c.requires)
 
 pub returns-clause-least : goal.returns-clause-least
-returns-clause-least c = record {
+returns-clause-least g c = record {
   number = c.loop-name.number;
   within = c.loop-name.invariant.2;
   name_is = c.loop-name.invariant.0;
-  free = ap (is_taken c.args.taken.now) (sym c.key.ensures) ∙ sym c.is_taken.ensures ∙ c.loop-name-test.false;
+  free = ap (is_taken (g.N.NamesInUse.keys c.args.names.now)) (sym c.key.ensures) ∙ sym c.has.ensures ∙ c.loop-name-test.false;
   least = c.loop-name.invariant.1;
 }
 
 pub returns-clause-among : goal.returns-clause-among
-returns-clause-among c =
-    IsLeastFree-one c.args.taken.now c.loop-name.name (guest_among c.args.taken.now) (returns-clause-least c)
-    (guests_are_least c.args.taken.now c.requires)
+returns-clause-among g c =
+    IsLeastFree-one (g.N.NamesInUse.keys c.args.names.now) c.loop-name.name (guest_among (g.N.NamesInUse.keys c.args.names.now)) (returns-clause-least g c)
+    (guests_are_least (g.N.NamesInUse.keys c.args.names.now) c.requires)

@@ -1,5 +1,5 @@
 use Rattle.std.proofs.Common.{sym, ◌∙◌}
-use Rattle.lobby_state.proofs.KeepsPtell.{confides}
+use Rattle.lobby_state.proofs.Sayings.{confides}
 use Rattle.lobby_state.proofs.Words.{IsWording-confides}
 use Rattle.lobby_state.proofs.roster.Roster.ptell.Goals as goal
 

@@ -1,5 +1,5 @@
 use Rattle.std.proofs.Common.{sym}
-use Rattle.lobby_state.proofs.KeepsShout.{shouts}
+use Rattle.lobby_state.proofs.Sayings.{shouts}
 use Rattle.lobby_state.proofs.Words.{IsWording-shouts}
 use Rattle.lobby_state.proofs.roster.Roster.shout.Goals as goal
 
