@@ -11,9 +11,11 @@
 mod charges;
 mod laws;
 mod ledger;
+mod moment;
 mod stamps;
 
 pub use charges::{Charge, LAST_MOMENT};
 pub use laws::a_charge_moves_the_clock;
 pub use ledger::{ClockLedger, MAX_CHARGES};
+pub use moment::Moment;
 pub use stamps::{STAMP_CYCLE, span};

@@ -60,10 +60,6 @@ played_before t n halves played = record {
 
 -- ---- what a board and the board with half-moves taken back have alike
 
-alike : {X : Type 0} (of : Board → X) (few : Bool) (b new : Board) → of new ≡ of b → of (if few then b else new) ≡ of b
-alike of true b new e = refl
-alike of false b new e = e
-
 back_single : (v : Variant) (b : Board) (n moment : ℕ) → v ≢ Bughouse → back_by v b n moment ≡ take_back_after b n moment
 back_single Chess b n moment single = refl
 back_single Crazyhouse b n moment single = refl

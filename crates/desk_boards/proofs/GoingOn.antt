@@ -1,5 +1,5 @@
 -- A board ends only by a half-move of its own: what comes into a hand ends nothing in bughouse.
-use Rattle.std.proofs.Common.{◌≡◌, ℕ, zero, suc, inl, inr, false, List, [], ◌∷◌, ◌++◌, Option, Some, None, Result, Ok, Err, IfSome, refl, sym, ap, subst, ◌∙◌}
+use Rattle.std.proofs.Common.{◌≡◌, ℕ, inl, inr, false, List, [], ◌∷◌, ◌++◌, Option, Some, None, Result, Ok, Err, IfSome, refl, sym, ap, subst, ◌∙◌}
 use Rattle.std.specs.Prelude.{slice_get}
 use Rattle.std.proofs.lemmas.List.Elements.{All-nil, All-cons}
 use Rattle.chess_model.specs.declared.hand.Hand.{Hand}
@@ -26,7 +26,9 @@ use Rattle.game_board.specs.Learn.{learnt}
 use Rattle.game_board.specs.Acked.{acknowledged}
 use Rattle.game_board.specs.Play.{with_half_move}
 use Rattle.game_records.specs.Replays.{GoesOn}
-use Rattle.desk_boards.specs.Boards.{board_numbers, boards_acked, boards_after, changed_at, new_boards, other_place, word_at}
+use Rattle.desk_boards.specs.Boards.{board_numbers, boards_acked, boards_after, changed_at, new_boards, word_at, other_number, place}
+use Rattle.desk_boards.specs.declared.board_number.BoardNumber.{BoardNumber}
+use Rattle.desk_boards.specs.declared.board_number.BoardNumber.TheVariants.{First, Second}
 use Rattle.desk_boards.specs.Sound.{AreSoundBoards, GoOn}
 use Rattle.desk_boards.proofs.BoardLists.{All-at, All-changed_at, nothing-changed_at}
 use Rattle.desk_boards.proofs.Pairs.{never_three, numbers_of_two}
@@ -111,9 +113,9 @@ acked_position : (b : Board) (c : Colour) (stamp : ℕ) → position_of (acknowl
 unfolding position_of
 acked_position b c stamp = same_acknowledged (λ (x : Board). position_of x) b c stamp refl
 
-pub go_acked : (boards : List Board) (place : ℕ) (c : Colour) (stamp : ℕ) → GoOn boards → GoOn (boards_acked boards place c stamp)
-go_acked boards place c stamp goes =
-    All-changed_at (λ (b : Board). GoesOn (position_of b)) boards place (λ b. acknowledged b c stamp)
+pub go_acked : (boards : List Board) (board : BoardNumber) (c : Colour) (stamp : ℕ) → GoOn boards → GoOn (boards_acked boards board c stamp)
+go_acked boards board c stamp goes =
+    All-changed_at (λ (b : Board). GoesOn (position_of b)) boards (place board) (λ b. acknowledged b c stamp)
     (λ b there h. subst GoesOn (sym (acked_position b c stamp)) h) goes
 
 -- a pair is played by the terms of bughouse
@@ -128,31 +130,32 @@ pair_terms t b c s =
 abbrev Goes : Board → Type 0
 Goes b = GoesOn (position_of b)
 
-go_made : (t : Terms) (boards : List Board) (place : ℕ) (own : Board) (change : Board → Board) (m : Move) → AreSoundBoards t boards → GoOn boards → slice_get boards place ≡ Some own →
-    IfSome (slice_get (stepped boards place change m) place) (λ b. GoesOn (position_of b)) → GoOn (stepped boards place change m)
-go_made t [] place own change m s goes here there = absurd cc
-go_made t (b ∷ []) zero own change m s goes here there = All-cons Goes (change b) [] there (All-nil Goes)
-go_made t (b ∷ []) (suc k) own change m s goes here there = absurd cc
-go_made t (b ∷ c ∷ []) zero own change m s goes here there =
+go_made : (t : Terms) (boards : List Board) (board : BoardNumber) (own : Board) (change : Board → Board) (m : Move) → AreSoundBoards t boards → GoOn boards →
+    slice_get boards (place board) ≡ Some own → IfSome (slice_get (stepped boards board change m) (place board)) (λ b. GoesOn (position_of b)) →
+    GoOn (stepped boards board change m)
+go_made t [] First own change m s goes here there = absurd cc
+go_made t [] Second own change m s goes here there = absurd cc
+go_made t (b ∷ []) First own change m s goes here there = All-cons Goes (change b) [] there (All-nil Goes)
+go_made t (b ∷ []) Second own change m s goes here there = absurd cc
+go_made t (b ∷ c ∷ []) First own change m s goes here there =
     All-cons Goes (change b) (learnt c m ∷ []) there
     (All-cons Goes (learnt c m) [] (learnt_goes c m (pair_terms t b c s).1 (All-at Goes (b ∷ c ∷ []) 1 c goes refl)) (All-nil Goes))
-go_made t (b ∷ c ∷ []) (suc zero) own change m s goes here there =
+go_made t (b ∷ c ∷ []) Second own change m s goes here there =
     All-cons Goes (learnt b m) (change c ∷ []) (learnt_goes b m (pair_terms t b c s).0 (All-at Goes (b ∷ c ∷ []) 0 b goes refl))
     (All-cons Goes (change c) [] there (All-nil Goes))
-go_made t (b ∷ c ∷ []) (suc (suc k)) own change m s goes here there = absurd cc
-go_made t (b ∷ c ∷ d ∷ more) place own change m s goes here there = absurd (never_three t.variant b c d more s.numbers)
+go_made t (b ∷ c ∷ d ∷ more) board own change m s goes here there = absurd (never_three t.variant b c d more s.numbers)
 
-go_answered : (t : Terms) (boards : List Board) (place moment : ℕ) (c : Colour) (word : MoveWord) (stamp : Option ℕ) → AreSoundBoards t boards → GoOn boards →
-    (answer : Result Move Refusal) → word_at (slice_get boards place) c word ≡ answer →
-    IfSome (slice_get (boards_after boards place moment stamp answer) place) (λ b. GoesOn (position_of b)) → GoOn (boards_after boards place moment stamp answer)
-go_answered t boards place moment c word stamp s goes (Err cause) e there =
-    subst GoOn (sym (nothing-changed_at (changed_at boards place (λ b. b)) (other_place place) ∙ nothing-changed_at boards place)) goes
-go_answered t boards place moment c word stamp s goes (Ok m) e there =
-    let found = played_there (slice_get boards place) c word m e in
-    go_made t boards place found.0 (λ b. with_half_move b m moment stamp) m s goes found.1 there
+go_answered : (t : Terms) (boards : List Board) (board : BoardNumber) (moment : ℕ) (c : Colour) (word : MoveWord) (stamp : Option ℕ) → AreSoundBoards t boards → GoOn boards →
+    (answer : Result Move Refusal) → word_at (slice_get boards (place board)) c word ≡ answer →
+    IfSome (slice_get (boards_after boards board moment stamp answer) (place board)) (λ b. GoesOn (position_of b)) → GoOn (boards_after boards board moment stamp answer)
+go_answered t boards board moment c word stamp s goes (Err cause) e there =
+    subst GoOn (sym (nothing-changed_at (changed_at boards (place board) (λ b. b)) (place (other_number board)) ∙ nothing-changed_at boards (place board))) goes
+go_answered t boards board moment c word stamp s goes (Ok m) e there =
+    let found = played_there (slice_get boards (place board)) c word m e in
+    go_made t boards board found.0 (λ b. with_half_move b m moment stamp) m s goes found.1 there
 
-pub go_played : (t : Terms) (boards : List Board) (place moment : ℕ) (c : Colour) (word : MoveWord) (stamp : Option ℕ) → AreSoundBoards t boards → GoOn boards →
-    IfSome (slice_get (boards_after boards place moment stamp (word_at (slice_get boards place) c word)) place) (λ b. GoesOn (position_of b)) →
-    GoOn (boards_after boards place moment stamp (word_at (slice_get boards place) c word))
-go_played t boards place moment c word stamp s goes there =
-    go_answered t boards place moment c word stamp s goes (word_at (slice_get boards place) c word) refl there
+pub go_played : (t : Terms) (boards : List Board) (board : BoardNumber) (moment : ℕ) (c : Colour) (word : MoveWord) (stamp : Option ℕ) → AreSoundBoards t boards → GoOn boards →
+    IfSome (slice_get (boards_after boards board moment stamp (word_at (slice_get boards (place board)) c word)) (place board)) (λ b. GoesOn (position_of b)) →
+    GoOn (boards_after boards board moment stamp (word_at (slice_get boards (place board)) c word))
+go_played t boards board moment c word stamp s goes there =
+    go_answered t boards board moment c word stamp s goes (word_at (slice_get boards (place board)) c word) refl there

@@ -3,7 +3,7 @@ use Rattle.std.proofs.Common.{◌≡◌, ℕ, ◌≤◌, zero, suc, Bool, true, 
 use Rattle.std.specs.List.{AllByRecursion}
 use Rattle.std.proofs.lemmas.Bool.Decides.{nat_tests}
 use Rattle.chess_model.specs.declared.moves.Move.{Move}
-use Rattle.chess_model.specs.MoveList.{HalfMove, moves_of}
+use Rattle.chess_model.specs.MoveList.{HalfMove, moves_of, on}
 use Rattle.game_board.specs.declared.played.Played.{Played}
 use Rattle.game_records.specs.declared.stored_game.Half.{Half}
 use Rattle.game_records.specs.Replays.{half_moves}
@@ -102,10 +102,7 @@ list_on-two one two (h ∷ T) on_two same =
     ∙ ap (λ (l : List Played). played_of (half_of h two) ∷ l) (list_on-two one (drop 1 two) T on_two.1 (rest_of two h.what (moves_of 2 T) begins))
     ∙ sym (begins_with two h.what (moves_of 2 T) begins))
 
--- a half-move on a board, and one of a record
-abbrev pub on : ℕ → Move → HalfMove
-on number m = record { board = number; what = m }
-
+-- a half-move of a record on a board
 abbrev pub half_on : ℕ → Played → Half
 half_on number p = record { board = number; what = p.what; charge = p.charge }
 

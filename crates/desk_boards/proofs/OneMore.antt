@@ -14,7 +14,7 @@ use Rattle.chess_model.specs.declared.variant.Terms.{Terms}
 use Rattle.chess_model.specs.declared.variant.Variant.{Variant}
 use Rattle.chess_model.specs.declared.variant.Variant.TheVariants.{Chess, Crazyhouse, Bughouse, Fischer}
 use Rattle.chess_model.specs.Allowed.{Allowed, GoesAs, HasPromotion, IsPromotion}
-use Rattle.chess_model.specs.MoveList.{HalfMove, moves_of}
+use Rattle.chess_model.specs.MoveList.{HalfMove, moves_of, on}
 use Rattle.chess_model.specs.Placement.{man_at}
 use Rattle.chess_model.specs.Position.{Position, position_after}
 use Rattle.game_board.specs.declared.played.Played.{Played}
@@ -27,11 +27,13 @@ use Rattle.game_records.specs.Bounds.{IsCharge, IsHalf}
 use Rattle.game_records.specs.Codes.{HasCode, MayBecome}
 use Rattle.game_records.specs.Replays.{AreTimed, CanBePlayed, GoesOn, MayCome, MayFollow, OtherGoesOn, half_moves, made_on, position_on}
 use Rattle.game_records.proofs.Played.{by_steps}
-use Rattle.desk_boards.specs.Boards.{board_numbers, other_place}
+use Rattle.desk_boards.specs.Boards.{board_numbers, other_number, place}
+use Rattle.desk_boards.specs.declared.board_number.BoardNumber.{BoardNumber}
+use Rattle.desk_boards.specs.declared.board_number.BoardNumber.TheVariants.{First, Second}
 use Rattle.desk_boards.specs.Halves.{halves_of}
 use Rattle.desk_boards.specs.Sound.{AreSoundBoards}
 use Rattle.desk_boards.proofs.BoardLists.{All-at}
-use Rattle.desk_boards.proofs.Halved.{half_on, on}
+use Rattle.desk_boards.proofs.Halved.{half_on}
 use Rattle.desk_boards.proofs.Pairs.{never_three, number_at, numbers_of_two}
 use Rattle.desk_boards.proofs.SoundHalves.{all_of, never_none, number_of_one}
 use Rattle.fics_words.proofs.Each.{each-push}
@@ -141,24 +143,23 @@ other_of_two t halves n c pair number terms all goes =
     let here : GoesOn (position_on t.variant halves (3 - n)) = subst (λ (k : ℕ). GoesOn (position_on t.variant halves k)) (sym number) (subst GoesOn (sym there) goes) in
     subst (λ (v : Variant). OtherGoesOn v halves n) (sym pair) (subst (λ (v : Variant). GoesOn (position_on v halves (3 - n))) pair here)
 
-pub other_goes : (t : Terms) (boards : List Board) (k : ℕ) (own : Board) → AreSoundBoards t boards → slice_get boards k ≡ Some own →
-    ((other : Board) → slice_get boards (other_place k) ≡ Some other → GoesOn (position_of other)) → OtherGoesOn t.variant (halves_of boards) own.number
-other_goes t [] k own s there goes = absurd (never_none t.variant s.numbers)
-other_goes t (b ∷ []) k own s there goes = other_none t.variant (halves_of (b ∷ [])) own.number (number_of_one t.variant b s.numbers).0
-other_goes t (b ∷ c ∷ []) zero own s there goes =
+pub other_goes : (t : Terms) (boards : List Board) (board : BoardNumber) (own : Board) → AreSoundBoards t boards → slice_get boards (place board) ≡ Some own →
+    ((other : Board) → slice_get boards (place (other_number board)) ≡ Some other → GoesOn (position_of other)) → OtherGoesOn t.variant (halves_of boards) own.number
+other_goes t [] board own s there goes = absurd (never_none t.variant s.numbers)
+other_goes t (b ∷ []) board own s there goes = other_none t.variant (halves_of (b ∷ [])) own.number (number_of_one t.variant b s.numbers).0
+other_goes t (b ∷ c ∷ []) First own s there goes =
     let two = numbers_of_two t.variant b c s.numbers in
     let same : b.number ≡ own.number = ap (λ (x : Board). x.number) (same_Some b own there) in
     other_of_two t (halves_of (b ∷ c ∷ [])) own.number c two.0 (omega (arith, two.1, two.2, same))
     (All-head (λ (x : Board). x.terms ≡ t) c [] (All-tail (λ (x : Board). x.terms ≡ t) b (c ∷ []) s.terms))
     (All-at (λ (x : Board). half_moves (halves_of (b ∷ c ∷ [])) ≡ x.all) (b ∷ c ∷ []) 1 c (all_of t (b ∷ c ∷ []) s) refl) (goes c refl)
-other_goes t (b ∷ c ∷ []) (suc zero) own s there goes =
+other_goes t (b ∷ c ∷ []) Second own s there goes =
     let two = numbers_of_two t.variant b c s.numbers in
     let same : c.number ≡ own.number = ap (λ (x : Board). x.number) (same_Some c own there) in
     other_of_two t (halves_of (b ∷ c ∷ [])) own.number b two.0 (omega (arith, two.1, two.2, same))
     (All-head (λ (x : Board). x.terms ≡ t) b (c ∷ []) s.terms)
     (All-at (λ (x : Board). half_moves (halves_of (b ∷ c ∷ [])) ≡ x.all) (b ∷ c ∷ []) 0 b (all_of t (b ∷ c ∷ []) s) refl) (goes b refl)
-other_goes t (b ∷ c ∷ []) (suc (suc k)) own s there goes = absurd cc
-other_goes t (b ∷ c ∷ d ∷ more) k own s there goes = absurd (never_three t.variant b c d more s.numbers)
+other_goes t (b ∷ c ∷ d ∷ more) board own s there goes = absurd (never_three t.variant b c d more s.numbers)
 
 -- the number of a board is one of its variant's
 number_in : (v : Variant) (k n : ℕ) → slice_get (board_numbers v) k ≡ Some n → (1 ≤ n) × (n ≤ bounds.boards v)
@@ -177,9 +178,10 @@ pub record MayGrow (t : Terms) (halves : List Half) (h : Half) : Type 0 where
   pub each : AllByRecursion (IsHalf t.variant) (halves ++ h ∷ [])
   pub played : CanBePlayed t (halves ++ h ∷ [])
 
-pub may_grow : (t : Terms) (boards : List Board) (k : ℕ) (own new : Board) (p : Played) → AreSoundBoards t boards → slice_get boards k ≡ Some own → IsOneMore own p new →
-    ((other : Board) → slice_get boards (other_place k) ≡ Some other → GoesOn (position_of other)) → MayGrow t (halves_of boards) (half_on own.number p)
-may_grow t boards k own new p s there more goes =
+pub may_grow : (t : Terms) (boards : List Board) (board : BoardNumber) (own new : Board) (p : Played) → AreSoundBoards t boards → slice_get boards (place board) ≡ Some own → IsOneMore own p new →
+    ((other : Board) → slice_get boards (place (other_number board)) ≡ Some other → GoesOn (position_of other)) → MayGrow t (halves_of boards) (half_on own.number p)
+may_grow t boards board own new p s there more goes =
+    let k : ℕ = place board in
     let halves : List Half = halves_of boards in
     let terms : own.terms ≡ t = All-at (λ (x : Board). x.terms ≡ t) boards k own s.terms there in
     let all : half_moves halves ≡ own.all = All-at (λ (x : Board). half_moves halves ≡ x.all) boards k own (all_of t boards s) there in
@@ -188,7 +190,7 @@ may_grow t boards k own new p s there more goes =
     let comes : MayCome t halves (half_on own.number p) = record {
       follows = may_follow t own new p (position_on t.variant halves own.number) (made_on halves own.number) own.number terms
           (position_is t halves own terms all) (made_is halves own score all) more;
-      other = other_goes t boards k own s there goes;
+      other = other_goes t boards board own s there goes;
     } in
     let half : IsHalf t.variant (half_on own.number p) = record {
       first = range.0;

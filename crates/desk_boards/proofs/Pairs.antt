@@ -1,24 +1,23 @@
 -- The boards of a game after a word at one of them: what the other one learns of it was allowed, and they have one list.
-use Rattle.std.proofs.Common.{◌≡◌, ℕ, List, [], ◌∷◌, ◌++◌, map, Option, Some, None, Result, Ok, Err, refl, sym, ap, subst, ◌∙◌}
+use Rattle.std.proofs.Common.{◌≡◌, ℕ, ◌≤◌, zero, suc, arith, List, [], ◌∷◌, ◌++◌, map, Some, Result, Ok, Err, refl, sym, ap, subst, ◌∙◌}
 use Rattle.std.specs.Prelude.{slice_get}
 use Rattle.std.specs.Option.{option_map}
 use Rattle.std.proofs.lemmas.List.Elements.{All-nil, All-cons, All-head}
 use Rattle.std.proofs.lemmas.Option.{slice_get-map}
-use Rattle.chess_model.specs.declared.man.Colour.{Colour}
 use Rattle.chess_model.specs.declared.moves.Move.{Move}
-use Rattle.chess_model.specs.declared.moves.MoveWord.{MoveWord}
 use Rattle.chess_model.specs.declared.variant.Variant.{Variant}
 use Rattle.chess_model.specs.declared.variant.Variant.TheVariants.{Chess, Crazyhouse, Bughouse, Fischer}
 use Rattle.chess_model.specs.Allowed.{Allowed}
 use Rattle.chess_model.specs.Holdings.{other_board}
-use Rattle.chess_model.specs.MoveList.{HalfMove}
+use Rattle.chess_model.specs.MoveList.{HalfMove, on}
 use Rattle.chess_model.specs.Position.{Position, position_after}
 use Rattle.fics_words.specs.declared.refusal.Refusal.{Refusal}
 use Rattle.game_board.specs.Board.{Board, position_of}
 use Rattle.game_board.specs.Learn.{partner_position}
-use Rattle.game_board.specs.Scoresheet.{IsTrueScore}
-use Rattle.game_board.proofs.Scoresheet.{IsTrueScore-learnt, allowed_by_answer}
-use Rattle.desk_boards.specs.Boards.{board_numbers, told_answer, word_at}
+use Rattle.game_records.specs.Bounds as bounds
+use Rattle.desk_boards.specs.Boards.{board_numbers, number_of, numbered, place, told_answer}
+use Rattle.desk_boards.specs.declared.board_number.BoardNumber.{BoardNumber}
+use Rattle.desk_boards.specs.declared.board_number.BoardNumber.TheVariants.{First, Second}
 use Rattle.desk_boards.specs.Sound.{AreSame}
 
 -- the numbers of two boards, which are those of a pair
@@ -42,9 +41,33 @@ number_at v boards k b numbers there =
     ∙ slice_get-map (λ (x : Board). x.number) boards k
     ∙ ap (option_map (λ (x : Board). x.number)) there
 
--- the list that the board in a place has of all half-moves
-pub all_at : (boards : List Board) (k : ℕ) (b : Board) → slice_get boards k ≡ Some b → slice_get (map (λ (x : Board). x.all) boards) k ≡ Some b.all
-all_at boards k b there = slice_get-map (λ (x : Board). x.all) boards k ∙ ap (option_map (λ (x : Board). x.all)) there
+-- the number of a board in its place
+pub number_is : (v : Variant) (board : BoardNumber) (n : ℕ) → slice_get (board_numbers v) (place board) ≡ Some n → n ≡ number_of board
+number_is Chess First n e = let one : 1 ≡ n = cc in sym one
+number_is Chess Second n e = absurd cc
+number_is Crazyhouse First n e = let one : 1 ≡ n = cc in sym one
+number_is Crazyhouse Second n e = absurd cc
+number_is (Fischer number) First n e = let one : 1 ≡ n = cc in sym one
+number_is (Fischer number) Second n e = absurd cc
+number_is Bughouse First n e = let one : 1 ≡ n = cc in sym one
+number_is Bughouse Second n e = let two : 2 ≡ n = cc in sym two
+
+-- the board of a number has it
+pub number_of-numbered : (n : ℕ) (board : BoardNumber) → numbered n ≡ Some board → number_of board ≡ n
+number_of-numbered zero board e = absurd cc
+number_of-numbered (suc zero) board e = let first : First ≡ board = cc in ap number_of (sym first)
+number_of-numbered (suc (suc zero)) board e = let second : Second ≡ board = cc in ap number_of (sym second)
+number_of-numbered (suc (suc (suc n))) board e = absurd cc
+
+-- a number that half-moves of a variant may have is that of a board
+pub board_within : (v : Variant) (n : ℕ) → 1 ≤ n → n ≤ bounds.boards v → (board : BoardNumber) × (numbered n ≡ Some board)
+board_within v zero low high = absurd (omega (arith, low))
+board_within v (suc zero) low high = (First, refl)
+board_within v (suc (suc zero)) low high = (Second, refl)
+board_within Chess (suc (suc (suc n))) low high = absurd (omega (arith, high))
+board_within Crazyhouse (suc (suc (suc n))) low high = absurd (omega (arith, high))
+board_within (Fischer number) (suc (suc (suc n))) low high = absurd (omega (arith, high))
+board_within Bughouse (suc (suc (suc n))) low high = absurd (omega (arith, high))
 
 -- what is allowed on a board is allowed as the other one of the pair knows it
 pub allowed_there : (own other : Board) (m : Move) → own.terms ≡ other.terms → own.all ≡ other.all → own.number ≡ other_board other.number →
@@ -54,25 +77,10 @@ allowed_there own other m terms all number allowed =
     let there : position_after own.terms.variant own.all own.number ≡ partner_position other = (λ i. position_after (terms i).variant (all i) (number i)) in
     subst (λ (p : Position). Allowed p m) there allowed
 
--- a word that is played has its board, and was allowed there
-pub word_played : (o : Option Board) (colour : Colour) (word : MoveWord) (m : Move) → word_at o colour word ≡ Ok m →
-    (own : Board) × (o ≡ Some own) × Allowed (position_of own) m
-word_played None colour word m e = absurd cc
-word_played (Some own) colour word m e = (own, refl, allowed_by_answer own colour word m e)
-
-pub told_score : (b : Board) (answer : Result Move Refusal) → IsTrueScore b → ((m : Move) → answer ≡ Ok m → (b.terms.variant ≡ Bughouse) × Allowed (partner_position b) m) →
-    IsTrueScore (told_answer b answer)
-told_score b (Ok m) s known = let k = known m refl in IsTrueScore-learnt b m k.0 s k.1
-told_score b (Err cause) s known = s
-
 -- what a board that is told an answer keeps
 pub same_told : {X : Type 0} (of : Board → X) (b : Board) (answer : Result Move Refusal) → ((T : List HalfMove) → of (record b { all = T }) ≡ of b) → of (told_answer b answer) ≡ of b
 same_told of b (Ok m) keeps = keeps (b.all ++ record { board = other_board b.number; what = m } ∷ [])
 same_told of b (Err cause) keeps = refl
-
--- a half-move on a board
-abbrev on : ℕ → Move → HalfMove
-on number m = record { board = number; what = m }
 
 -- a list and another that is the same, each with the same half-move behind it
 pub same_two : (T U : List HalfMove) (m : Move) (here there : ℕ) → AreSame (T ∷ U ∷ []) → there ≡ here → AreSame ((T ++ on here m ∷ []) ∷ (U ++ on there m ∷ []) ∷ [])

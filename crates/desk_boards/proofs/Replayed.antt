@@ -1,15 +1,14 @@
 -- Half-moves are played again exactly where they can be played, and the boards have these and no others.
 use Rattle.std.proofs.Common.{◌≡◌, ℕ, ◌-◌, ◌≤◌, ◌<◌, ◌&&◌, zero, suc, Bool, true, false, not, nat_lt, if◌then◌else◌, List, [], ◌∷◌, ◌++◌, length, length-append, All, Option, Some, None, ◌⊎◌, inl, inr, refl, sym, ap, subst, ◌∙◌, append_assoc, arith}
-use Rattle.std.specs.Prelude.{◌↔◌, IsSome, IsTrue, IfSome, is_some, slice_get}
+use Rattle.std.specs.Prelude.{◌↔◌, IsSome, IsTrue, IfSome, is_some, option_and_then, slice_get}
 use Rattle.std.specs.Bool.{beq}
 use Rattle.std.specs.List.{AllByRecursion}
 use Rattle.std.proofs.lemmas.Bool.Decides.{Decides-ltb}
 use Rattle.std.proofs.lemmas.List.{append-nil}
 use Rattle.chess_model.specs.declared.variant.Terms.{Terms}
 use Rattle.chess_model.specs.declared.variant.Variant.{Variant}
-use Rattle.chess_model.specs.declared.variant.Variant.TheVariants.{Chess, Crazyhouse, Bughouse, Fischer}
+use Rattle.chess_model.specs.declared.variant.Variant.TheVariants.{Bughouse}
 use Rattle.chess_model.specs.Allowed.{Allowed}
-use Rattle.chess_model.specs.Holdings.{other_board}
 use Rattle.chess_model.specs.Position.{Position}
 use Rattle.chess_model.specs.Result.{result, is_end}
 use Rattle.chess_model.specs.Tests.{is_allowed}
@@ -29,18 +28,20 @@ use Rattle.game_records.specs.declared.stored_game.Half.{Half}
 use Rattle.game_records.specs.Bounds as bounds
 use Rattle.game_records.specs.Bounds.{IsCharge, IsHalf}
 use Rattle.game_records.specs.Replays.{AreTimed, CanBePlayed, GoesOn, MayCome, OtherGoesOn, half_moves, made_on, position_on}
-use Rattle.desk_boards.specs.Boards.{board_numbers, changed_at, new_boards, numbered, other_place}
+use Rattle.desk_boards.specs.Boards.{board_numbers, changed_at, new_boards, number_of, numbered, other_number, place}
+use Rattle.desk_boards.specs.declared.board_number.BoardNumber.{BoardNumber}
+use Rattle.desk_boards.specs.declared.board_number.BoardNumber.TheVariants.{First, Second}
 use Rattle.desk_boards.specs.Halves.{halves_of, played_of}
 use Rattle.desk_boards.specs.Laws.{IsFresh}
-use Rattle.desk_boards.specs.Replaying.{boards_put, goes_on, other_goes_on, own_takes, played_on, replayed, takes_half}
+use Rattle.desk_boards.specs.Replaying.{boards_put, boards_with, goes_on, other_goes_on, own_takes, played_on, replayed, takes_half}
 use Rattle.desk_boards.specs.Sound.{AreSoundBoards}
 use Rattle.desk_boards.proofs.BoardLists.{All-at, All-changed_at}
 use Rattle.desk_boards.proofs.Halved.{half_on}
 use Rattle.desk_boards.proofs.OneMore.{IsOneMore, made_is, position_is, timed_is}
-use Rattle.desk_boards.proofs.Pairs.{never_three, number_at, numbers_of_two}
+use Rattle.desk_boards.proofs.Pairs.{never_three, number_at, number_is, number_of-numbered, numbers_of_two}
 use Rattle.desk_boards.proofs.SoundHalves.{all_of, never_none, number_of_one}
 use Rattle.desk_boards.proofs.StaySound.{All-from, halves_of-from, sound_start}
-use Rattle.desk_boards.proofs.Stepped.{AreSoundWith, sound_step, stepped}
+use Rattle.desk_boards.proofs.Stepped.{AreSoundWith, sound_step}
 use Rattle.std.proofs.lemmas.Bool.{and_parts, false≢true}
 
 -- ---- tests and what they say
@@ -67,23 +68,6 @@ chargeable None h = tt
 chargeable (Some c) h = h
 
 -- ---- one half-move
-
--- the number of the board in a place
-number_is : (v : Variant) (k n : ℕ) → slice_get (board_numbers v) k ≡ Some n → (n ≡ suc k) × (k ≤ 1)
-number_is Chess zero n e = let one : 1 ≡ n = cc in (sym one, omega arith)
-number_is Chess (suc k) n e = absurd cc
-number_is Crazyhouse zero n e = let one : 1 ≡ n = cc in (sym one, omega arith)
-number_is Crazyhouse (suc k) n e = absurd cc
-number_is (Fischer number) zero n e = let one : 1 ≡ n = cc in (sym one, omega arith)
-number_is (Fischer number) (suc k) n e = absurd cc
-number_is Bughouse zero n e = let one : 1 ≡ n = cc in (sym one, omega arith)
-number_is Bughouse (suc zero) n e = let two : 2 ≡ n = cc in (sym two, omega arith)
-number_is Bughouse (suc (suc k)) n e = absurd cc
-
-other_is : (boards : List Board) (k : ℕ) → k ≤ 1 → numbered (other_board (suc k)) boards ≡ slice_get boards (other_place k)
-other_is boards zero few = refl
-other_is boards (suc zero) few = refl
-other_is boards (suc (suc k)) few = absurd (omega (arith, few))
 
 others_go : (o : Option Board) → other_goes_on o ≡ true → (other : Board) → o ≡ Some other → GoesOn (position_of other)
 others_go None e other there = cc
@@ -123,46 +107,50 @@ record AreAt (t : Terms) (moment : ℕ) (halves : List Half) (boards : List Boar
   fresh : All (IsFresh moment) boards
 
 -- what a board keeps where the other one learns
-fresh_learnt : (moment : ℕ) (boards : List Board) (k : ℕ) (p : Played) → All (IsFresh moment) boards → All (IsFresh moment) (stepped boards k (λ b. with_put b p) p.what)
-fresh_learnt moment boards k p f =
-    All-changed_at (IsFresh moment) (changed_at boards k (λ b. with_put b p)) (other_place k) (λ b. learnt b p.what)
+fresh_learnt : (moment : ℕ) (boards : List Board) (board : BoardNumber) (p : Played) → All (IsFresh moment) boards → All (IsFresh moment) (boards_put boards board p)
+fresh_learnt moment boards board p f =
+    All-changed_at (IsFresh moment) (changed_at boards (place board) (λ b. with_put b p)) (place (other_number board)) (λ b. learnt b p.what)
     (λ b there h. record { begin = h.begin; kept = h.kept; played = h.played; resumed = h.resumed })
-    (All-changed_at (IsFresh moment) boards k (λ b. with_put b p) (λ b there h. fresh_put moment b p h) f)
+    (All-changed_at (IsFresh moment) boards (place board) (λ b. with_put b p) (λ b there h. fresh_put moment b p h) f)
 
-step_at : (t : Terms) (moment : ℕ) (boards : List Board) (before : List Half) (k : ℕ) (own : Board) (p : Played) → AreAt t moment before boards → slice_get boards k ≡ Some own →
-    IsTrue (takes_played own p) → IsCharge p.charge → other_goes_on (numbered (other_board (suc k)) boards) ≡ true →
-    AreAt t moment (before ++ half_on (suc k) p ∷ []) (boards_put boards (suc k - 1) p)
-step_at t moment boards before k own p at there takes charge others =
+step_at : (t : Terms) (moment : ℕ) (boards : List Board) (before : List Half) (board : BoardNumber) (n : ℕ) (own : Board) (p : Played) → AreAt t moment before boards →
+    slice_get boards (place board) ≡ Some own → number_of board ≡ n → IsTrue (takes_played own p) → IsCharge p.charge →
+    other_goes_on (slice_get boards (place (other_number board))) ≡ true → AreAt t moment (before ++ half_on n p ∷ []) (boards_put boards board p)
+step_at t moment boards before board n own p at there number takes charge others =
     let s : AreSoundBoards t boards = at.known.sound in
-    let number = number_is t.variant k own.number (number_at t.variant boards k own s.numbers there) in
-    let more = put_more own p (All-at IsTrueScore boards k own s.scores there) takes charge in
-    let step = sound_step t boards k own p (λ b. with_put b p) s there more
-    (λ other here. others_go (slice_get boards (other_place k)) (ap other_goes_on (sym (other_is boards k number.1)) ∙ others) other here) in
-    let place : k ≡ suc k - 1 = omega arith in
-    let halves : halves_of boards ++ half_on own.number p ∷ [] ≡ before ++ half_on (suc k) p ∷ [] =
-    (λ i. at.known.made i ++ half_on (number.0 i) p ∷ []) in
-    subst (λ (j : ℕ). AreAt t moment (before ++ half_on (suc k) p ∷ []) (boards_put boards j p)) place
-    (record {
-      known = subst (λ (hs : List Half). AreSoundWith t hs (stepped boards k (λ b. with_put b p) p.what)) halves step;
-      fresh = fresh_learnt moment boards k p at.fresh;
-    })
+    let is : own.number ≡ n = number_is t.variant board own.number (number_at t.variant boards (place board) own s.numbers there) ∙ number in
+    let more = put_more own p (All-at IsTrueScore boards (place board) own s.scores there) takes charge in
+    let step = sound_step t boards board own p (λ b. with_put b p) s there more (others_go (slice_get boards (place (other_number board))) others) in
+    let halves : halves_of boards ++ half_on own.number p ∷ [] ≡ before ++ half_on n p ∷ [] =
+    (λ i. at.known.made i ++ half_on (is i) p ∷ []) in
+    record {
+      known = subst (λ (hs : List Half). AreSoundWith t hs (boards_put boards board p)) halves step;
+      fresh = fresh_learnt moment boards board p at.fresh;
+    }
 
 -- a half-move that the boards take comes behind the others
-step_taken : (t : Terms) (moment : ℕ) (boards : List Board) (before : List Half) (n : ℕ) (p : Played) → AreAt t moment before boards → IsCharge p.charge →
-    takes_half boards (half_on n p) ≡ true → AreAt t moment (before ++ half_on n p ∷ []) (boards_put boards (n - 1) p)
-step_taken t moment boards before zero p at charge e = absurd (no e)
+step_taken : (t : Terms) (moment : ℕ) (boards : List Board) (before : List Half) (n : ℕ) (board : BoardNumber) (p : Played) → AreAt t moment before boards → IsCharge p.charge →
+    numbered n ≡ Some board → takes_half boards board p ≡ true → AreAt t moment (before ++ half_on n p ∷ []) (boards_put boards board p)
+step_taken t moment boards before n board p at charge is e =
+    on_board (slice_get boards (place board)) refl (and_parts (own_takes (slice_get boards (place board)) p) (other_goes_on (slice_get boards (place (other_number board)))) e)
   where
-    no : (false && other_goes_on (numbered (other_board 0) boards)) ≡ true → ⊥
-    no h = cc
-step_taken t moment boards before (suc k) p at charge e = on_board (slice_get boards k) refl (and_parts (own_takes (slice_get boards k) p) (other_goes_on (numbered (other_board (suc k)) boards)) e)
-  where
-    on_board : (o : Option Board) → slice_get boards k ≡ o → (own_takes (slice_get boards k) p ≡ true) × (other_goes_on (numbered (other_board (suc k)) boards) ≡ true) →
-        AreAt t moment (before ++ half_on (suc k) p ∷ []) (boards_put boards (suc k - 1) p)
+    on_board : (o : Option Board) → slice_get boards (place board) ≡ o →
+        (own_takes (slice_get boards (place board)) p ≡ true) × (other_goes_on (slice_get boards (place (other_number board))) ≡ true) →
+        AreAt t moment (before ++ half_on n p ∷ []) (boards_put boards board p)
     on_board None there h = absurd (let none : own_takes None p ≡ true = ap (λ (o : Option Board). own_takes o p) (sym there) ∙ h.0 in cc)
     on_board (Some own) there h =
-        step_at t moment boards before k own p at there (ap (λ (o : Option Board). own_takes o p) (sym there) ∙ h.0) charge h.1
+        step_at t moment boards before board n own p at there (number_of-numbered n board is) (ap (λ (o : Option Board). own_takes o p) (sym there) ∙ h.0) charge h.1
 
 -- ---- the whole list
+
+-- the boards after the half-moves of a record from one on whose board has this number, if one has it
+abbrev from_one : List Board → Half → List Half → Option BoardNumber → Option (List Board)
+from_one boards h halves board = option_and_then (λ after. played_on after halves) (option_and_then (boards_with boards (played_of h)) board)
+
+-- and if it takes it
+abbrev from_taken : List Board → Half → List Half → BoardNumber → Bool → Option (List Board)
+from_taken boards h halves board takes =
+    option_and_then (λ after. played_on after halves) (if takes then Some (boards_put boards board (played_of h)) else None)
 
 run : (t : Terms) (moment : ℕ) (before halves : List Half) (boards after : List Board) → AreAt t moment before boards → AllByRecursion (IsHalf t.variant) halves →
     played_on boards halves ≡ Some after → AreAt t moment (before ++ halves) after
@@ -170,13 +158,17 @@ run t moment before [] boards after at each e =
     let same : boards ≡ after = cc in
     subst (λ (bs : List Board). AreAt t moment (before ++ []) bs) same (subst (λ (hs : List Half). AreAt t moment hs boards) (sym (append-nil before)) at)
 run t moment before (h ∷ halves) boards after at each e =
-    elim (takes_half boards h) as (λ b. takes_half boards h ≡ b → (if b then played_on (boards_put boards (h.board - 1) (played_of h)) halves else None) ≡ Some after →
-    AreAt t moment (before ++ h ∷ halves) after) [
-      | true ↦ λ is f.
-          subst (λ (hs : List Half). AreAt t moment hs after) (append_assoc before (h ∷ []) halves)
-          (run t moment (before ++ h ∷ []) halves (boards_put boards (h.board - 1) (played_of h)) after
-          (step_taken t moment boards before h.board (played_of h) at each.0.charge is) each.1 f)
-      | false ↦ λ is f. absurd cc
+    elim (numbered h.board) as (λ o. numbered h.board ≡ o → from_one boards h halves o ≡ Some after → AreAt t moment (before ++ h ∷ halves) after) [
+      | None ↦ λ is f. absurd cc
+      | Some board ↦ λ is f.
+          elim (takes_half boards board (played_of h)) as (λ b. takes_half boards board (played_of h) ≡ b → from_taken boards h halves board b ≡ Some after →
+          AreAt t moment (before ++ h ∷ halves) after) [
+            | true ↦ λ takes g.
+                subst (λ (hs : List Half). AreAt t moment hs after) (append_assoc before (h ∷ []) halves)
+                (run t moment (before ++ h ∷ []) halves (boards_put boards board (played_of h)) after
+                (step_taken t moment boards before h.board board (played_of h) at each.0.charge is takes) each.1 g)
+            | false ↦ λ takes g. absurd cc
+          ] refl f
     ] refl e
 
 begun : (t : Terms) (moment : ℕ) → AreAt t moment [] (new_boards t moment)
@@ -230,7 +222,8 @@ other_pair t before n c pair number terms all goes =
     going_says (position_of c) (subst GoesOn at here)
 
 -- a half-move that may come is taken
-may_take : (t : Terms) (moment : ℕ) (boards : List Board) (before : List Half) (h : Half) → AreAt t moment before boards → IsHalf t.variant h → MayCome t before h → takes_half boards h ≡ true
+may_take : (t : Terms) (moment : ℕ) (boards : List Board) (before : List Half) (h : Half) → AreAt t moment before boards → IsHalf t.variant h → MayCome t before h →
+    (board : BoardNumber) × (numbered h.board ≡ Some board) × (takes_half boards board (played_of h) ≡ true)
 may_take t moment [] before h at half comes = absurd (never_none t.variant at.known.sound.numbers)
 may_take t moment (b ∷ []) before h at half comes =
     let s = at.known.sound in
@@ -240,8 +233,7 @@ may_take t moment (b ∷ []) before h at half comes =
     let all : half_moves before ≡ b.all = ap half_moves (sym at.known.made) ∙ All-at P (b ∷ []) 0 b (all_of t (b ∷ []) s) refl in
     let fresh = All-at (IsFresh moment) (b ∷ []) 0 b at.fresh refl in
     let own = own_may t b before h (All-at IsTrueScore (b ∷ []) 0 b s.scores refl) fresh.played (All-at (λ (x : Board). x.terms ≡ t) (b ∷ []) 0 b s.terms refl) all (one.1 ∙ sym number) comes in
-    ap (λ (n : ℕ). own_takes (numbered n (b ∷ [])) (played_of h) && other_goes_on (numbered (other_board n) (b ∷ []))) number
-    ∙ ap (λ (t : Bool). t && true) own
+    (First, ap numbered number, ap (λ (t : Bool). t && true) own)
 may_take t moment (b ∷ c ∷ []) before h at half comes =
     let s = at.known.sound in
     let two = numbers_of_two t.variant b c s.numbers in
@@ -255,13 +247,11 @@ may_take t moment (b ∷ c ∷ []) before h at half comes =
       | inl first ↦
           let own = own_may t b before h (All-at IsTrueScore (b ∷ c ∷ []) 0 b s.scores refl) (All-at (IsFresh moment) (b ∷ c ∷ []) 0 b at.fresh refl).played terms_b all_b (two.1 ∙ sym first) comes in
           let other = other_pair t before h.board c two.0 (omega (arith, first, two.2)) terms_c all_c comes.other in
-          ap (λ (n : ℕ). own_takes (numbered n (b ∷ c ∷ [])) (played_of h) && other_goes_on (numbered (other_board n) (b ∷ c ∷ []))) first
-          ∙ (λ i. own i && other i)
+          (First, ap numbered first, λ i. own i && other i)
       | inr second ↦
           let own = own_may t c before h (All-at IsTrueScore (b ∷ c ∷ []) 1 c s.scores refl) (All-at (IsFresh moment) (b ∷ c ∷ []) 1 c at.fresh refl).played terms_c all_c (two.2 ∙ sym second) comes in
           let other = other_pair t before h.board b two.0 (omega (arith, second, two.1)) terms_b all_b comes.other in
-          ap (λ (n : ℕ). own_takes (numbered n (b ∷ c ∷ [])) (played_of h) && other_goes_on (numbered (other_board n) (b ∷ c ∷ []))) second
-          ∙ (λ i. own i && other i)
+          (Second, ap numbered second, λ i. own i && other i)
     ]
   where
     of_two : (n : ℕ) → 1 ≤ n → n ≤ 2 → (n ≡ 1) ⊎ (n ≡ 2)
@@ -276,12 +266,13 @@ takes_each : (t : Terms) (moment : ℕ) (before halves : List Half) (boards : Li
 takes_each t moment before [] boards at each played = refl
 takes_each t moment before (h ∷ halves) boards at each played =
     let comes : MayCome t before h = played.each before halves h refl in
-    let takes : takes_half boards h ≡ true = may_take t moment boards before h at each.0 comes in
-    let rest : IsSome (played_on (boards_put boards (h.board - 1) (played_of h)) halves) =
-    takes_each t moment (before ++ h ∷ []) halves (boards_put boards (h.board - 1) (played_of h))
-    (step_taken t moment boards before h.board (played_of h) at each.0.charge takes) each.1
+    let may = may_take t moment boards before h at each.0 comes in
+    let rest : IsSome (played_on (boards_put boards may.0 (played_of h)) halves) =
+    takes_each t moment (before ++ h ∷ []) halves (boards_put boards may.0 (played_of h))
+    (step_taken t moment boards before h.board may.0 (played_of h) at each.0.charge may.1 may.2) each.1
     (subst (CanBePlayed t) (sym (append_assoc before (h ∷ []) halves)) played) in
-    subst (λ (b : Bool). IsSome (if b then played_on (boards_put boards (h.board - 1) (played_of h)) halves else None)) (sym takes) rest
+    subst (λ (o : Option BoardNumber). IsSome (from_one boards h halves o)) (sym may.1)
+    (subst (λ (b : Bool). IsSome (from_taken boards h halves may.0 b)) (sym may.2) rest)
 
 pub some_is : {X : Type 0} (o : Option X) → IsSome o → (x : X) × (o ≡ Some x)
 some_is None e = absurd cc

@@ -29,7 +29,8 @@ use Rattle.game_board.proofs.Scoresheet.{IsTrueScore-acknowledged, IsTrueScore-n
 use Rattle.game_records.specs.Bounds.{IsCharge, IsHalf}
 use Rattle.game_records.specs.Replays.{CanBePlayed, GoesOn}
 use Rattle.game_records.proofs.Played.{by_steps}
-use Rattle.desk_boards.specs.Boards.{board_numbers, boards_acked, boards_after, changed_at, latest, new_boards, other_place, word_at}
+use Rattle.desk_boards.specs.Boards.{board_numbers, boards_acked, boards_after, changed_at, latest, new_boards, word_at, other_number, place}
+use Rattle.desk_boards.specs.declared.board_number.BoardNumber.{BoardNumber}
 use Rattle.desk_boards.specs.Halves.{halves_from, halves_of}
 use Rattle.desk_boards.specs.Sound.{AreSame, AreSoundBoards, GoOn}
 use Rattle.desk_boards.proofs.BoardLists.{All-at, All-changed_at, begin-latest, map-changed_at, nothing-changed_at}
@@ -120,25 +121,26 @@ pub played_there : (o : Option Board) (c : Colour) (word : MoveWord) (m : Move) 
 played_there None c word m e = absurd cc
 played_there (Some own) c word m e = (own, refl, e)
 
-sound_answered : (t : Terms) (boards : List Board) (place moment : ℕ) (c : Colour) (word : MoveWord) (stamp : Option ℕ) → AreSoundBoards t boards → GoOn boards →
-    latest boards ≤ moment → moment ≤ 2 ^ 48 → IfSome stamp IsStamp → (answer : Result Move Refusal) → word_at (slice_get boards place) c word ≡ answer →
-    AreSoundBoards t (boards_after boards place moment stamp answer)
-sound_answered t boards place moment c word stamp s goes order timely stamped (Err cause) e =
-    subst (AreSoundBoards t) (sym (nothing-changed_at (changed_at boards place (λ b. b)) (other_place place) ∙ nothing-changed_at boards place)) s
-sound_answered t boards place moment c word stamp s goes order timely stamped (Ok m) e =
-    let found = played_there (slice_get boards place) c word m e in
+sound_answered : (t : Terms) (boards : List Board) (board : BoardNumber) (moment : ℕ) (c : Colour) (word : MoveWord) (stamp : Option ℕ) → AreSoundBoards t boards → GoOn boards →
+    latest boards ≤ moment → moment ≤ 2 ^ 48 → IfSome stamp IsStamp → (answer : Result Move Refusal) → word_at (slice_get boards (place board)) c word ≡ answer →
+    AreSoundBoards t (boards_after boards board moment stamp answer)
+sound_answered t boards board moment c word stamp s goes order timely stamped (Err cause) e =
+    subst (AreSoundBoards t) (sym (nothing-changed_at (changed_at boards (place board) (λ b. b)) (place (other_number board)) ∙ nothing-changed_at boards (place board))) s
+sound_answered t boards board moment c word stamp s goes order timely stamped (Ok m) e =
+    let k : ℕ = place board in
+    let found = played_there (slice_get boards k) c word m e in
     let own : Board = found.0 in
-    let here : slice_get boards place ≡ Some own = found.1 in
-    let before : own.begin ≤ latest boards = begin-latest boards place own here in
-    let more = one_more_played own c word m moment stamp (All-at IsTrueScore boards place own s.scores here) (All-at (λ (b : Board). b.played ≤ 1200) boards place own s.few here)
-    (All-at (λ (b : Board). GoesOn (position_of b)) boards place own goes here) (omega (arith, before, order)) timely stamped found.2 in
-    (sound_step t boards place own (record { what = m; charge = next_charge own moment stamp }) (λ b. with_half_move b m moment stamp) s here more
-    (λ other there. All-at (λ (b : Board). GoesOn (position_of b)) boards (other_place place) other goes there)).sound
+    let here : slice_get boards k ≡ Some own = found.1 in
+    let before : own.begin ≤ latest boards = begin-latest boards k own here in
+    let more = one_more_played own c word m moment stamp (All-at IsTrueScore boards k own s.scores here) (All-at (λ (b : Board). b.played ≤ 1200) boards k own s.few here)
+    (All-at (λ (b : Board). GoesOn (position_of b)) boards k own goes here) (omega (arith, before, order)) timely stamped found.2 in
+    (sound_step t boards board own (record { what = m; charge = next_charge own moment stamp }) (λ b. with_half_move b m moment stamp) s here more
+    (λ other there. All-at (λ (b : Board). GoesOn (position_of b)) boards (place (other_number board)) other goes there)).sound
 
-pub sound_play : (t : Terms) (boards : List Board) (place moment : ℕ) (c : Colour) (word : MoveWord) (stamp : Option ℕ) → AreSoundBoards t boards → GoOn boards →
-    latest boards ≤ moment → moment ≤ 2 ^ 48 → IfSome stamp IsStamp → AreSoundBoards t (boards_after boards place moment stamp (word_at (slice_get boards place) c word))
-sound_play t boards place moment c word stamp s goes order timely stamped =
-    sound_answered t boards place moment c word stamp s goes order timely stamped (word_at (slice_get boards place) c word) refl
+pub sound_play : (t : Terms) (boards : List Board) (board : BoardNumber) (moment : ℕ) (c : Colour) (word : MoveWord) (stamp : Option ℕ) → AreSoundBoards t boards → GoOn boards →
+    latest boards ≤ moment → moment ≤ 2 ^ 48 → IfSome stamp IsStamp → AreSoundBoards t (boards_after boards board moment stamp (word_at (slice_get boards (place board)) c word))
+sound_play t boards board moment c word stamp s goes order timely stamped =
+    sound_answered t boards board moment c word stamp s goes order timely stamped (word_at (slice_get boards (place board)) c word) refl
 
 -- ---- an acknowledgement
 
@@ -161,18 +163,19 @@ halves_of-changed_at t (b ∷ c ∷ []) (suc zero) change s lists all = λ i. ha
 halves_of-changed_at t (b ∷ c ∷ []) (suc (suc k)) change s lists all = refl
 halves_of-changed_at t (b ∷ c ∷ d ∷ more) k change s lists all = absurd (never_three t.variant b c d more s.numbers)
 
-pub sound_acked : (t : Terms) (boards : List Board) (place : ℕ) (c : Colour) (stamp : ℕ) → AreSoundBoards t boards → IsStamp stamp → AreSoundBoards t (boards_acked boards place c stamp)
-sound_acked t boards place c stamp s stamped =
+pub sound_acked : (t : Terms) (boards : List Board) (board : BoardNumber) (c : Colour) (stamp : ℕ) → AreSoundBoards t boards → IsStamp stamp → AreSoundBoards t (boards_acked boards board c stamp)
+sound_acked t boards board c stamp s stamped =
+    let k : ℕ = place board in
     let after : Board → Board = λ b. acknowledged b c stamp in
-    let halves : halves_of (boards_acked boards place c stamp) ≡ halves_of boards =
-    halves_of-changed_at t boards place after s (λ b. same_acknowledged (λ x. x.list) b c stamp refl) (λ b. same_acknowledged (λ x. x.all) b c stamp refl) in
+    let halves : halves_of (boards_acked boards board c stamp) ≡ halves_of boards =
+    halves_of-changed_at t boards k after s (λ b. same_acknowledged (λ x. x.list) b c stamp refl) (λ b. same_acknowledged (λ x. x.all) b c stamp refl) in
     record {
-      numbers = map-changed_at (λ (b : Board). b.number) boards place after (λ b. same_acknowledged (λ x. x.number) b c stamp refl) ∙ s.numbers;
-      terms = All-changed_at (λ (b : Board). b.terms ≡ t) boards place after (λ b there same. same_acknowledged (λ x. x.terms) b c stamp refl ∙ same) s.terms;
-      scores = All-changed_at IsTrueScore boards place after (λ b there score. IsTrueScore-acknowledged b c stamp score stamped) s.scores;
-      few = All-changed_at (λ (b : Board). b.played ≤ 1200) boards place after
+      numbers = map-changed_at (λ (b : Board). b.number) boards k after (λ b. same_acknowledged (λ x. x.number) b c stamp refl) ∙ s.numbers;
+      terms = All-changed_at (λ (b : Board). b.terms ≡ t) boards k after (λ b there same. same_acknowledged (λ x. x.terms) b c stamp refl ∙ same) s.terms;
+      scores = All-changed_at IsTrueScore boards k after (λ b there score. IsTrueScore-acknowledged b c stamp score stamped) s.scores;
+      few = All-changed_at (λ (b : Board). b.played ≤ 1200) boards k after
           (λ b there h. let same : (acknowledged b c stamp).played ≡ b.played = same_acknowledged (λ x. x.played) b c stamp refl in omega (arith, same, h)) s.few;
-      together = subst AreSame (sym (map-changed_at (λ (b : Board). b.all) boards place after (λ b. same_acknowledged (λ x. x.all) b c stamp refl))) s.together;
+      together = subst AreSame (sym (map-changed_at (λ (b : Board). b.all) boards k after (λ b. same_acknowledged (λ x. x.all) b c stamp refl))) s.together;
       halves = subst (AllByRecursion (IsHalf t.variant)) (sym halves) s.halves;
       played = subst (CanBePlayed t) (sym halves) s.played;
     }

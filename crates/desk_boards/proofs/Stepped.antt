@@ -1,5 +1,5 @@
 -- The boards of a game after one half-move more at one of them, of which the other one has learnt.
-use Rattle.std.proofs.Common.{◌≡◌, ℕ, ◌≤◌, zero, suc, List, [], ◌∷◌, ◌++◌, map, All, Some, sym, ap, subst, ◌∙◌, arith}
+use Rattle.std.proofs.Common.{◌≡◌, ◌≤◌, List, [], ◌∷◌, ◌++◌, map, All, Some, sym, ap, subst, ◌∙◌, arith}
 use Rattle.std.specs.Prelude.{slice_get}
 use Rattle.std.specs.List.{AllByRecursion}
 use Rattle.std.proofs.lemmas.List.Elements.{All-nil, All-cons, All-head, All-tail}
@@ -8,7 +8,7 @@ use Rattle.chess_model.specs.declared.variant.Terms.{Terms}
 use Rattle.chess_model.specs.declared.variant.Variant.TheVariants.{Bughouse}
 use Rattle.chess_model.specs.Allowed.{Allowed}
 use Rattle.chess_model.specs.Holdings.{other_board}
-use Rattle.chess_model.specs.MoveList.{HalfMove, moves_of}
+use Rattle.chess_model.specs.MoveList.{HalfMove, moves_of, on}
 use Rattle.game_board.specs.declared.played.Played.{Played}
 use Rattle.game_board.specs.Board.{Board, position_of}
 use Rattle.game_board.specs.Learn.{learnt}
@@ -17,18 +17,20 @@ use Rattle.game_board.proofs.Scoresheet.{IsTrueScore-learnt}
 use Rattle.game_records.specs.declared.stored_game.Half.{Half}
 use Rattle.game_records.specs.Bounds.{IsHalf}
 use Rattle.game_records.specs.Replays.{CanBePlayed, GoesOn}
-use Rattle.desk_boards.specs.Boards.{board_numbers, changed_at, other_place}
+use Rattle.desk_boards.specs.Boards.{board_numbers, changed_at, other_number, place}
+use Rattle.desk_boards.specs.declared.board_number.BoardNumber.{BoardNumber}
+use Rattle.desk_boards.specs.declared.board_number.BoardNumber.TheVariants.{First, Second}
 use Rattle.desk_boards.specs.Halves.{halves_from, halves_of}
 use Rattle.desk_boards.specs.Sound.{AreSame, AreSoundBoards}
-use Rattle.desk_boards.proofs.Halved.{half_on, halves_from-one, halves_from-two, on}
+use Rattle.desk_boards.proofs.Halved.{half_on, halves_from-one, halves_from-two}
 use Rattle.desk_boards.proofs.OneMore.{IsOneMore, MayGrow, may_grow}
 use Rattle.desk_boards.proofs.Pairs.{allowed_there, never_three, numbers_of_two, same_two}
 use Rattle.desk_boards.proofs.SoundHalves.{never_none, number_of_one, on_two, own_at}
 use Rattle.std.proofs.lemmas.Option.{same_Some}
 
--- the boards with a change of the one in that place, of which the other one learns that it was this half-move
-abbrev pub stepped : List Board → ℕ → (Board → Board) → Move → List Board
-stepped boards place change m = changed_at (changed_at boards place change) (other_place place) (λ b. learnt b m)
+-- the boards with a change of one of them, of which the other one learns that it was this half-move
+abbrev pub stepped : List Board → BoardNumber → (Board → Board) → Move → List Board
+stepped boards board change m = changed_at (changed_at boards (place board) change) (place (other_number board)) (λ b. learnt b m)
 
 -- sound boards that have these half-moves
 pub record AreSoundWith (t : Terms) (halves : List Half) (boards : List Board) : Type 0 where
@@ -136,25 +138,25 @@ step_second t b c new p s more grows =
     halves grows.each grows.played
 
 -- sound boards stay sound by one half-move more, and have it behind the others
-pub sound_step : (t : Terms) (boards : List Board) (k : ℕ) (own : Board) (p : Played) (change : Board → Board) → AreSoundBoards t boards → slice_get boards k ≡ Some own →
-    IsOneMore own p (change own) → ((other : Board) → slice_get boards (other_place k) ≡ Some other → GoesOn (position_of other)) →
-    AreSoundWith t (halves_of boards ++ half_on own.number p ∷ []) (stepped boards k change p.what)
-sound_step t [] k own p change s there more goes = absurd (never_none t.variant s.numbers)
-sound_step t (b ∷ []) zero own p change s there more goes =
-    let grows = may_grow t (b ∷ []) zero own (change own) p s there more goes in
+pub sound_step : (t : Terms) (boards : List Board) (board : BoardNumber) (own : Board) (p : Played) (change : Board → Board) → AreSoundBoards t boards →
+    slice_get boards (place board) ≡ Some own → IsOneMore own p (change own) →
+    ((other : Board) → slice_get boards (place (other_number board)) ≡ Some other → GoesOn (position_of other)) →
+    AreSoundWith t (halves_of boards ++ half_on own.number p ∷ []) (stepped boards board change p.what)
+sound_step t [] board own p change s there more goes = absurd (never_none t.variant s.numbers)
+sound_step t (b ∷ []) First own p change s there more goes =
+    let grows = may_grow t (b ∷ []) First own (change own) p s there more goes in
     let P : Board → Type 0 = λ x. IsOneMore x p (change x) → MayGrow t (halves_of (b ∷ [])) (half_on x.number p) →
     AreSoundWith t (halves_of (b ∷ []) ++ half_on x.number p ∷ []) (change b ∷ []) in
     subst P (same_Some b own there) (λ m g. step_alone t b (change b) p s m g) more grows
-sound_step t (b ∷ []) (suc k) own p change s there more goes = absurd cc
-sound_step t (b ∷ c ∷ []) zero own p change s there more goes =
-    let grows = may_grow t (b ∷ c ∷ []) zero own (change own) p s there more goes in
+sound_step t (b ∷ []) Second own p change s there more goes = absurd cc
+sound_step t (b ∷ c ∷ []) First own p change s there more goes =
+    let grows = may_grow t (b ∷ c ∷ []) First own (change own) p s there more goes in
     let P : Board → Type 0 = λ x. IsOneMore x p (change x) → MayGrow t (halves_of (b ∷ c ∷ [])) (half_on x.number p) →
     AreSoundWith t (halves_of (b ∷ c ∷ []) ++ half_on x.number p ∷ []) (change b ∷ learnt c p.what ∷ []) in
     subst P (same_Some b own there) (λ m g. step_first t b c (change b) p s m g) more grows
-sound_step t (b ∷ c ∷ []) (suc zero) own p change s there more goes =
-    let grows = may_grow t (b ∷ c ∷ []) 1 own (change own) p s there more goes in
+sound_step t (b ∷ c ∷ []) Second own p change s there more goes =
+    let grows = may_grow t (b ∷ c ∷ []) Second own (change own) p s there more goes in
     let P : Board → Type 0 = λ x. IsOneMore x p (change x) → MayGrow t (halves_of (b ∷ c ∷ [])) (half_on x.number p) →
     AreSoundWith t (halves_of (b ∷ c ∷ []) ++ half_on x.number p ∷ []) (learnt b p.what ∷ change c ∷ []) in
     subst P (same_Some c own there) (λ m g. step_second t b c (change c) p s m g) more grows
-sound_step t (b ∷ c ∷ []) (suc (suc k)) own p change s there more goes = absurd cc
-sound_step t (b ∷ c ∷ d ∷ more) k own p change s there new goes = absurd (never_three t.variant b c d more s.numbers)
+sound_step t (b ∷ c ∷ d ∷ more) board own p change s there new goes = absurd (never_three t.variant b c d more s.numbers)

@@ -1,5 +1,5 @@
 -- The boards of a game: one, or two in bughouse.
-use Rattle.std.specs.Prelude.{ℕ, ◌-◌, zero, suc, max, List, [], ◌∷◌, map, Option, Some, None, Result, Ok, Err, slice_get, slice_set}
+use Rattle.std.specs.Prelude.{◌≡◌, ℕ, zero, suc, max, List, [], ◌∷◌, map, Option, Some, None, Result, Ok, Err, slice_get, slice_set, refl}
 use Rattle.std.specs.Option.{option_map}
 use Rattle.chess_model.specs.declared.man.Colour.{Colour}
 use Rattle.chess_model.specs.declared.man.Man.{Man}
@@ -15,6 +15,31 @@ use Rattle.game_board.specs.Board.{Board, new_board}
 use Rattle.game_board.specs.Flag.{flag_answer}
 use Rattle.game_board.specs.Learn.{learnt}
 use Rattle.game_board.specs.Play.{move_answer, play_after, play_reply}
+use Rattle.desk_boards.specs.declared.board_number.BoardNumber.{BoardNumber}
+use Rattle.desk_boards.specs.declared.board_number.BoardNumber.TheVariants.{First, Second}
+
+-- where a board stands in the list of a game's boards
+abbrev pub place : BoardNumber → ℕ
+place First = 0
+place Second = 1
+
+-- its number, in the rules and in records
+abbrev pub number_of : BoardNumber → ℕ
+number_of board = suc (place board)
+
+-- the board that has a number, if one has it
+abbrev pub numbered : ℕ → Option BoardNumber
+numbered (suc zero) = Some First
+numbered (suc (suc zero)) = Some Second
+numbered _ = None
+
+-- the other board of a pair
+abbrev pub other_number : BoardNumber → BoardNumber
+other_number First = Second
+other_number Second = First
+
+example_numbers : map numbered (0 ∷ 1 ∷ 2 ∷ 3 ∷ []) ≡ None ∷ Some First ∷ Some Second ∷ None ∷ []
+example_numbers = refl
 
 -- the numbers of the boards on which a variant is played
 abbrev pub board_numbers : Variant → List ℕ
@@ -26,11 +51,6 @@ board_numbers (Fischer number) = 1 ∷ []
 -- the boards at the start of a game
 abbrev pub new_boards : Terms → ℕ → List Board
 new_boards terms moment = map (λ number. new_board number terms moment) (board_numbers terms.variant)
-
--- the board of a number, counted from 1
-abbrev pub numbered : ℕ → List Board → Option Board
-numbered zero boards = None
-numbered (suc place) boards = slice_get boards place
 
 -- the latest moment from which a player is thinking at one of the boards
 abbrev pub latest : List Board → ℕ
@@ -54,29 +74,25 @@ flag_at (Some b) caller moment = flag_answer b caller moment
 
 -- the boards with another one in a place
 abbrev pub set_board : List Board → ℕ → Option Board → List Board
-set_board boards place None = boards
-set_board boards place (Some b) = slice_set boards place b
+set_board boards k None = boards
+set_board boards k (Some b) = slice_set boards k b
 
 -- the boards with a change of the one in that place, where there is one
 abbrev pub changed_at : List Board → ℕ → (Board → Board) → List Board
-changed_at boards place change = set_board boards place (option_map change (slice_get boards place))
-
--- the place of the other board of a pair
-abbrev pub other_place : ℕ → ℕ
-other_place place = 1 - place
+changed_at boards k change = set_board boards k (option_map change (slice_get boards k))
 
 -- a board once it has learnt what a word at its partner's board was answered: of the half-move, if it was one
 abbrev pub told_answer : Board → Result Move Refusal → Board
 told_answer b (Ok m) = learnt b m
 told_answer b (Err cause) = b
 
--- the boards after a word at the one in that place: this board has the half-move, and the other one, if there is one,
--- learns of it in the same step, so that a man who is captured comes into a hand there
-abbrev pub boards_after : List Board → ℕ → ℕ → Option ℕ → Result Move Refusal → List Board
-boards_after boards place moment stamp answer =
-    changed_at (changed_at boards place (λ b. play_after b moment stamp answer)) (other_place place)
+-- the boards after a word at one of them: this board has the half-move, and the other one, if there is one, learns of
+-- it in the same step, so that a man who is captured comes into a hand there
+abbrev pub boards_after : List Board → BoardNumber → ℕ → Option ℕ → Result Move Refusal → List Board
+boards_after boards board moment stamp answer =
+    changed_at (changed_at boards (place board) (λ b. play_after b moment stamp answer)) (place (other_number board))
     (λ b. told_answer b answer)
 
--- the boards once a client of that colour has acknowledged the one in that place
-abbrev pub boards_acked : List Board → ℕ → Colour → ℕ → List Board
-boards_acked boards place colour stamp = changed_at boards place (λ b. acknowledged b colour stamp)
+-- the boards once a client of that colour has acknowledged one of them
+abbrev pub boards_acked : List Board → BoardNumber → Colour → ℕ → List Board
+boards_acked boards board colour stamp = changed_at boards (place board) (λ b. acknowledged b colour stamp)

@@ -4,7 +4,7 @@ use Rattle.chess_model.specs.declared.moves.Move.{Move}
 use Rattle.chess_model.specs.declared.moves.Move.TheVariants.{Plain}
 use Rattle.chess_model.specs.declared.variant.Terms.{Terms}
 use Rattle.chess_model.specs.declared.variant.Variant.TheVariants.{Bughouse}
-use Rattle.chess_model.specs.MoveList.{HalfMove}
+use Rattle.chess_model.specs.MoveList.{HalfMove, on}
 use Rattle.clock_ledger.specs.declared.charges.Charge.{Charge}
 use Rattle.game_board.specs.declared.played.Played.{Played}
 use Rattle.game_board.specs.Board.{Board}
@@ -36,9 +36,6 @@ five = Some (record { begin = 3000; end = 8000; client = None })
 
 abbrev free : Move → Played
 free m = record { what = m; charge = None }
-
-abbrev on : ℕ → Move → HalfMove
-on number m = record { board = number; what = m }
 
 -- e2e4 on board 1, d2d4 on board 2, then e7e5 and g1f3 on board 1
 abbrev all : List HalfMove

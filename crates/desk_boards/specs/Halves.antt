@@ -1,10 +1,12 @@
 -- The half-moves of a game as its record has them: those of all boards in their order, each with its own charge.
-use Rattle.std.specs.Prelude.{ℕ, List, [], ◌∷◌, map, filter, drop, nat_eq, if◌then◌else◌, Option, None}
+use Rattle.std.specs.Prelude.{ℕ, ◌-◌, List, [], ◌∷◌, map, filter, drop, length, nat_eq, if◌then◌else◌, Option, None, option_and_then, slice_get}
 use Rattle.chess_model.specs.MoveList.{HalfMove}
 use Rattle.clock_ledger.specs.declared.charges.Charge.{Charge}
 use Rattle.game_board.specs.declared.played.Played.{Played}
 use Rattle.game_board.specs.Board.{Board}
 use Rattle.game_records.specs.declared.stored_game.Half.{Half}
+use Rattle.desk_boards.specs.Boards.{numbered}
+use Rattle.desk_boards.specs.declared.board_number.BoardNumber.{BoardNumber}
 
 -- a half-move of a record, as the list of its board has it
 abbrev pub played_of : Half → Played
@@ -13,6 +15,10 @@ played_of h = record { what = h.what; charge = h.charge }
 -- what a record has of the half-moves of one board, as the list of that board
 abbrev pub list_on : ℕ → List Half → List Played
 list_on board halves = map played_of (filter (λ h. nat_eq h.board board) halves)
+
+-- the board on which the last of some half-moves was made, if there is one
+abbrev pub last_board : List Half → Option BoardNumber
+last_board halves = option_and_then (λ (h : Half). numbered h.board) (slice_get halves (length halves - 1))
 
 -- the charge of the first half-move of a list, if it has one
 abbrev pub first_charge : List Played → Option Charge

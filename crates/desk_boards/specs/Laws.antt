@@ -10,7 +10,8 @@ use Rattle.game_board.specs.Board.{Board, position_of}
 use Rattle.game_records.specs.declared.stored_game.Half.{Half}
 use Rattle.game_records.specs.Bounds.{AreHalves, IsHalf}
 use Rattle.game_records.specs.Replays.{CanBePlayed, GoesOn, half_moves}
-use Rattle.desk_boards.specs.Boards.{boards_acked, boards_after, latest, new_boards, word_at}
+use Rattle.desk_boards.specs.Boards.{boards_acked, boards_after, latest, new_boards, word_at, place}
+use Rattle.desk_boards.specs.declared.board_number.BoardNumber.{BoardNumber}
 use Rattle.desk_boards.specs.Halves.{halves_of, list_on}
 use Rattle.desk_boards.specs.Replaying.{replayed, resumed_at}
 use Rattle.desk_boards.specs.Sound.{AreSoundBoards, GoOn}
@@ -54,11 +55,12 @@ pub record AreReplayed : Type 0 where
 -- acknowledge, and whatever half-moves are taken back
 pub record BoardsStaySound : Type 0 where
   pub start : (t : Terms) (moment : ℕ) → AreSoundBoards t (new_boards t moment)
-  pub play : (t : Terms) (boards : List Board) (place moment : ℕ) (c : Colour) (word : MoveWord) (stamp : Option ℕ) →
-      AreSoundBoards t boards → GoOn boards → latest boards ≤ moment → moment ≤ last_moment → IfSome stamp IsStamp →
-      AreSoundBoards t (boards_after boards place moment stamp (word_at (slice_get boards place) c word))
-  pub acked : (t : Terms) (boards : List Board) (place : ℕ) (c : Colour) (stamp : ℕ) → AreSoundBoards t boards →
-      IsStamp stamp → AreSoundBoards t (boards_acked boards place c stamp)
+  pub play : (t : Terms) (boards : List Board) (board : BoardNumber) (moment : ℕ) (c : Colour) (word : MoveWord)
+      (stamp : Option ℕ) → AreSoundBoards t boards → GoOn boards → latest boards ≤ moment → moment ≤ last_moment →
+      IfSome stamp IsStamp →
+      AreSoundBoards t (boards_after boards board moment stamp (word_at (slice_get boards (place board)) c word))
+  pub acked : (t : Terms) (boards : List Board) (board : BoardNumber) (c : Colour) (stamp : ℕ) →
+      AreSoundBoards t boards → IsStamp stamp → AreSoundBoards t (boards_acked boards board c stamp)
   pub take_back : (t : Terms) (boards : List Board) (n moment : ℕ) → AreSoundBoards t boards → latest boards ≤ moment →
       AreSoundBoards t (boards_taken_back boards n moment)
 
@@ -66,12 +68,12 @@ pub record BoardsStaySound : Type 0 where
 -- said, since what comes into a hand mates nobody; and what clients acknowledge ends nothing
 pub record EndsComeByMoves : Type 0 where
   pub start : (t : Terms) (moment : ℕ) → GoOn (new_boards t moment)
-  pub play : (t : Terms) (boards : List Board) (place moment : ℕ) (c : Colour) (word : MoveWord) (stamp : Option ℕ) →
-      AreSoundBoards t boards → GoOn boards →
-      IfSome (slice_get (boards_after boards place moment stamp (word_at (slice_get boards place) c word)) place)
-      (λ b. GoesOn (position_of b)) →
-      GoOn (boards_after boards place moment stamp (word_at (slice_get boards place) c word))
-  pub acked : (boards : List Board) (place : ℕ) (c : Colour) (stamp : ℕ) → GoOn boards →
-      GoOn (boards_acked boards place c stamp)
+  pub play : (t : Terms) (boards : List Board) (board : BoardNumber) (moment : ℕ) (c : Colour) (word : MoveWord)
+      (stamp : Option ℕ) → AreSoundBoards t boards → GoOn boards →
+      IfSome (slice_get (boards_after boards board moment stamp (word_at (slice_get boards (place board)) c word))
+      (place board)) (λ b. GoesOn (position_of b)) →
+      GoOn (boards_after boards board moment stamp (word_at (slice_get boards (place board)) c word))
+  pub acked : (boards : List Board) (board : BoardNumber) (c : Colour) (stamp : ℕ) → GoOn boards →
+      GoOn (boards_acked boards board c stamp)
   pub take_back : (t : Terms) (boards : List Board) (n moment : ℕ) → AreSoundBoards t boards → latest boards ≤ moment →
       GoOn boards → GoOn (boards_taken_back boards n moment)

@@ -2,17 +2,19 @@
 ghost use Rattle.std.specs.Prelude.{◌≡◌, ◌<◌, ◌≤◌, [], ◌∷◌, IfOk, IfSome, IsTrue, OnErr, length, slice_get};
 ghost use Rattle.std.specs.Option.{option_copied, option_to_list};
 ghost use Rattle.chess_model.specs.Limits.{most_halves};
-ghost use Rattle.clock_ledger.specs.Charges.{IsChargeable, last_moment};
+ghost use Rattle.clock_ledger.specs.Charges.{IsChargeable};
 ghost use Rattle.clock_ledger.specs.Span.{IsStamp};
 ghost use Rattle.fics_words.specs.Effect.{first_cause, refusal_of, refused_by};
 ghost use Rattle.game_board.specs.Board.{new_board};
 ghost use Rattle.desk_boards.specs.Claims.{claim_at};
 ghost use Rattle.desk_boards.specs.Replaying.{boards_put, own_takes};
 ghost use Rattle.desk_boards.specs.TakenBack.{boards_taken_back, lacks_half_moves};
-ghost use Rattle.desk_boards.specs.Boards.{boards_acked, boards_after, flag_at, latest, new_boards, numbered, other_place, reply_at, word_at};
+ghost use Rattle.desk_boards.specs.Boards.{boards_acked, boards_after, flag_at, latest, new_boards, reply_at, word_at, place};
 
+use crate::board_number::BoardNumber;
 use crate::linked::play_linked;
 use chess_model::{Colour, Man, MoveWord, Terms, Variant, Why};
+use clock_ledger::Moment;
 use fics_words::Refusal;
 use game_board::{GameBoard, Played};
 use memory::NoMemory;
@@ -42,8 +44,7 @@ impl Model for Boards {
 
 impl Boards {
     /// The boards at the start of a game: as many as the variant wants.
-    pub fn start(alloc: Global, terms: Terms, moment: u64) -> Result<Boards, NoMemory>
-        requires { moment ≤ last_moment }
+    pub fn start(alloc: Global, terms: Terms, moment: Moment) -> Result<Boards, NoMemory>
         ensures boards { IfOk result (λ boards. boards ≡ new_boards terms moment) }
         ensures order { IfOk result (λ boards. latest boards ≤ moment) }
     {
@@ -86,96 +87,81 @@ impl Boards {
         (&self.first, self.second.as_ref())
     }
 
-    /// The board in that place, 0 or 1.
-    pub fn at(&self, place: u8) -> Option<&GameBoard>
-        ensures { option_copied result ≡ slice_get self.now place }
+    /// The board of that number, if the game has it.
+    pub fn at(&self, board: BoardNumber) -> Option<&GameBoard>
+        ensures { option_copied result ≡ slice_get self.now (place board) }
     {
-        match place {
-            0 => Some(&self.first),
-            1 => self.second.as_ref(),
-            _ => None,
+        match board {
+            BoardNumber::First => Some(&self.first),
+            BoardNumber::Second => self.second.as_ref(),
         }
     }
 
-    /// The board of that number, 1 or 2.
-    pub fn numbered(&self, number: u8) -> Option<&GameBoard>
-        ensures { option_copied result ≡ numbered number self.now }
-    {
-        match number {
-            1 => Some(&self.first),
-            2 => self.second.as_ref(),
-            _ => None,
-        }
-    }
-
-    /// Plays a word of a colour at the board in that place, with the stamp of its client if it has one, and gives the
-    /// man that the half-move captures. The other board of a pair learns of it. Takes no memory.
+    /// Plays a word of a colour at a board, with the stamp of its client if it has one, and gives the man that the
+    /// half-move captures. The other board of a pair learns of it. Takes no memory.
     pub fn play(
         &mut self,
-        place: u8,
+        board: BoardNumber,
         colour: Colour,
         word: &MoveWord,
-        moment: u64,
+        moment: Moment,
         stamp: Option<u32>,
     ) -> Result<Option<Man>, Refusal>
         requires order { latest self.old ≤ moment }
-        requires moment { moment ≤ last_moment }
         requires stamp { IfSome stamp IsStamp }
-        ensures refused { first_cause (refused_by (word_at (slice_get self.old place) colour word.now))
+        ensures refused { first_cause (refused_by (word_at (slice_get self.old (place board)) colour word.now))
             ≡ refusal_of result }
-        ensures reply { result ≡ reply_at (slice_get self.old place)
-            (word_at (slice_get self.old place) colour word.now) }
-        ensures after { self.new ≡ boards_after self.old place moment stamp
-            (word_at (slice_get self.old place) colour word.now) }
+        ensures reply { result ≡ reply_at (slice_get self.old (place board))
+            (word_at (slice_get self.old (place board)) colour word.now) }
+        ensures after { self.new ≡ boards_after self.old board moment stamp
+            (word_at (slice_get self.old (place board)) colour word.now) }
         ensures unchanged { OnErr result (self.new ≡ self.old) }
         ensures order { latest self.new ≤ moment }
     {
-        match place {
-            0 => match &mut self.second {
+        match board {
+            BoardNumber::First => match &mut self.second {
                 Some(second) => play_linked(&mut self.first, second, colour, word, moment, stamp),
                 None => self.first.play(colour, word, moment, stamp),
             },
-            1 => match &mut self.second {
+            BoardNumber::Second => match &mut self.second {
                 Some(second) => play_linked(second, &mut self.first, colour, word, moment, stamp),
                 None => Err(Refusal::NotPlaying),
             },
-            _ => Err(Refusal::NotPlaying),
         }
     }
 
-    /// Puts a half-move on the board in that place, with the charge that it has. The other board of a pair learns of
-    /// it. Takes no memory.
-    pub(crate) fn put(&mut self, place: u8, half: &Played)
-        requires takes { IsTrue (own_takes (slice_get self.old place) half.now) }
-        requires short { IfSome (slice_get self.old place) (λ b. length b.list < most_halves) }
+    /// Puts a half-move on a board, with the charge that it has. The other board of a pair learns of it. Takes no
+    /// memory.
+    pub(crate) fn put(&mut self, board: BoardNumber, half: &Played)
+        requires takes { IsTrue (own_takes (slice_get self.old (place board)) half.now) }
+        requires short { IfSome (slice_get self.old (place board)) (λ b. length b.list < most_halves) }
         requires sound { IfSome half.now.charge IsChargeable }
-        ensures after { self.new ≡ boards_put self.old place half.now }
+        ensures after { self.new ≡ boards_put self.old board half.now }
     {
-        self.lay(place, half);
+        self.lay(board, half);
     }
 
-    /// The client of a colour acknowledges the board in that place.
-    pub fn acked(&mut self, place: u8, colour: Colour, stamp: u32)
+    /// The client of a colour acknowledges a board.
+    pub fn acked(&mut self, board: BoardNumber, colour: Colour, stamp: u32)
         requires { IsStamp stamp }
-        ensures after { self.new ≡ boards_acked self.old place colour stamp }
+        ensures after { self.new ≡ boards_acked self.old board colour stamp }
         ensures order { latest self.new ≡ latest self.old }
     {
-        match place {
-            0 => self.first.acked(colour, stamp),
-            1 => {
-                if let Some(board) = &mut self.second {
-                    board.acked(colour, stamp);
+        match board {
+            BoardNumber::First => self.first.acked(colour, stamp),
+            BoardNumber::Second => {
+                if let Some(second) = &mut self.second {
+                    second.acked(colour, stamp);
                 }
             }
-            _ => {}
         }
     }
 
-    /// The draw that may be claimed at the board in that place, if there is one.
-    pub fn claim(&self, place: u8) -> Option<Why>
-        ensures { result ≡ claim_at (slice_get self.now place) }
+    /// The draw that may be claimed at a board, if there is one.
+    pub fn claim(&self, board: BoardNumber) -> Option<Why>
+        ensures { result ≡ claim_at (slice_get self.now (place board)) }
     {
-        let board = self.at(place)?;
+        let board = self.at(board)?;
         match board.claim_draw() {
             Ok(why) => Some(why),
             Err(_) => None,
@@ -190,9 +176,8 @@ impl Boards {
     }
 
     /// Takes the last `n` half-moves of the first board back, unless it is one of a pair.
-    pub fn take_back(&mut self, n: u16, moment: u64)
+    pub fn take_back(&mut self, n: u16, moment: Moment)
         requires order { latest self.old ≤ moment }
-        requires moment { moment ≤ last_moment }
         ensures after { self.new ≡ boards_taken_back self.old n moment }
         ensures order { latest self.new ≤ moment }
     {
@@ -210,26 +195,22 @@ impl Boards {
         }
     }
 
-    /// What the flag that a colour calls at the board in that place brings.
-    pub fn flag(&self, place: u8, caller: Colour, moment: u64) -> Result<Option<Colour>, Refusal>
+    /// What the flag that a colour calls at a board brings.
+    pub fn flag(
+        &self,
+        board: BoardNumber,
+        caller: Colour,
+        moment: Moment,
+    ) -> Result<Option<Colour>, Refusal>
         requires order { latest self.now ≤ moment }
-        requires moment { moment ≤ last_moment }
-        ensures { result ≡ flag_at (slice_get self.now place) caller moment }
+        ensures { result ≡ flag_at (slice_get self.now (place board)) caller moment }
     {
-        match place {
-            0 => self.first.flag(caller, moment),
-            1 => match &self.second {
-                Some(board) => board.flag(caller, moment),
+        match board {
+            BoardNumber::First => self.first.flag(caller, moment),
+            BoardNumber::Second => match &self.second {
+                Some(second) => second.flag(caller, moment),
                 None => Err(Refusal::NotPlaying),
             },
-            _ => Err(Refusal::NotPlaying),
         }
     }
-}
-
-/// The place of the other board of a pair.
-pub fn other_place(place: u8) -> u8
-    ensures { result ≡ other_place place }
-{
-    if place == 0 { 1 } else { 0 }
 }

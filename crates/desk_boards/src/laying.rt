@@ -5,8 +5,10 @@ ghost use Rattle.chess_model.specs.Allowed.{Allowed};
 ghost use Rattle.clock_ledger.specs.Charges.{IsChargeable};
 ghost use Rattle.game_board.specs.Board.{position_of};
 ghost use Rattle.game_board.specs.Rewind.{rewound};
+ghost use Rattle.desk_boards.specs.Boards.{place};
 ghost use Rattle.desk_boards.specs.Replaying.{boards_put};
 
+use crate::board_number::BoardNumber;
 use crate::boards::Boards;
 use crate::linked::lay_linked;
 use game_board::Played;
@@ -23,29 +25,28 @@ impl Boards {
         }
     }
 
-    /// Lays an allowed half-move on the board in that place, with the charge that it has, if it has one; whether a
-    /// charge belongs there isn't asked. The other board of a pair learns of it. Takes no memory.
-    pub fn lay(&mut self, place: u8, half: &Played)
-        requires board { IsSome (slice_get self.old place) }
-        requires allowed { IfSome (slice_get self.old place) (λ b. Allowed (position_of b) half.now.what) }
-        requires room { IfSome (slice_get self.old place) (λ b. b.played < most_halves) }
-        requires short { IfSome (slice_get self.old place) (λ b. length b.list < most_halves) }
+    /// Lays an allowed half-move on a board, with the charge that it has, if it has one; whether a charge belongs there
+    /// isn't asked. The other board of a pair learns of it. Takes no memory.
+    pub fn lay(&mut self, board: BoardNumber, half: &Played)
+        requires there { IsSome (slice_get self.old (place board)) }
+        requires allowed { IfSome (slice_get self.old (place board)) (λ b. Allowed (position_of b) half.now.what) }
+        requires room { IfSome (slice_get self.old (place board)) (λ b. b.played < most_halves) }
+        requires short { IfSome (slice_get self.old (place board)) (λ b. length b.list < most_halves) }
         requires sound { IfSome half.now.charge IsChargeable }
-        ensures after { self.new ≡ boards_put self.old place half.now }
+        ensures after { self.new ≡ boards_put self.old board half.now }
     {
-        match place {
-            0 => match &mut self.second {
+        match board {
+            BoardNumber::First => match &mut self.second {
                 Some(second) => lay_linked(&mut self.first, second, half),
                 None => {
                     let _captured = self.first.lay(*half);
                 }
             },
-            1 => {
+            BoardNumber::Second => {
                 if let Some(second) = &mut self.second {
                     lay_linked(second, &mut self.first, half);
                 }
             }
-            _ => {}
         }
     }
 }

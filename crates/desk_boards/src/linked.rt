@@ -2,7 +2,7 @@
 ghost use Rattle.std.specs.Prelude.{◌≡◌, ◌<◌, ◌≤◌, IfSome, OnErr, length};
 ghost use Rattle.chess_model.specs.Limits.{most_halves};
 ghost use Rattle.chess_model.specs.Allowed.{Allowed};
-ghost use Rattle.clock_ledger.specs.Charges.{IsChargeable, last_moment};
+ghost use Rattle.clock_ledger.specs.Charges.{IsChargeable};
 ghost use Rattle.clock_ledger.specs.Span.{IsStamp};
 ghost use Rattle.game_board.specs.Board.{position_of};
 ghost use Rattle.game_board.specs.Learn.{learnt};
@@ -12,6 +12,7 @@ ghost use Rattle.desk_boards.specs.Boards.{told_answer};
 ghost use Rattle.desk_boards.specs.Linked.{AreLinked};
 
 use chess_model::{Colour, Man, MoveWord};
+use clock_ledger::Moment;
 use fics_words::Refusal;
 use game_board::{GameBoard, Played};
 
@@ -23,12 +24,11 @@ pub(crate) fn play_linked(
     other: &mut GameBoard,
     colour: Colour,
     word: &MoveWord,
-    moment: u64,
+    moment: Moment,
     stamp: Option<u32>,
 ) -> Result<Option<Man>, Refusal>
     requires linked { AreLinked own.old other.old }
     requires order { own.old.begin ≤ moment }
-    requires moment { moment ≤ last_moment }
     requires stamp { IfSome stamp IsStamp }
     ensures reply { result ≡ play_reply own.old (move_answer own.old colour word.now) }
     ensures own { own.new ≡ play_after own.old moment stamp (move_answer own.old colour word.now) }

@@ -1,15 +1,16 @@
 //! Games that are played again.
-ghost use Rattle.std.specs.Prelude.{◌≡◌, ◌<◌, ◌≤◌, IfOk, IfSome, IsTrue, length};
+ghost use Rattle.std.specs.Prelude.{◌≡◌, ◌<◌, IfOk, IfSome, IsTrue, length, slice_get};
 ghost use Rattle.std.specs.List.{AllByRecursion};
 ghost use Rattle.chess_model.specs.Limits.{most_halves};
-ghost use Rattle.clock_ledger.specs.Charges.{last_moment};
 ghost use Rattle.game_records.specs.Bounds.{IsCharge};
-ghost use Rattle.desk_boards.specs.Boards.{numbered};
+ghost use Rattle.desk_boards.specs.Boards.{place};
 ghost use Rattle.desk_boards.specs.Halves.{played_of};
 ghost use Rattle.desk_boards.specs.Replaying.{goes_on, replayed, takes_half};
 
+use crate::board_number::BoardNumber;
 use crate::boards::Boards;
 use chess_model::Terms;
+use clock_ledger::Moment;
 use game_board::{GameBoard, Played};
 use game_records::{Half, PackedHalf};
 use memory::NoMemory;
@@ -24,35 +25,38 @@ impl Boards {
         alloc: Global,
         terms: Terms,
         halves: &[PackedHalf],
-        moment: u64,
+        moment: Moment,
     ) -> Result<Option<Boards>, NoMemory>
-        requires moment { moment ≤ last_moment }
         requires charges { AllByRecursion (λ h. IsCharge h.charge) halves.now }
         ensures { IfOk result (λ boards. boards ≡ replayed terms halves.now moment) }
     {
         let mut boards = Boards::start(alloc, terms, moment)?;
         for half in halves {
             let it = half.unpacked();
-            if !boards.takes(&it) {
+            let Some(board) = BoardNumber::of(it.board) else {
+                return Ok(None);
+            };
+            let played = played_of(&it);
+            if !boards.takes(board, &played) {
                 return Ok(None);
             }
-            boards.put(it.board - 1, &played_of(&it));
+            boards.put(board, &played);
         }
         Ok(Some(boards))
     }
 
-    /// Whether the boards take a half-move with the charge that it has.
-    fn takes(&self, half: &Half) -> bool
-        ensures value { result ≡ takes_half self.now half.now }
-        ensures short { IsTrue result → IfSome (numbered half.now.board self.now) (λ b. length b.list < most_halves) }
+    /// Whether the boards take a half-move at this one, with the charge that it has.
+    fn takes(&self, board: BoardNumber, half: &Played) -> bool
+        ensures value { result ≡ takes_half self.now board half.now }
+        ensures short { IsTrue result → IfSome (slice_get self.now (place board)) (λ b. length b.list < most_halves) }
     {
-        let Some(own) = self.numbered(half.board) else {
+        let Some(own) = self.at(board) else {
             return false;
         };
-        if !own.takes(&played_of(half)) {
+        if !own.takes(half) {
             return false;
         }
-        match self.numbered(3u8.saturating_sub(half.board)) {
+        match self.at(board.other()) {
             Some(other) => goes_on(other),
             None => true,
         }

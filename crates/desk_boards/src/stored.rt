@@ -1,13 +1,13 @@
 //! Stored games that replay.
 ghost use Rattle.std.specs.Prelude.{◌≡◌, ◌≤◌, ◌↔◌, map, bytes_eq, IfOk, IfSome, IsSome, IsTrue, Some};
 ghost use Rattle.std.specs.List.{IsDistinct, list_any};
-ghost use Rattle.clock_ledger.specs.Charges.{last_moment};
 ghost use Rattle.fics_words.specs.Handle.{key_of};
 ghost use Rattle.game_records.specs.Replays.{AreFour, Replays};
 ghost use Rattle.desk_boards.specs.Replaying.{replayed};
 
 use crate::boards::Boards;
 use chess_model::Variant;
+use clock_ledger::Moment;
 use fics_words::Handle;
 use game_records::{StoredGame, is_game};
 use memory::NoMemory;
@@ -17,7 +17,7 @@ use std::alloc::Global;
 pub fn replays(alloc: Global, game: &StoredGame) -> Result<bool, NoMemory>
     ensures { IfOk result (λ so. IsTrue so ↔ Replays game.now) }
 {
-    let boards = Boards::of_stored(alloc, game, 0)?;
+    let boards = Boards::of_stored(alloc, game, Moment::new(0))?;
     Ok(boards.is_some())
 }
 
@@ -27,9 +27,8 @@ impl Boards {
     pub fn of_stored(
         alloc: Global,
         game: &StoredGame,
-        moment: u64,
+        moment: Moment,
     ) -> Result<Option<Boards>, NoMemory>
-        requires { moment ≤ last_moment }
         ensures replays { IfOk result (λ boards. IsSome boards ↔ Replays game.now) }
         ensures boards { IfOk result (λ found. IfSome found (λ boards.
             replayed game.now.terms game.now.halves moment ≡ Some boards)) }

@@ -1,5 +1,5 @@
 -- The boards after half-moves, and after one more.
-use Rattle.std.proofs.Common.{◌≡◌, ℕ, ◌+◌, ◌-◌, ◌≤◌, zero, suc, true, false, nat_eq, if◌then◌else◌, List, [], ◌∷◌, ◌++◌, length, map, filter, Some, None, refl, sym, ap, ◌∙◌, arith}
+use Rattle.std.proofs.Common.{◌≡◌, ℕ, ◌+◌, ◌≤◌, suc, true, false, nat_eq, if◌then◌else◌, List, [], ◌∷◌, ◌++◌, length, map, filter, Some, None, refl, sym, ap, ◌∙◌, arith}
 use Rattle.std.specs.Prelude.{slice_get}
 use Rattle.std.proofs.lemmas.Bool.Decides.{nat_tests}
 use Rattle.std.proofs.lemmas.List.{length_push, map-append}
@@ -13,7 +13,9 @@ use Rattle.game_board.specs.Rewind.{rewound}
 use Rattle.game_records.specs.declared.stored_game.Half.{Half}
 use Rattle.game_records.specs.Bounds as bounds
 use Rattle.game_records.specs.Replays.{half_moves, made_on}
-use Rattle.desk_boards.specs.Boards.{board_numbers}
+use Rattle.desk_boards.specs.Boards.{board_numbers, number_of, place}
+use Rattle.desk_boards.specs.declared.board_number.BoardNumber.{BoardNumber}
+use Rattle.desk_boards.specs.declared.board_number.BoardNumber.TheVariants.{First, Second}
 use Rattle.desk_boards.specs.Halves.{list_on, played_of}
 use Rattle.desk_boards.specs.Replaying.{boards_put}
 use Rattle.desk_boards.proofs.Halved.{list_on-own, list_on-else}
@@ -81,51 +83,48 @@ board_told t halves h n other number =
 
 -- ---- all boards
 
-one_board : (t : Terms) (halves : List Half) (h : Half) → 1 ≤ h.board → h.board ≤ 1 →
-    boards_put (board_after t halves 1 ∷ []) (h.board - 1) (played_of h) ≡ board_after t (halves ++ h ∷ []) 1 ∷ []
-one_board t halves h first last =
-    let own : h.board ≡ 1 = omega (arith, first, last) in
-    ap (λ k. boards_put (board_after t halves 1 ∷ []) (k - 1) (played_of h)) own ∙ ap (λ b. b ∷ []) (board_more t halves h 1 own)
+one_board : (t : Terms) (halves : List Half) (h : Half) (board : BoardNumber) → h.board ≡ number_of board → h.board ≤ 1 →
+    boards_put (board_after t halves 1 ∷ []) board (played_of h) ≡ board_after t (halves ++ h ∷ []) 1 ∷ []
+one_board t halves h First own last = ap (λ b. b ∷ []) (board_more t halves h 1 own)
+one_board t halves h Second own last = absurd (omega (arith, own, last))
 
-two_boards : (t : Terms) (halves : List Half) (h : Half) (n : ℕ) → h.board ≡ n → 1 ≤ n → n ≤ 2 →
-    boards_put (board_after t halves 1 ∷ board_after t halves 2 ∷ []) (n - 1) (played_of h)
+two_boards : (t : Terms) (halves : List Half) (h : Half) (board : BoardNumber) → h.board ≡ number_of board →
+    boards_put (board_after t halves 1 ∷ board_after t halves 2 ∷ []) board (played_of h)
     ≡ board_after t (halves ++ h ∷ []) 1 ∷ board_after t (halves ++ h ∷ []) 2 ∷ []
-two_boards t halves h zero own first last = absurd (omega (arith, first))
-two_boards t halves h (suc zero) own first last =
+two_boards t halves h First own =
     let other : nat_eq h.board 2 ≡ false = let same = own in grind (arith, nat_tests, same) in
     λ i. board_more t halves h 1 own i ∷ board_told t halves h 2 other (sym own) i ∷ []
-two_boards t halves h (suc (suc zero)) own first last =
+two_boards t halves h Second own =
     let other : nat_eq h.board 1 ≡ false = let same = own in grind (arith, nat_tests, same) in
     λ i. board_told t halves h 1 other (sym own) i ∷ board_more t halves h 2 own i ∷ []
-two_boards t halves h (suc (suc (suc n))) own first last = absurd (omega (arith, last))
 
-boards_more : (v : Variant) (t : Terms) (halves : List Half) (h : Half) → 1 ≤ h.board → h.board ≤ bounds.boards v →
-    boards_put (map (board_after t halves) (board_numbers v)) (h.board - 1) (played_of h) ≡ map (board_after t (halves ++ h ∷ [])) (board_numbers v)
-boards_more Chess t halves h first last = one_board t halves h first last
-boards_more Crazyhouse t halves h first last = one_board t halves h first last
-boards_more (Fischer number) t halves h first last = one_board t halves h first last
-boards_more Bughouse t halves h first last = two_boards t halves h h.board refl first last
+boards_more : (v : Variant) (t : Terms) (halves : List Half) (h : Half) (board : BoardNumber) → h.board ≡ number_of board → h.board ≤ bounds.boards v →
+    boards_put (map (board_after t halves) (board_numbers v)) board (played_of h) ≡ map (board_after t (halves ++ h ∷ [])) (board_numbers v)
+boards_more Chess t halves h board own last = one_board t halves h board own last
+boards_more Crazyhouse t halves h board own last = one_board t halves h board own last
+boards_more (Fischer number) t halves h board own last = one_board t halves h board own last
+boards_more Bughouse t halves h board own last = two_boards t halves h board own
 
 -- a half-move more is laid on the boards
-pub boards_laid : (t : Terms) (halves : List Half) (h : Half) → 1 ≤ h.board → h.board ≤ bounds.boards t.variant →
-    boards_put (boards_after t halves) (h.board - 1) (played_of h) ≡ boards_after t (halves ++ h ∷ [])
-boards_laid t halves h first last = boards_more t.variant t halves h first last
+pub boards_laid : (t : Terms) (halves : List Half) (h : Half) (board : BoardNumber) → h.board ≡ number_of board → h.board ≤ bounds.boards t.variant →
+    boards_put (boards_after t halves) board (played_of h) ≡ boards_after t (halves ++ h ∷ [])
+boards_laid t halves h board own last = boards_more t.variant t halves h board own last
 
--- the board of a number
-board_in : (v : Variant) (t : Terms) (halves : List Half) (n : ℕ) → 1 ≤ n → n ≤ bounds.boards v → slice_get (map (board_after t halves) (board_numbers v)) (n - 1) ≡ Some (board_after t halves n)
-board_in v t halves zero first last = absurd (omega (arith, first))
-board_in Chess t halves (suc zero) first last = refl
-board_in Crazyhouse t halves (suc zero) first last = refl
-board_in (Fischer number) t halves (suc zero) first last = refl
-board_in Bughouse t halves (suc zero) first last = refl
-board_in Bughouse t halves (suc (suc zero)) first last = refl
-board_in Chess t halves (suc (suc n)) first last = absurd (omega (arith, last))
-board_in Crazyhouse t halves (suc (suc n)) first last = absurd (omega (arith, last))
-board_in (Fischer number) t halves (suc (suc n)) first last = absurd (omega (arith, last))
-board_in Bughouse t halves (suc (suc (suc n))) first last = absurd (omega (arith, last))
+-- a board in its place
+board_in : (v : Variant) (t : Terms) (halves : List Half) (board : BoardNumber) → number_of board ≤ bounds.boards v →
+    slice_get (map (board_after t halves) (board_numbers v)) (place board) ≡ Some (board_after t halves (number_of board))
+board_in Chess t halves First last = refl
+board_in Crazyhouse t halves First last = refl
+board_in (Fischer number) t halves First last = refl
+board_in Bughouse t halves First last = refl
+board_in Bughouse t halves Second last = refl
+board_in Chess t halves Second last = absurd (omega (arith, last))
+board_in Crazyhouse t halves Second last = absurd (omega (arith, last))
+board_in (Fischer number) t halves Second last = absurd (omega (arith, last))
 
-pub board_there : (t : Terms) (halves : List Half) (n : ℕ) → 1 ≤ n → n ≤ bounds.boards t.variant → slice_get (boards_after t halves) (n - 1) ≡ Some (board_after t halves n)
-board_there t halves n first last = board_in t.variant t halves n first last
+pub board_there : (t : Terms) (halves : List Half) (board : BoardNumber) → number_of board ≤ bounds.boards t.variant →
+    slice_get (boards_after t halves) (place board) ≡ Some (board_after t halves (number_of board))
+board_there t halves board last = board_in t.variant t halves board last
 
 -- the boards at the start of the game
 rewound_in : (v : Variant) (t : Terms) (halves : List Half) → map rewound (map (board_after t halves) (board_numbers v)) ≡ map (board_after t []) (board_numbers v)

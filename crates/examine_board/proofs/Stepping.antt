@@ -1,12 +1,16 @@
 -- The next half-move of an exam is laid on the boards.
-use Rattle.std.proofs.Common.{◌≡◌, ℕ, ◌+◌, ◌-◌, ◌<◌, List, [], ◌∷◌, ◌++◌, length, take, Option, Some, None, refl, sym, ap, subst, ◌∙◌, add-one}
+use Rattle.std.proofs.Common.{◌≡◌, ℕ, ◌+◌, ◌<◌, ◌≤◌, List, [], ◌∷◌, ◌++◌, length, take, Option, Some, None, refl, sym, ap, subst, ◌∙◌, add-one}
 use Rattle.std.specs.Prelude.{IfSome, IsSome, slice_get}
 use Rattle.chess_model.specs.declared.variant.Terms.{Terms}
 use Rattle.chess_model.specs.Allowed.{Allowed}
 use Rattle.game_board.specs.Board.{Board, position_of}
 use Rattle.game_records.specs.declared.stored_game.Half.{Half}
+use Rattle.desk_boards.specs.Boards.{number_of, numbered, place}
+use Rattle.desk_boards.specs.declared.board_number.BoardNumber.{BoardNumber}
 use Rattle.desk_boards.specs.Halves.{played_of}
 use Rattle.desk_boards.specs.Replaying.{boards_put}
+use Rattle.desk_boards.proofs.Pairs.{number_of-numbered}
+use Rattle.game_records.specs.Bounds as bounds
 use Rattle.examine_board.specs.Exam.{board_after, boards_after}
 use Rattle.examine_board.specs.Laid.{MayLie}
 use Rattle.examine_board.proofs.Boards.{board_there, boards_laid}
@@ -23,24 +27,31 @@ allowed_on : (t : Terms) (halves : List Half) (h : Half) → MayLie t halves h �
 unfolding position_of
 allowed_on t halves h lies = lies.allowed
 
-module _ (t : Terms) (halves : List Half) (h : Half) (boards : List Board) (lies : MayLie t halves h) (are : boards ≡ boards_after t halves) where
-  there : slice_get boards (h.board - 1) ≡ Some (board_after t halves h.board)
-  there = ap (λ (bs : List Board). slice_get bs (h.board - 1)) are ∙ board_there t halves h.board lies.first lies.last
+module _ (t : Terms) (halves : List Half) (h : Half) (board : BoardNumber) (boards : List Board) (on : numbered h.board ≡ Some board) (lies : MayLie t halves h)
+    (are : boards ≡ boards_after t halves) where
+  own : number_of board ≡ h.board
+  own = number_of-numbered h.board board on
 
-  pub lay_board : IsSome (slice_get boards (h.board - 1))
-  lay_board = there_some (slice_get boards (h.board - 1)) (board_after t halves h.board) there
+  there : slice_get boards (place board) ≡ Some (board_after t halves h.board)
+  there =
+      ap (λ (bs : List Board). slice_get bs (place board)) are
+      ∙ board_there t halves board (subst (λ (n : ℕ). n ≤ bounds.boards t.variant) (sym own) lies.last)
+      ∙ ap (λ (n : ℕ). Some (board_after t halves n)) own
 
-  pub lay_allowed : IfSome (slice_get boards (h.board - 1)) (λ b. Allowed (position_of b) h.what)
-  lay_allowed = there_if (λ b. Allowed (position_of b) h.what) (slice_get boards (h.board - 1)) (board_after t halves h.board) there (allowed_on t halves h lies)
+  pub lay_board : IsSome (slice_get boards (place board))
+  lay_board = there_some (slice_get boards (place board)) (board_after t halves h.board) there
 
-  pub lay_room : IfSome (slice_get boards (h.board - 1)) (λ b. b.played < 1200)
-  lay_room = there_if (λ b. b.played < 1200) (slice_get boards (h.board - 1)) (board_after t halves h.board) there lies.room
+  pub lay_allowed : IfSome (slice_get boards (place board)) (λ b. Allowed (position_of b) h.what)
+  lay_allowed = there_if (λ b. Allowed (position_of b) h.what) (slice_get boards (place board)) (board_after t halves h.board) there (allowed_on t halves h lies)
 
-  pub lay_short : IfSome (slice_get boards (h.board - 1)) (λ b. length b.list < 1200)
-  lay_short = there_if (λ b. length b.list < 1200) (slice_get boards (h.board - 1)) (board_after t halves h.board) there lies.room
+  pub lay_room : IfSome (slice_get boards (place board)) (λ b. b.played < 1200)
+  lay_room = there_if (λ b. b.played < 1200) (slice_get boards (place board)) (board_after t halves h.board) there lies.room
 
-  pub laid : (new : List Board) → new ≡ boards_put boards (h.board - 1) (played_of h) → new ≡ boards_after t (halves ++ h ∷ [])
-  laid new put = put ∙ ap (λ (bs : List Board). boards_put bs (h.board - 1) (played_of h)) are ∙ boards_laid t halves h lies.first lies.last
+  pub lay_short : IfSome (slice_get boards (place board)) (λ b. length b.list < 1200)
+  lay_short = there_if (λ b. length b.list < 1200) (slice_get boards (place board)) (board_after t halves h.board) there lies.room
+
+  pub laid : (new : List Board) → new ≡ boards_put boards board (played_of h) → new ≡ boards_after t (halves ++ h ∷ [])
+  laid new put = put ∙ ap (λ (bs : List Board). boards_put bs board (played_of h)) are ∙ boards_laid t halves h board (sym own) lies.last
 
 -- the first half-moves with the next one
 pub next_first : (list : List Half) (point : ℕ) (h : Half) → slice_get list point ≡ Some h → take point list ++ h ∷ [] ≡ take (point + 1) list

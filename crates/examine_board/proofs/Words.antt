@@ -20,6 +20,7 @@ use Rattle.game_board.specs.Play.{move_answer}
 use Rattle.game_records.specs.declared.stored_game.Half.{Half}
 use Rattle.game_records.specs.Bounds as bounds
 use Rattle.desk_boards.specs.Boards.{board_numbers}
+use Rattle.desk_boards.specs.declared.board_number.BoardNumber.TheVariants.{First}
 use Rattle.desk_boards.specs.Halves.{list_on}
 use Rattle.examine_board.specs.Exam.{ExamState, board_after, board_on, boards_after, present}
 use Rattle.examine_board.specs.Laid.{CanBeLaid, MayLie}
@@ -55,7 +56,7 @@ first_in Bughouse t halves b rest e = cc
 pub first_is : (t : Terms) (halves : List Half) (b : Board) (rest : List Board) → b ∷ rest ≡ boards_after t halves → b ≡ board_after t halves 1
 first_is t halves b rest e = first_in t.variant t halves b rest e
 
-pub position_is : (e : ExamState) (b : Board) → b ≡ board_on e 1 → position_of b ≡ position e
+pub position_is : (e : ExamState) (b : Board) → b ≡ board_on e First → position_of b ≡ position e
 unfolding position_of
 position_is e b is = ap position_of is
 
@@ -73,12 +74,12 @@ answer_over e w single over =
     sym (λ i. option_map_or Err (cond (single i) (Some NotInVariant) (cond (over i) (Some GameOver) (cond (e.point == 1200) (Some TooManyMoves) None))) (in_words (word_answer (position e) w)))
 
 board_answers : (e : ExamState) (w : MoveWord) → length (list_on 1 (present e)) ≡ e.point →
-    move_answer (board_on e 1) (to_move (board_on e 1)) w ≡ option_map_or Err (cond (e.point == 1200) (Some TooManyMoves) None) (in_words (word_answer (position e) w))
+    move_answer (board_on e First) (to_move (board_on e First)) w ≡ option_map_or Err (cond (e.point == 1200) (Some TooManyMoves) None) (in_words (word_answer (position e) w))
 unfolding move_answer position_of
 board_answers e w count =
-    λ i. option_map_or Err (cond (not (same_colour-self (to_move (board_on e 1)) i)) (Some NotYourTurn) (cond (count i == 1200) (Some TooManyMoves) None)) (in_words (word_answer (position e) w))
+    λ i. option_map_or Err (cond (not (same_colour-self (to_move (board_on e First)) i)) (Some NotYourTurn) (cond (count i == 1200) (Some TooManyMoves) None)) (in_words (word_answer (position e) w))
 
-pub answer_word : (e : ExamState) (w : MoveWord) (b : Board) → is_pair e.terms.variant ≡ false → is_end (result (position e)) ≡ false → b ≡ board_on e 1 →
+pub answer_word : (e : ExamState) (w : MoveWord) (b : Board) → is_pair e.terms.variant ≡ false → is_end (result (position e)) ≡ false → b ≡ board_on e First →
     length (list_on 1 (present e)) ≡ e.point → move_answer b (to_move b) w ≡ play_answer e w
 unfolding play_answer
 answer_word e w b single on is count =
@@ -90,7 +91,7 @@ answer_word e w b single on is count =
 pub record Going (e : ExamState) (b : Board) : Type 0 where
   pub single : is_pair e.terms.variant ≡ false
   pub on : is_end (result (position e)) ≡ false
-  pub is : b ≡ board_on e 1
+  pub is : b ≡ board_on e First
   pub count : length (list_on 1 (present e)) ≡ e.point
 
 pub going : (e : ExamState) (b : Board) (rest : List Board) → is_pair e.terms.variant ≡ false → is_end (result (position_of b)) ≡ false → b ∷ rest ≡ boards_after e.terms (present e)

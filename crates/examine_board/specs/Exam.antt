@@ -5,7 +5,8 @@ use Rattle.game_board.specs.Board.{Board}
 use Rattle.game_records.specs.declared.stored_game.Half.{Half}
 use Rattle.game_records.specs.declared.stored_game.StoredGame.{StoredGame}
 use Rattle.game_records.specs.Replays.{half_moves}
-use Rattle.desk_boards.specs.Boards.{board_numbers}
+use Rattle.desk_boards.specs.Boards.{board_numbers, number_of}
+use Rattle.desk_boards.specs.declared.board_number.BoardNumber.{BoardNumber}
 use Rattle.desk_boards.specs.Halves.{list_on}
 
 pub record ExamState : Type 0 where
@@ -44,6 +45,6 @@ board_after t halves number = record {
 abbrev pub boards_after : Terms → List Half → List Board
 boards_after t halves = map (board_after t halves) (board_numbers t.variant)
 
--- the board of that number where the exam is
-abbrev pub board_on : ExamState → ℕ → Board
-board_on e number = board_after e.terms (present e) number
+-- a board where the exam is
+abbrev pub board_on : ExamState → BoardNumber → Board
+board_on e board = board_after e.terms (present e) (number_of board)

@@ -5,8 +5,9 @@ use Rattle.chess_model.specs.declared.variant.Variant.TheVariants.{Chess}
 use Rattle.clock_ledger.specs.declared.charges.Charge.{Charge}
 use Rattle.fics_words.specs.declared.refusal.Refusal.TheVariants.{NoMoreMoves, NoEarlierMoves}
 use Rattle.game_records.specs.declared.stored_game.Half.{Half}
+use Rattle.desk_boards.specs.declared.board_number.BoardNumber.TheVariants.{First, Second}
 use Rattle.examine_board.specs.Exam.{ExamState}
-use Rattle.examine_board.specs.Lines.{last_board}
+use Rattle.examine_board.specs.Lines.{shown_behind}
 use Rattle.examine_board.specs.Play.{uncharged, with_move}
 use Rattle.examine_board.specs.Same.{shared_length}
 use Rattle.examine_board.specs.Steps.{backed, forwarded, reverted}
@@ -60,8 +61,8 @@ answered_otherwise : with_move (exam game 1) (Plain 50 34 None) ≡ exam (king_p
 answered_otherwise = refl
 
 -- the first board is shown at the start, and then that of the last half-move
-shown_at_the_start : last_board [] ≡ 1
+shown_at_the_start : shown_behind [] ≡ First
 shown_at_the_start = refl
 
-shown_of_a_pair : last_board (king_pawn ∷ record { board = 2; what = Plain 11 27 None; charge = None } ∷ []) ≡ 2
+shown_of_a_pair : shown_behind (king_pawn ∷ record { board = 2; what = Plain 11 27 None; charge = None } ∷ []) ≡ Second
 shown_of_a_pair = refl

@@ -5,6 +5,7 @@ ghost use Rattle.examine_board.specs.Exam.{opened};
 ghost use Rattle.examine_board.specs.Laid.{MayLie};
 
 use chess_model::{MOST_HALVES, Terms};
+use clock_ledger::Moment;
 use collections::{Listed, Roomy};
 use desk_boards::{Boards, replays};
 use fics_words::Handle;
@@ -66,7 +67,7 @@ impl Exam {
         let names = copied(alloc, game.names.as_slice())?;
         let stored = unpacked(alloc, game.halves.as_slice())?;
         let branch = Roomy::new(alloc)?;
-        let boards = Boards::start(alloc, game.terms, 0)?;
+        let boards = Boards::start(alloc, game.terms, Moment::new(0))?;
         let shared = stored.len();
         Ok(Exam {
             terms: game.terms,

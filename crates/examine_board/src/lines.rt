@@ -1,12 +1,13 @@
 //! The lines that show where the exam is.
 ghost use Rattle.std.specs.Prelude.{◌≡◌, ◌*◌, ◌<◌, ◌≤◌, ◌++◌, IfOk, OnOk};
-ghost use Rattle.chess_model.specs.Tests.{has_drops};
 ghost use Rattle.game_records.specs.Bounds as bounds;
+ghost use Rattle.desk_boards.specs.Boards.{number_of};
 ghost use Rattle.examine_board.specs.Exam.{board_on};
 ghost use Rattle.examine_board.specs.Lines.{exam_lines, hands_line, hands_lines, name_at, shown_board, view_of};
 
 use crate::exam::Exam;
-use chess_model::{Colour, Variant};
+use chess_model::{Colour, has_drops};
+use desk_boards::BoardNumber;
 use fics_words::{Handle, Line};
 use game_board::GameBoard;
 use memory::NoMemory;
@@ -32,26 +33,26 @@ impl Exam {
         Ok(lines)
     }
 
-    /// The number of the board that is shown.
-    fn shown_board(&self) -> u8
+    /// The board that is shown.
+    fn shown_board(&self) -> BoardNumber
         ensures value { result ≡ shown_board self.now }
-        ensures first { 1 ≤ result }
-        ensures last { result ≤ bounds.boards self.now.terms.variant }
+        ensures last { number_of result ≤ bounds.boards self.now.terms.variant }
     {
         if self.point == 0 {
-            return 1;
+            return BoardNumber::First;
         }
-        self.half(self.point - 1).board
+        let last = self.half(self.point - 1);
+        BoardNumber::of(last.board).unwrap_or(BoardNumber::First)
     }
 
-    /// What the line of the board of that number shows.
+    /// What the line of a board shows.
     #[tactic(auto, unfolding(crate::specs::Lines::view_of))]
-    fn view(&self, number: u8) -> BoardView
-        requires first { 1 ≤ number }
-        requires last { number ≤ bounds.boards self.now.terms.variant }
-        ensures { result ≡ view_of self.now number }
+    fn view(&self, shown: BoardNumber) -> BoardView
+        requires { number_of shown ≤ bounds.boards self.now.terms.variant }
+        ensures { result ≡ view_of self.now shown }
     {
-        let board = self.board(number);
+        let board = self.board(shown);
+        let number = shown.number();
         BoardView {
             face: board.face(),
             game: u16::from(number),
@@ -68,12 +69,11 @@ impl Exam {
     }
 
     /// The board of that number.
-    fn board(&self, number: u8) -> &GameBoard
-        requires first { 1 ≤ number }
-        requires last { number ≤ bounds.boards self.now.terms.variant }
+    fn board(&self, number: BoardNumber) -> &GameBoard
+        requires { number_of number ≤ bounds.boards self.now.terms.variant }
         ensures { result.now ≡ board_on self.now number }
     {
-        let Some(board) = self.boards.numbered(number) else {
+        let Some(board) = self.boards.at(number) else {
             unreachable!()
         };
         board
@@ -111,16 +111,4 @@ fn hands_line(alloc: Global, board: &GameBoard) -> Result<Line, NoMemory>
     let white = position.hand(Colour::White);
     let black = position.hand(Colour::Black);
     line_b1(alloc, u16::from(board.number()), &white, &black, None)
-}
-
-/// Whether men in hand belong to the variant.
-fn has_drops(variant: Variant) -> bool
-    ensures { result ≡ has_drops variant }
-{
-    match variant {
-        Variant::Chess => false,
-        Variant::Crazyhouse => true,
-        Variant::Bughouse => true,
-        Variant::Fischer(_) => false,
-    }
 }

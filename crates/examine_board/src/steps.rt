@@ -7,6 +7,7 @@ ghost use Rattle.examine_board.specs.Steps.{backed, forwarded, reverted};
 
 use crate::exam::Exam;
 use crate::same::is_same_half;
+use desk_boards::BoardNumber;
 use fics_words::Refusal;
 use game_board::Played;
 
@@ -93,7 +94,10 @@ impl Exam {
             what: half.what,
             charge: half.charge,
         };
-        self.boards.lay(half.board - 1, &played);
+        let Some(board) = BoardNumber::of(half.board) else {
+            unreachable!()
+        };
+        self.boards.lay(board, &played);
         self.point += 1;
     }
 

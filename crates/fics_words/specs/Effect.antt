@@ -63,12 +63,6 @@ Gives answer (Ok reply) = answer ≡ Ok reply
 Gives answer (Err (Refused cause)) = answer ≡ Err cause
 Gives answer (Err Memory) = Unit {0}
 
--- the fact holds where the call didn't run out of memory
-abbrev pub OnAnswer : {R : Type 0} → Result R Fail → Type 0 → Type 0
-OnAnswer (Ok reply) fact = fact
-OnAnswer (Err (Refused cause)) fact = fact
-OnAnswer (Err Memory) fact = Unit {0}
-
 -- the refusal in an answer, if it is one
 abbrev pub refusal_of : {R : Type 0} → Result R Refusal → Option Refusal
 refusal_of (Ok reply) = None

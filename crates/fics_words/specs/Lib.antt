@@ -1,8 +1,10 @@
+pub mod Desks
 pub mod Effect
 pub mod Handle
 pub mod HandleTest
 pub mod Line
 pub mod Lines
 pub mod Number
+pub mod Pieces
 pub mod Refusal
 pub mod Seats

@@ -6,7 +6,7 @@ ghost use Rattle.std.proofs.Common.{ap};
 ghost use Rattle.std.specs.Hash as fed;
 ghost use Rattle.std.specs.Cmp.Lexicographic.{bytes_decides, slice_cmp, nat_list_eq_equiv, nat_list_cmp_total, texts_po, texts_ties};
 ghost use Rattle.std.specs.Ordering.{nat_cmp};
-ghost use Rattle.fics_words.specs.Handle.{IsHandle, key_of, padded};
+ghost use Rattle.fics_words.specs.Handle.{IsHandle, key_of, most_handle_letters, padded};
 
 use memory::{Duplicate, NoMemory};
 use std::cmp::Ordering;
@@ -17,13 +17,13 @@ use std::marker::Model;
 const FEWEST: usize = 3;
 
 /// The most letters of a handle.
-const MOST: usize = 17;
+pub const MOST_HANDLE_LETTERS: usize = 17;
 
 /// A player's name, 3 to 17 ASCII letters, in the spelling that the player chose. Contracts see the list of
 /// its letters. Two handles name one player where their keys are equal; `==` compares the spelling.
 #[derive(Clone, Copy, Debug)]
 pub struct Handle {
-    bytes: [u8; 17],
+    bytes: [u8; MOST_HANDLE_LETTERS],
     len: usize,
 }
 
@@ -65,7 +65,7 @@ impl Handle {
         ensures { SomeIff result (IsHandle bytes.now) bytes.now }
     {
         if bytes.len() < FEWEST
-            || bytes.len() > MOST
+            || bytes.len() > MOST_HANDLE_LETTERS
             || !bytes.iter().all(|byte| byte.is_ascii_alphabetic())
         {
             return None;
@@ -191,11 +191,11 @@ impl Duplicate for HandleKey {
 }
 
 /// The letters in a field of 17 bytes, and zeros behind them.
-fn field_of(letters: &[u8]) -> [u8; 17]
-    requires { length letters.now ≤ 17 }
+fn field_of(letters: &[u8]) -> [u8; MOST_HANDLE_LETTERS]
+    requires { length letters.now ≤ most_handle_letters }
     ensures { result ≡ padded letters.now }
 {
-    let mut field = [0; 17];
+    let mut field = [0; MOST_HANDLE_LETTERS];
     field[..letters.len()].copy_from_slice(letters);
     field
 }

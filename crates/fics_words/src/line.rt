@@ -12,6 +12,9 @@ use std::marker::Model;
 /// The most bytes that a line has.
 pub const MOST_LINE_BYTES: usize = 1_023;
 
+/// The most bytes of a text that a player says.
+pub const MOST_TEXT_BYTES: usize = 800;
+
 /// A line: at most 1,023 bytes, each from 0x20 to 0x7E. Contracts see the list of its bytes.
 #[derive(Debug, Drop)]
 pub struct Line {

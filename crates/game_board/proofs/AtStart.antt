@@ -31,8 +31,8 @@ empty_board number terms position begin = record {
 }
 
 HoldsBoard-empty : (number : ℕ) (terms : Terms) (position : Position) (begin : ℕ) → 1 ≤ number → number ≤ 2 → position.variant ≡ terms.variant → Stands position [] number →
-    begin ≤ 2 ^ 48 → HoldsBoard (empty_board number terms position begin)
-HoldsBoard-empty number terms position begin first second variant stands moment = record {
+    HoldsBoard (empty_board number terms position begin)
+HoldsBoard-empty number terms position begin first second variant stands = record {
   stands = stands;
   first = first;
   second = second;
@@ -51,12 +51,11 @@ HoldsBoard-empty number terms position begin first second variant stands moment 
   counted = omega arith;
   most = omega arith;
   resumed = omega arith;
-  moment = moment;
 }
 
 pub HoldsBoard-at_start : (number : ℕ) (terms : Terms) (position : Position) (list : List Played) (steps : List Step) (white black : Ledger) (begin : ℕ) (all : List Made) →
     1 ≤ number → number ≤ 2 → position.variant ≡ terms.variant → Stands position [] number → list ≡ [] → steps ≡ [] → white ≡ clock_of terms White [] → black ≡ clock_of terms Black [] →
-    begin ≤ 2 ^ 48 → all ≡ [] →
+    all ≡ [] →
     HoldsBoard (record {
       number = number;
       terms = terms;
@@ -71,7 +70,7 @@ pub HoldsBoard-at_start : (number : ℕ) (terms : Terms) (position : Position) (
       resumed = 0;
       all = all;
     })
-HoldsBoard-at_start number terms position list steps white black begin all first second variant stands l s w b moment a =
+HoldsBoard-at_start number terms position list steps white black begin all first second variant stands l s w b a =
     let same : empty_board number terms position begin
     ≡ record {
       number = number;
@@ -101,4 +100,4 @@ HoldsBoard-at_start number terms position list steps white black begin all first
       resumed = 0;
       all = sym a i;
     } in
-    subst HoldsBoard same (HoldsBoard-empty number terms position begin first second variant stands moment)
+    subst HoldsBoard same (HoldsBoard-empty number terms position begin first second variant stands)

@@ -3,14 +3,10 @@ use Rattle.std.specs.Prelude.{nat_eq}
 use Rattle.std.proofs.lemmas.Bool.{eq-eqb, ne_eqb, or_right}
 use Rattle.std.proofs.Common.{◌≡◌, ◌≢◌, ℕ, ◌-◌, ◌||◌, suc, Bool, true, false, if◌then◌else◌, List, [], ◌∷◌, ◌++◌, length, take, refl, ap, ◌∙◌, arith}
 use Rattle.chess_model.specs.declared.moves.Move.{Move}
-use Rattle.chess_model.specs.MoveList.{HalfMove}
+use Rattle.chess_model.specs.MoveList.{HalfMove, on}
 use Rattle.game_board.specs.declared.played.Played.{Played}
 use Rattle.game_board.specs.Board.{half_move, half_moves}
 use Rattle.game_board.specs.BoardFace.{has_own, before_own}
-
--- a half-move on a board
-abbrev on : ℕ → Move → HalfMove
-on number m = record { board = number; what = m }
 
 pub chosen : {X : Type 0} (b : Bool) (x y : X) → b ≡ true → (if b then x else y) ≡ x
 chosen true x y e = refl

@@ -1,5 +1,5 @@
 -- A test that all squares pass, or that one does.
-use Rattle.std.proofs.Common.{◌≡◌, ℕ, ◌<◌, Bool, true, false, refl, sym, ◌∙◌, arith}
+use Rattle.std.proofs.Common.{◌≡◌, ℕ, ◌<◌, Bool, true, false, sym, ◌∙◌, arith}
 use Rattle.std.specs.List.{list_all, list_any}
 use Rattle.chess_model.specs.Tests.{squares}
 use Rattle.chess_model.proofs.Among.{list_all-each, list_all-from, list_any-some, list_any-from, Among-range, Among-ranged}

@@ -10,7 +10,7 @@ use Rattle.chess_model.specs.Allowed.{IsLegal}
 use Rattle.game_board.specs.declared.game_board.GameBoard.TheInside.{Inside}
 use Rattle.game_board.specs.Board.{half_moves, made}
 use Rattle.game_board.specs.BoardFace.{last_shown}
-use Rattle.clock_ledger.specs.Charges.{IsChargeable, last_moment}
+use Rattle.clock_ledger.specs.Charges.{IsChargeable}
 use Rattle.clock_ledger.specs.Span.{IsStamp}
 use Rattle.game_board.specs.Charges.{clock_of}
 use Rattle.game_board.specs.Steps.{AreSteps}
@@ -39,4 +39,3 @@ pub record HoldsBoard (g : Inside) : Type 0 where
   pub counted : length g.list ≤ g.played
   pub most : g.played ≤ most_halves
   pub resumed : g.resumed ≤ length g.list
-  pub moment : g.begin ≤ last_moment

@@ -15,7 +15,7 @@ use crate::played::{Made, Played, Step};
 use chess_model::{
     Colour, Face, Kind, MOST_HALVES, Man, Move, MoveWord, Shown, State, Terms, Variant,
 };
-use clock_ledger::{Charge, ClockLedger};
+use clock_ledger::{Charge, ClockLedger, Moment};
 use collections::Roomy;
 use fics_words::Refusal;
 use memory::NoMemory;
@@ -35,7 +35,7 @@ pub struct GameBoard {
     pub(crate) steps: Roomy<Step, MOST_HALVES>,
     pub(crate) white: ClockLedger,
     pub(crate) black: ClockLedger,
-    pub(crate) begin: u64,
+    pub(crate) begin: Moment,
     /// The stamp with which the client of the player to move acknowledged the board, if it did so since `begin`.
     pub(crate) kept: Option<u32>,
     pub(crate) played: u16,
@@ -80,11 +80,10 @@ impl GameBoard {
         alloc: Global,
         number: u8,
         terms: Terms,
-        moment: u64,
+        moment: Moment,
     ) -> Result<GameBoard, NoMemory>
         requires first { 1 ≤ number }
         requires last { number ≤ 2 }
-        requires moment { moment ≤ last_moment }
         ensures { IfOk result (λ b. b ≡ new_board number terms moment) }
     {
         Ok(GameBoard {
@@ -161,9 +160,8 @@ impl GameBoard {
     }
 
     /// The moment, in milliseconds, from which the player to move is thinking.
-    pub fn begin(&self) -> u64
-        ensures value { result ≡ self.now.begin }
-        ensures most { self.now.begin ≤ last_moment }
+    pub fn begin(&self) -> Moment
+        ensures { result ≡ self.now.begin }
     {
         self.begin
     }
@@ -252,17 +250,19 @@ impl GameBoard {
     }
 
     /// The charge of a half-move that is made now with this stamp of its client, if it has one.
-    fn next_charge(&self, moment: u64, stamp: Option<u32>) -> Option<Charge>
+    fn next_charge(&self, moment: Moment, stamp: Option<u32>) -> Option<Charge>
         ensures value { result ≡ next_charge self.now moment stamp }
         ensures kept { IfSome self.now.kept IsStamp }
+        ensures timely { moment ≤ last_moment }
     {
+        let end = moment.millis();
         let client = self.kept.zip(stamp);
         if !self.is_next_charged() {
             return None;
         }
         Some(Charge {
-            begin: self.begin,
-            end: moment,
+            begin: self.begin.millis(),
+            end,
             client,
         })
     }
@@ -287,11 +287,10 @@ impl GameBoard {
 
     /// Makes an allowed half-move at `moment`, with the client's stamp if there is one, as `play` does with the one
     /// that its word stands for, and gives the man that it captures.
-    pub fn make(&mut self, what: &Move, moment: u64, stamp: Option<u32>) -> Option<Man>
+    pub fn make(&mut self, what: &Move, moment: Moment, stamp: Option<u32>) -> Option<Man>
         requires allowed { Allowed (position_of self.old) what.now }
         requires room { self.old.played < most_halves }
         requires order { self.old.begin ≤ moment }
-        requires moment { moment ≤ last_moment }
         requires stamp { IfSome stamp IsStamp }
         ensures captured { result ≡ captured self.old what.now }
         ensures after { self.new ≡ with_half_move self.old what.now moment stamp }
@@ -313,11 +312,10 @@ impl GameBoard {
         &mut self,
         colour: Colour,
         word: &MoveWord,
-        moment: u64,
+        moment: Moment,
         stamp: Option<u32>,
     ) -> Result<Option<Man>, Refusal>
         requires order { self.old.begin ≤ moment }
-        requires moment { moment ≤ last_moment }
         requires stamp { IfSome stamp IsStamp }
         ensures reply { result ≡ play_reply self.old (move_answer self.old colour word.now) }
         ensures after { self.new ≡ play_after self.old moment stamp (move_answer self.old colour word.now) }
@@ -341,9 +339,8 @@ impl GameBoard {
     /// Calls the flag on the opponent of `caller` at `moment`, in milliseconds: gives the winner, or None for a draw.
     /// Refuses with `NotFallen` where the opponent has time left, the running time counted.
     #[tactic(auto, unfolding(crate::specs::Flag::flag_answer))]
-    pub fn flag(&self, caller: Colour, moment: u64) -> Result<Option<Colour>, Refusal>
+    pub fn flag(&self, caller: Colour, moment: Moment) -> Result<Option<Colour>, Refusal>
         requires order { self.now.begin ≤ moment }
-        requires moment { moment ≤ last_moment }
         ensures { result ≡ flag_answer self.now caller moment }
     {
         if !self.has_fallen(caller.opposite(), moment) {
@@ -356,22 +353,21 @@ impl GameBoard {
     }
 
     /// The time that is running against a colour.
-    fn running(&self, colour: Colour, moment: u64) -> u64
+    fn running(&self, colour: Colour, moment: Moment) -> u64
         requires { self.now.begin ≤ moment }
         ensures value { result ≡ running self.now colour moment }
         ensures most { result ≤ moment }
     {
         if self.is_to_move(colour) && self.has_moved(colour) {
-            moment - self.begin
+            moment.millis() - self.begin.millis()
         } else {
             0
         }
     }
 
     /// Whether a colour's clock has fallen.
-    fn has_fallen(&self, colour: Colour, moment: u64) -> bool
+    fn has_fallen(&self, colour: Colour, moment: Moment) -> bool
         requires order { self.now.begin ≤ moment }
-        requires moment { moment ≤ last_moment }
         ensures { result ≡ has_fallen self.now colour moment }
     {
         if !self.is_timed() {
@@ -381,9 +377,8 @@ impl GameBoard {
     }
 
     /// Whether the caller of a flag can't win by it.
-    fn cannot_win(&self, caller: Colour, moment: u64) -> bool
+    fn cannot_win(&self, caller: Colour, moment: Moment) -> bool
         requires order { self.now.begin ≤ moment }
-        requires moment { moment ≤ last_moment }
         ensures { result ≡ cannot_win self.now caller moment }
     {
         if self.has_fallen(caller, moment) {

@@ -1,21 +1,20 @@
 //! Taking half-moves back.
 ghost use Rattle.std.specs.Prelude.{◌≡◌, ◌≢◌, ◌<◌, ◌≤◌, length};
-ghost use Rattle.clock_ledger.specs.Charges.{last_moment};
 ghost use Rattle.game_board.specs.TakeBack.{take_back_reply, take_back_after, without_last};
 
 use crate::clocks::take_charge_off;
 use crate::game_board::GameBoard;
 use chess_model::Variant;
+use clock_ledger::Moment;
 use fics_words::Refusal;
 
 impl GameBoard {
     /// Takes the last `n` half-moves back, with their charges, at `moment`, in milliseconds, from which the player to
     /// move is thinking then. Refuses with `TooFewMoves` where `n` is 0 or the list has fewer half-moves; a refusal
     /// changes nothing. What is taken back still counts as played.
-    pub fn take_back(&mut self, n: u16, moment: u64) -> Result<(), Refusal>
+    pub fn take_back(&mut self, n: u16, moment: Moment) -> Result<(), Refusal>
         requires variant { self.old.terms.variant ≢ Variant.Bughouse }
         requires order { self.old.begin ≤ moment }
-        requires moment { moment ≤ last_moment }
         ensures reply { result ≡ take_back_reply self.old n }
         ensures after { self.new ≡ take_back_after self.old n moment }
     {

@@ -1,13 +1,13 @@
 -- Acts without a common part commute, and may stand in either order in a history.
-use Rattle.std.proofs.Common.{◌≡◌, ◌≢◌, ℕ, ◌⊎◌, inl, inr, List, [], ◌∷◌, ◌++◌, ◌≤◌, ap, sym, subst, ◌∙◌, arith}
+use Rattle.std.proofs.Common.{◌≡◌, ◌≢◌, ℕ, ◌⊎◌, inl, inr, List, ◌∷◌, ◌≤◌, ap, sym, subst, ◌∙◌, arith}
 use Rattle.std.specs.List.{slice_get}
 use Rattle.std.specs.Option.{option_and_then}
 use Rattle.std.specs.declared.option.Option.{Option}
 use Rattle.std.specs.declared.option.Option.TheVariants.{None, Some}
-use Rattle.histories.specs.Core.{Touches, after}
+use Rattle.histories.specs.Core.{Touches}
 use Rattle.histories.specs.History.{state, Legal}
 use Rattle.histories.proofs.Steps.{replies_commute, states_commute}
-use Rattle.histories.proofs.Histories.{state-append, legal-append, legal_front}
+use Rattle.histories.proofs.Histories.{state-append, legal-append, legal_front, legal_back}
 use Rattle.linked_desk.specs.declared.acts.DeskAct.{DeskAct}
 use Rattle.lobby_state.specs.declared.acts.LobbyAct.{LobbyAct}
 use Rattle.lobby_state.specs.declared.acts.PairAct.{PairAct}
@@ -19,7 +19,6 @@ use Rattle.one_server.specs.declared.part.Part.{Part}
 use Rattle.one_server.specs.declared.part.Part.TheVariants.{Lobby as TheLobby, Desk as ADesk}
 use Rattle.one_server.specs.Acts.{first_part, second_part, planned_desk}
 use Rattle.one_server.specs.House.{house}
-use Rattle.one_server.specs.Running.{Log}
 use Rattle.hall_core.specs.Apart.{Call, Commute, ApartCommute, DesksCommute, LobbyCommutes, PairCommutes, NobodyCanTell}
 
 pub apart_commute : ApartCommute
@@ -84,15 +83,11 @@ pair_commutes parts lobby one other desk serial act act' there differ is e e' =
     (desk_touched parts other desk serial s act' e' u)
     (pair_touched parts lobby one s act there e t))
 
-legal_back : (xs : List Part) (es fs : Log) → Legal house xs (es ++ fs) → Legal house (state house xs es) fs
-legal_back xs [] fs l = l
-legal_back xs (e ∷ es) fs l = legal_back (after house xs e.session e.act) es fs l.2
-
 pub nobody_can_tell : NobodyCanTell
 nobody_can_tell opening before rest one other apart legal =
     let now : List Part = state house opening before in
     let both : Commute now (record { session = one.session; timed = one.act }) (record { session = other.session; timed = other.act }) = apart_commute now (record { session = one.session; timed = one.act }) (record { session = other.session; timed = other.act }) apart in
-    let l : Legal house now (one ∷ other ∷ rest) = legal_back opening before (one ∷ other ∷ rest) legal in
+    let l : Legal house now (one ∷ other ∷ rest) = legal_back house opening before (one ∷ other ∷ rest) legal in
     let swapped : Legal house now (other ∷ one ∷ rest) = (
       l.2.0,
       sym both.other_reply ∙ l.2.1,

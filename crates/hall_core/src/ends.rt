@@ -7,7 +7,8 @@ ghost use Rattle.lobby_state.specs.Lobby.{LobbyState};
 ghost use Rattle.one_server.specs.declared.part.Part.TheVariants.{Lobby as TheLobby, Desk as ADesk};
 ghost use Rattle.one_server.specs.Whole.{IsWhole, opened, parts_of};
 
-use crate::housed::Housed;
+use crate::boxed_part::BoxedPart;
+use fics_words::DeskNumber;
 use linked_desk::Desk;
 use lobby_state::{DESKS, Lobby};
 use memory::NoMemory;
@@ -22,22 +23,25 @@ pub struct HallParts {
 }
 
 /// The parts with which a hall opens: this lobby, and the desks 1 to 128, all of them vacant.
-pub fn opening_parts(alloc: Global, lobby: Lobby) -> Result<Vec<Housed>, NoMemory>
+pub fn opening_parts(alloc: Global, lobby: Lobby) -> Result<Vec<BoxedPart>, NoMemory>
     ensures items { IfOk result (λ parts. parts.items ≡ opened lobby) }
     ensures count { IfOk result (λ parts. vec_len parts ≡ desk_count + 1) }
 {
     let mut parts = Vec::new(alloc);
-    let first = Housed::new(alloc, Part::Lobby(lobby))?;
+    let first = BoxedPart::new(alloc, Part::Lobby(lobby))?;
     parts.push(first)?;
     for slot in 0..DESKS {
-        let desk = Housed::new(alloc, Part::Desk(Desk::vacant(slot as u8 + 1)))?;
+        let desk = BoxedPart::new(
+            alloc,
+            Part::Desk(Desk::vacant(DeskNumber::new(slot as u8 + 1))),
+        )?;
         parts.push(desk)?;
     }
     Ok(parts)
 }
 
 /// The lobby and the desks of a whole state, in the room that was kept for the desks.
-pub fn told_apart(parts: Vec<Housed>, room: Vec<Desk>) -> HallParts
+pub fn told_apart(parts: Vec<BoxedPart>, room: Vec<Desk>) -> HallParts
     requires whole { IsWhole parts.items }
     requires empty { room.items ≡ [] }
     requires room { desk_count ≤ vec_capacity room }
@@ -59,7 +63,7 @@ pub fn told_apart(parts: Vec<Housed>, room: Vec<Desk>) -> HallParts
 }
 
 /// The lobby that a part is.
-fn lobby_of(part: Housed) -> Lobby
+fn lobby_of(part: BoxedPart) -> Lobby
     requires { (lobby : LobbyState) × (part ≡ TheLobby lobby) }
     ensures { part ≡ TheLobby result }
 {
@@ -70,7 +74,7 @@ fn lobby_of(part: Housed) -> Lobby
 }
 
 /// The desk that a part is.
-fn desk_of(part: Housed) -> Desk
+fn desk_of(part: BoxedPart) -> Desk
     requires { (desk : DeskState) × (part ≡ ADesk desk) }
     ensures { part ≡ ADesk result }
 {

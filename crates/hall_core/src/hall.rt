@@ -14,7 +14,7 @@ ghost use Rattle.hall_core.specs.Passes.{EveryoneJoined, first_pass, HasLooked, 
 ghost use Rattle.hall_core.specs.Acts.{CameTo, OnlyRan};
 
 use crate::ends::{HallParts, opening_parts, told_apart};
-use crate::house::House;
+use crate::hall_rules::HallRules;
 use crate::pass::HallPass;
 use crate::ran::{Ran, ran_of};
 use linked_desk::Desk;
@@ -30,7 +30,7 @@ use turn_table::Turns;
 /// One lobby and 128 desks, each behind a turn of its own. Contracts see which hall it is.
 #[derive(Drop)]
 pub struct Hall {
-    turns: Turns<House>,
+    turns: Turns<HallRules>,
     room: Vec<Desk>,
 }
 

@@ -10,10 +10,10 @@
 //! `close` gives the lobby and the desks of the state of the whole history.
 #![tactic(auto)]
 
+mod boxed_part;
 mod ends;
 mod hall;
-mod house;
-mod housed;
+mod hall_rules;
 mod laws;
 mod pass;
 mod ran;

@@ -2,7 +2,7 @@
 
 ghost use Rattle.std.specs.Prelude.{◌≡◌};
 
-use crate::house::House;
+use crate::hall_rules::HallRules;
 use std::marker::Model;
 use turn_table::Pass;
 
@@ -11,7 +11,7 @@ use turn_table::Pass;
 /// noted that memory ran out.
 #[derive(Drop)]
 pub struct HallPass {
-    pub(crate) pass: Pass<House>,
+    pub(crate) pass: Pass<HallRules>,
     pub(crate) short: bool,
 }
 

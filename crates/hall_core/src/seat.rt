@@ -9,6 +9,7 @@ ghost use Rattle.hall_core.specs.Passes.{runs_of};
 use crate::hall::Hall;
 use crate::pass::HallPass;
 use crate::ran::Ran;
+use clock_ledger::Moment;
 use memory::NoMemory;
 use one_server::{Act, Reply, Runner};
 use std::alloc::Global;
@@ -91,8 +92,14 @@ impl<G: Gate, R: Wait> Runner for HallSeat<'_, G, R> {
         self.pass.session()
     }
 
-    fn run(&mut self, alloc: Global, moment: u64, act: Act) -> Result<Reply, NoMemory> {
-        self.hall
-            .run(self.rt, alloc, &mut self.pass, self.gate, moment, act)
+    fn run(&mut self, alloc: Global, moment: Moment, act: Act) -> Result<Reply, NoMemory> {
+        self.hall.run(
+            self.rt,
+            alloc,
+            &mut self.pass,
+            self.gate,
+            moment.millis(),
+            act,
+        )
     }
 }

@@ -67,6 +67,11 @@ module _ {P A R : Type 0} (c : Core P A R) where
   legal_front xs [] fs l = tt
   legal_front xs (e ∷ es) fs l = (l.0, l.1, legal_front (after c xs e.session e.act) es fs l.2)
 
+  -- what comes at the end of a legal history is legal in the state before it
+  pub legal_back : (xs : List P) (es fs : List (Entry A R)) → Legal c xs (es ++ fs) → Legal c (state c xs es) fs
+  legal_back xs [] fs l = l
+  legal_back xs (e ∷ es) fs l = legal_back (after c xs e.session e.act) es fs l.2
+
   pub grows_legally : GrowsLegally c
   grows_legally xs es e l f r = legal-append xs es (e ∷ []) l (f, r, tt)
 

@@ -8,6 +8,7 @@ use Rattle.style12_writer.specs.OfferLines.{taken_text}
 use Rattle.style12_writer.specs.declared.item.Item.{Item}
 use Rattle.style12_writer.specs.declared.item.Item.TheVariants as item
 use Rattle.style12_writer.specs.declared.view.BoardView.{BoardView}
+use Rattle.desk_boards.specs.declared.board_number.BoardNumber.TheVariants.{First}
 use Rattle.linked_desk.specs.Desk.{GameState}
 use Rattle.linked_desk.specs.Hands.{first_hands}
 use Rattle.linked_desk.specs.Offering.{agreed, with_taken}
@@ -28,7 +29,7 @@ agreed_tally desk g moment seat Abort = refl
 agreed_tally desk g moment seat Adjourn = refl
 agreed_tally desk g moment seat (Takeback n) =
     let line : GameState = with_items (with_taken g moment n) (item.Talk (taken_text n) ∷ []) in
-    let shown : GameState = with_board_item desk 0 line in
+    let shown : GameState = with_board_item desk First line in
     tally_item shown (option_and_then (first_hands desk) (slice_get shown.boards 0))
     ∙ tally_view line (slice_get (views_of desk line) 0)
 

@@ -6,6 +6,7 @@ use Rattle.chess_model.specs.declared.states.State.{State}
 use Rattle.chess_model.specs.declared.states.State.TheVariants.{Safe, Check, Mate, Stalemate}
 use Rattle.chess_model.specs.Result.{result, is_end}
 use Rattle.game_board.specs.Board.{Board, to_move, position_of}
+use Rattle.desk_boards.specs.declared.board_number.BoardNumber.{BoardNumber}
 use Rattle.linked_desk.specs.declared.ended.Ended.{Ended}
 use Rattle.linked_desk.specs.Desk.{GameState, occupant}
 use Rattle.linked_desk.specs.Finish.{end_in, end_on, end_at, with_end, finished}
@@ -13,15 +14,15 @@ use Rattle.linked_desk.specs.Sound.{Names, IsSound}
 use Rattle.linked_desk.proofs.Keeps.{IsSound-told_end}
 
 -- mate names its winner, and stalemate none
-end_in-names : (number : ℕ) (mover : Colour) (state : State) → IfSome (end_in number mover state) (λ e. Names e.why e.winner)
-end_in-names number mover Mate = (λ e. e, λ e. e)
-end_in-names number mover Stalemate = (λ e. e, λ e. e)
-end_in-names number mover Safe = tt
-end_in-names number mover Check = tt
+end_in-names : (board : BoardNumber) (mover : Colour) (state : State) → IfSome (end_in board mover state) (λ e. Names e.why e.winner)
+end_in-names board mover Mate = (λ e. e, λ e. e)
+end_in-names board mover Stalemate = (λ e. e, λ e. e)
+end_in-names board mover Safe = tt
+end_in-names board mover Check = tt
 
-pub end_on-names : (board : Option Board) → IfSome (option_and_then end_on board) (λ e. Names e.why e.winner)
-end_on-names None = tt
-end_on-names (Some b) = end_in-names b.number (to_move b) (result (position_of b))
+pub end_on-names : (board : BoardNumber) (on : Option Board) → IfSome (option_and_then (end_on board) on) (λ e. Names e.why e.winner)
+end_on-names board None = tt
+end_on-names board (Some b) = end_in-names board (to_move b) (result (position_of b))
 
 -- a game whose boards bring this end, or none
 pub IsSound-with_end : (desk : ℕ) (g : GameState) (moment : ℕ) (end : Option Ended) → IfSome end (λ e. Names e.why e.winner) → moment ≤ 2 ^ 48 → g.ended ≡ None →
@@ -33,19 +34,16 @@ occupant-with_end : (desk : ℕ) (g : GameState) (moment : ℕ) (end : Option En
 occupant-with_end desk g moment None = refl
 occupant-with_end desk g moment (Some e) = refl
 
-pub occupant-finished : (desk : ℕ) (g : GameState) (moment place : ℕ) → occupant (finished desk g moment place) ≡ occupant g
-occupant-finished desk g moment place = occupant-with_end desk g moment (end_at g place)
+pub occupant-finished : (desk : ℕ) (g : GameState) (moment : ℕ) (board : BoardNumber) → occupant (finished desk g moment board) ≡ occupant g
+occupant-finished desk g moment board = occupant-with_end desk g moment (end_at g board)
 
 -- a state that brings no end is none
-goes_on-in : (number : ℕ) (mover : Colour) (state : State) → end_in number mover state ≡ None → is_end state ≡ false
-goes_on-in number mover Mate e = absurd cc
-goes_on-in number mover Stalemate e = absurd cc
-goes_on-in number mover Safe e = refl
-goes_on-in number mover Check e = refl
+goes_on-in : (board : BoardNumber) (mover : Colour) (state : State) → end_in board mover state ≡ None → is_end state ≡ false
+goes_on-in board mover Mate e = absurd cc
+goes_on-in board mover Stalemate e = absurd cc
+goes_on-in board mover Safe e = refl
+goes_on-in board mover Check e = refl
 
-goes_on : (b : Board) → end_on b ≡ None → is_end (result (position_of b)) ≡ false
-goes_on b e = goes_on-in b.number (to_move b) (result (position_of b)) e
-
-pub goes_on_at : (o : Option Board) → option_and_then end_on o ≡ None → IfSome o (λ b. is_end (result (position_of b)) ≡ false)
-goes_on_at None e = tt
-goes_on_at (Some b) e = goes_on b e
+pub goes_on_at : (board : BoardNumber) (on : Option Board) → option_and_then (end_on board) on ≡ None → IfSome on (λ b. is_end (result (position_of b)) ≡ false)
+goes_on_at board None e = tt
+goes_on_at board (Some b) e = goes_on-in board (to_move b) (result (position_of b)) e

@@ -3,9 +3,9 @@ use Rattle.std.proofs.Common.{◌≡◌, ◌≤◌, ◌⊎◌, inl, inr, ℕ, ze
 use Rattle.std.proofs.lemmas.List.{map-append}
 use Rattle.std.proofs.lemmas.List.Elements.{All-nil, All-cons}
 use Rattle.std.proofs.lemmas.Option.{slice_get-map}
-use Rattle.std.specs.Prelude.{◌==◌, if◌then◌else◌, slice_get}
+use Rattle.std.specs.Prelude.{slice_get}
 use Rattle.std.specs.List.{AllByRecursion}
-use Rattle.std.specs.Option.{option_map}
+use Rattle.std.specs.Option.{option_and_then, option_map}
 use Rattle.chess_model.specs.declared.variant.Terms.{Terms}
 use Rattle.chess_model.specs.declared.variant.Variant.{Variant}
 use Rattle.chess_model.specs.declared.variant.Variant.TheVariants.{Chess, Crazyhouse, Bughouse, Fischer}
@@ -19,13 +19,14 @@ use Rattle.game_records.specs.Bounds as bounds
 use Rattle.game_records.specs.Bounds.{IsHalf}
 use Rattle.game_records.specs.Replays.{CanBePlayed, GoesOn, MayCome, OtherGoesOn, half_moves, position_on}
 use Rattle.game_records.proofs.Played.{by_steps}
-use Rattle.desk_boards.specs.Boards.{board_numbers, new_boards}
-use Rattle.desk_boards.specs.Halves.{halves_of}
+use Rattle.desk_boards.specs.Boards.{board_numbers, new_boards, number_of, numbered, place}
+use Rattle.desk_boards.specs.declared.board_number.BoardNumber.{BoardNumber}
+use Rattle.desk_boards.specs.declared.board_number.BoardNumber.TheVariants.{First, Second}
+use Rattle.desk_boards.specs.Halves.{halves_of, last_board}
 use Rattle.desk_boards.specs.Sound.{AreSoundBoards, GoOn}
 use Rattle.desk_boards.proofs.BoardLists.{All-at}
-use Rattle.desk_boards.proofs.Pairs.{number_at}
+use Rattle.desk_boards.proofs.Pairs.{board_within, number_at, number_of-numbered}
 use Rattle.desk_boards.proofs.SoundHalves.{all_of}
-use Rattle.linked_desk.specs.Restore.{last_place, place_on}
 use Rattle.desk_boards.proofs.GoingOn.{go_start, learnt_goes}
 use Rattle.game_board.proofs.Steps.{last_at}
 use Rattle.fics_words.proofs.Each.{each-back}
@@ -69,29 +70,23 @@ other_goes_on front h n is low high going =
     (λ i. half_moves front ++ record { board = other i; what = h.what } ∷ []) ∙ sym (map-append (λ (g : Half). record { board = g.board; what = g.what }) front (h ∷ [])) in
     subst (λ (T : List HalfMove). GoesOn (position_after Bughouse T n)) made after
 
-at_first : (m : ℕ) → m ≡ 1 → ◌≡◌ {A = ℕ} (if m == 2 then 1 else 0) 0
-at_first m one = subst (λ (i : ℕ). ◌≡◌ {A = ℕ} (if i == 2 then 1 else 0) 0) (sym one) refl
-
-of_two : (k n m : ℕ) → slice_get (board_numbers Bughouse) k ≡ Some n → 1 ≤ m → m ≤ 2 → ((if m == 2 then 1 else 0) ≡ k) ⊎ ((Bughouse ≡ Bughouse) × (n ≡ 3 - m))
-of_two k n zero there low high = absurd (omega (arith, low))
-of_two zero n (suc zero) there low high = inl refl
-of_two (suc zero) n (suc zero) there low high = let two : 2 ≡ n = cc in inr (refl, sym two)
-of_two (suc (suc k)) n (suc zero) there low high = absurd cc
-of_two zero n (suc (suc zero)) there low high = let one : 1 ≡ n = cc in inr (refl, sym one)
-of_two (suc zero) n (suc (suc zero)) there low high = inl refl
-of_two (suc (suc k)) n (suc (suc zero)) there low high = absurd cc
-of_two k n (suc (suc (suc m))) there low high = absurd (omega (arith, high))
-
--- where a half-move was made, by the number of its board
-place : (v : Variant) (k n : ℕ) (h : Half) → slice_get (board_numbers v) k ≡ Some n → 1 ≤ h.board → h.board ≤ bounds.boards v →
-    (place_on h ≡ k) ⊎ ((v ≡ Bughouse) × (n ≡ 3 - h.board))
-place Chess zero n h there low high = inl (at_first h.board (omega (arith, low, high)))
-place Chess (suc k) n h there low high = absurd cc
-place Crazyhouse zero n h there low high = inl (at_first h.board (omega (arith, low, high)))
-place Crazyhouse (suc k) n h there low high = absurd cc
-place (Fischer number) zero n h there low high = inl (at_first h.board (omega (arith, low, high)))
-place (Fischer number) (suc k) n h there low high = absurd cc
-place Bughouse k n h there low high = of_two k n h.board there low high
+-- a board of a game has that number, or it is the other one of a pair
+own_or_other : (v : Variant) (k n m : ℕ) (board : BoardNumber) → slice_get (board_numbers v) k ≡ Some n → number_of board ≡ m → m ≤ bounds.boards v →
+    (place board ≡ k) ⊎ ((v ≡ Bughouse) × (n ≡ 3 - m))
+own_or_other Chess zero n m First there is high = inl refl
+own_or_other Chess zero n m Second there is high = absurd (omega (arith, is, high))
+own_or_other Chess (suc k) n m board there is high = absurd cc
+own_or_other Crazyhouse zero n m First there is high = inl refl
+own_or_other Crazyhouse zero n m Second there is high = absurd (omega (arith, is, high))
+own_or_other Crazyhouse (suc k) n m board there is high = absurd cc
+own_or_other (Fischer number) zero n m First there is high = inl refl
+own_or_other (Fischer number) zero n m Second there is high = absurd (omega (arith, is, high))
+own_or_other (Fischer number) (suc k) n m board there is high = absurd cc
+own_or_other Bughouse zero n m First there is high = inl refl
+own_or_other Bughouse zero n m Second there is high = let one : 1 ≡ n = cc in inr (refl, omega (arith, one, is))
+own_or_other Bughouse (suc zero) n m First there is high = let two : 2 ≡ n = cc in inr (refl, omega (arith, two, is))
+own_or_other Bughouse (suc zero) n m Second there is high = inl refl
+own_or_other Bughouse (suc (suc k)) n m board there is high = absurd cc
 
 goes_on_by : (v : Variant) (front : List Half) (h : Half) (n : ℕ) → v ≡ Bughouse → n ≡ 3 - h.board → 1 ≤ h.board → h.board ≤ bounds.boards v → OtherGoesOn v front h.board →
     GoesOn (position_on v (front ++ h ∷ []) n)
@@ -100,17 +95,17 @@ goes_on_by Crazyhouse front h n pair is low high going = absurd cc
 goes_on_by (Fischer number) front h n pair is low high going = absurd cc
 goes_on_by Bughouse front h n pair is low high going = other_goes_on front h n is low high going
 
--- the board in that place goes on, if there is one
-abbrev pub GoesOnAt : List Board → Option ℕ → Type 0
+-- that board goes on, if it is one
+abbrev pub GoesOnAt : List Board → Option BoardNumber → Type 0
 GoesOnAt boards None = Unit {0}
-GoesOnAt boards (Some place) = IfSome (slice_get boards place) (λ b. GoesOn (position_of b))
+GoesOnAt boards (Some board) = IfSome (slice_get boards (place board)) (λ b. GoesOn (position_of b))
 
-after_last : (t : Terms) (boards : List Board) (front : List Half) (h : Half) → AreSoundBoards t boards → halves_of boards ≡ front ++ h ∷ [] → MayCome t front h → IsHalf t.variant h →
-    IfSome (slice_get boards (place_on h)) (λ b. GoesOn (position_of b)) → (k : ℕ) (b : Board) → slice_get boards k ≡ Some b → GoesOn (position_of b)
-after_last t boards front h s made comes half here k b there =
-    elim (place t.variant k b.number h (number_at t.variant boards k b s.numbers there) half.first half.last) [
+after_last : (t : Terms) (boards : List Board) (front : List Half) (h : Half) (board : BoardNumber) → numbered h.board ≡ Some board → AreSoundBoards t boards → halves_of boards ≡ front ++ h ∷ [] → MayCome t front h → IsHalf t.variant h →
+    IfSome (slice_get boards (place board)) (λ b. GoesOn (position_of b)) → (k : ℕ) (b : Board) → slice_get boards k ≡ Some b → GoesOn (position_of b)
+after_last t boards front h board on s made comes half here k b there =
+    elim (own_or_other t.variant k b.number h.board board (number_at t.variant boards k b s.numbers there) (number_of-numbered h.board board on) half.last) [
       | inl same ↦
-          let own : slice_get boards (place_on h) ≡ Some b = ap (slice_get boards) same ∙ there in
+          let own : slice_get boards (place board) ≡ Some b = ap (slice_get boards) same ∙ there in
           subst (λ (o : Option Board). IfSome o (λ c. GoesOn (position_of c))) own here
       | inr other ↦
           let position : position_of b ≡ position_on t.variant (front ++ h ∷ []) b.number =
@@ -123,7 +118,7 @@ each_at P [] at = All-nil P
 each_at P (b ∷ boards) at = All-cons P b boards (at 0 b refl) (each_at P boards (λ k c there. at (suc k) c there))
 
 pub replayed_go_on : (t : Terms) (halves : List Half) (boards : List Board) → AllByRecursion (IsHalf t.variant) halves → CanBePlayed t halves → AreSoundBoards t boards →
-    halves_of boards ≡ halves → GoesOnAt boards (last_place halves) → GoOn boards
+    halves_of boards ≡ halves → GoesOnAt boards (last_board halves) → GoOn boards
 replayed_go_on t halves boards each played s made here =
     each_at (λ b. GoesOn (position_of b)) boards
     (elim (from_end halves) [
@@ -134,9 +129,10 @@ replayed_go_on t halves boards each played s made here =
       | inr some ↦
           let front : List Half = some.0 in
           let h : Half = some.1.0 in
-          let last : last_place halves ≡ Some (place_on h) =
-          ap last_place some.1.1 ∙ ap (option_map place_on) (last_at front h) in
-          after_last t boards front h s (made ∙ some.1.1) (by_steps.last t front h (subst (CanBePlayed t) some.1.1 played))
-          (each-back (IsHalf t.variant) front (h ∷ []) (subst (AllByRecursion (IsHalf t.variant)) some.1.1 each)).0
+          let half : IsHalf t.variant h = (each-back (IsHalf t.variant) front (h ∷ []) (subst (AllByRecursion (IsHalf t.variant)) some.1.1 each)).0 in
+          let on = board_within t.variant h.board half.first half.last in
+          let last : last_board halves ≡ Some on.0 =
+          ap last_board some.1.1 ∙ ap (option_and_then (λ (x : Half). numbered x.board)) (last_at front h) ∙ on.1 in
+          after_last t boards front h on.0 on.1 s (made ∙ some.1.1) (by_steps.last t front h (subst (CanBePlayed t) some.1.1 played)) half
           (subst (GoesOnAt boards) last here)
     ])

@@ -1,5 +1,5 @@
 -- What an act keeps of the game at a desk, and what is shared by the acts that end it.
-use Rattle.std.proofs.Common.{◌≡◌, ◌≤◌, ◌^◌, ℕ, ◌==◌, Bool, true, false, if◌then◌else◌, List, [], ◌∷◌, ◌++◌, Option, Some, None, refl, All, arith}
+use Rattle.std.proofs.Common.{◌≡◌, ◌≤◌, ◌^◌, ℕ, ◌==◌, Bool, true, false, if◌then◌else◌, List, [], ◌∷◌, ◌++◌, Option, Some, None, refl, ◌∙◌, All, arith}
 use Rattle.std.specs.Prelude.{◌↔◌, IfSome, IsSome, IsTrue}
 use Rattle.std.specs.Option.{option_map}
 use Rattle.std.proofs.lemmas.List.Elements.{All-nil, All-cons, All-append, All-push}
@@ -14,6 +14,7 @@ use Rattle.style12_writer.specs.declared.item.Item.TheVariants as item
 use Rattle.style12_writer.specs.declared.view.BoardView.{BoardView}
 use Rattle.style12_writer.specs.EndLine.{is_decisive}
 use Rattle.game_board.specs.Board.{Board}
+use Rattle.desk_boards.specs.Boards.{number_of}
 use Rattle.linked_desk.specs.declared.acts.DeskReply.{DeskReply}
 use Rattle.linked_desk.specs.declared.ended.Ended.{Ended}
 use Rattle.linked_desk.specs.Desk.{GameState, moment_at, occupant}
@@ -22,11 +23,15 @@ use Rattle.linked_desk.specs.Seats.{pairs_of}
 use Rattle.linked_desk.specs.Sound.{Names, NamesWinner, IsSound, TellsWinners}
 use Rattle.linked_desk.specs.Views.{each_board, with_view, with_item}
 
--- an act keeps who plays, keeps the game sound where the moment and the act's numbers fit and no cause of a refusal
--- holds, and tells ends with their winners; it may run out of memory only where it says so
+-- a game that follows another one: they play in it who did, and under these conditions it is sound where that one is
+pub record Follows (conditions : Type 0) (old new : GameState) : Type 0 where
+  pub players : occupant new ≡ occupant old
+  pub sound : conditions → IsSound old → IsSound new
+
+-- the game after an act follows the one before, where the moment and the act's numbers fit and no cause of a refusal holds;
+-- the act tells ends with their winners; and it may run out of memory only where it says so
 pub record Keeps (g : GameState) (moment : ℕ) (fits : Type 0) (needs : Bool) (effect : Effect GameState DeskReply) : Type 0 where
-  pub players : occupant effect.after ≡ occupant g
-  pub sound : moment ≤ 2 ^ 48 → fits → NoneHolds effect.causes → IsSound g → IsSound effect.after
+  pub step : Follows ((moment ≤ 2 ^ 48) × fits × NoneHolds effect.causes) g effect.after
   pub tells : IsSound g → TellsWinners effect.reply
   pub memory : effect.memory ≡ needs
 
@@ -67,7 +72,7 @@ names_by false decisive winner h = names_other decisive winner h
 
 -- an end names its winner at each board
 end_item-names : (desk : ℕ) (e : Ended) → Names e.why e.winner → (players : Opponents) (b : Board) → NamesWinner (end_item desk e players b)
-end_item-names desk e h players b = names_by (b.number == e.board) (is_decisive e.why) e.winner h
+end_item-names desk e h players b = names_by (b.number == number_of e.board) (is_decisive e.why) e.winner h
 
 -- a game that has ended is sound, whatever stands on its boards
 pub IsSound-over : (g : GameState) (e : Ended) → Names e.why e.winner → IsSound g → IsSound (record g { ended = Some e })
@@ -94,20 +99,48 @@ pub IsSound-ended_by : (desk : ℕ) (g : GameState) (moment : ℕ) (e : Ended) �
     IsSound (ended_by desk g moment e)
 IsSound-ended_by desk g moment e names timely s = IsSound-told_end desk g moment e names timely (IsSound-over g e names s)
 
--- one item more that, if it is an end, names its winner
-pub IsSound-with_item : (g : GameState) (x : Option Item) → IfSome x NamesWinner → IsSound g → IsSound (with_item g x)
-IsSound-with_item g None names s = s
-IsSound-with_item g (Some x) names s =
-    IsSound-later g (g.feed ++ x ∷ []) g.viewers g.remarks g.last g.offers g.tally (omega arith) s.moment (All-push NamesWinner g.feed x s.winners names) s
+-- ---- steps
 
-pub IsSound-with_view : (g : GameState) (view : Option BoardView) → IsSound g → IsSound (with_view g view)
-IsSound-with_view g None s = s
-IsSound-with_view g (Some view) s = IsSound-with_item g (Some (item.Board view)) tt s
+module _ {conditions : Type 0} where
+  -- nothing changes
+  pub stays : {g : GameState} → Follows conditions g g
+  stays = record { players = refl; sound = λ _ s. s }
 
-pub occupant-with_item : (g : GameState) (x : Option Item) → occupant (with_item g x) ≡ occupant g
-occupant-with_item g None = refl
-occupant-with_item g (Some x) = refl
+  -- one step is made after the other
+  pub and_then : {one two three : GameState} → Follows conditions one two → Follows conditions two three → Follows conditions one three
+  and_then first second = record { players = second.players ∙ first.players; sound = λ c s. second.sound c (first.sound c s) }
 
-pub occupant-with_view : (g : GameState) (view : Option BoardView) → occupant (with_view g view) ≡ occupant g
-occupant-with_view g None = refl
-occupant-with_view g (Some view) = refl
+  -- one who has no seat does nothing
+  pub if_there : {g : GameState} (after : Option ℕ → GameState) (seat : Option ℕ) → Follows conditions g (after None) →
+      ((number : ℕ) → Follows conditions g (after (Some number))) → Follows conditions g (after seat)
+  if_there after None none some = none
+  if_there after (Some number) none some = some number
+
+  pub either : {g one another : GameState} (b : Bool) → Follows conditions g one → Follows conditions g another → Follows conditions g (if b then one else another)
+  either true h k = h
+  either false h k = k
+
+  -- one item more that, if it is an end, names its winner
+  pub item_follows : (g : GameState) (x : Option Item) → IfSome x NamesWinner → Follows conditions g (with_item g x)
+  item_follows g None names = stays
+  item_follows g (Some x) names = record {
+    players = refl;
+    sound = λ _ s.
+        IsSound-later g (g.feed ++ x ∷ []) g.viewers g.remarks g.last g.offers g.tally (omega arith) s.moment (All-push NamesWinner g.feed x s.winners names) s;
+  }
+
+  pub view_follows : (g : GameState) (view : Option BoardView) → Follows conditions g (with_view g view)
+  view_follows g None = stays
+  view_follows g (Some view) = item_follows g (Some (item.Board view)) tt
+
+module _ {conditions : Type 0} (g : GameState) (moment : ℕ) (timely : conditions → moment ≤ 2 ^ 48) where
+  -- the game ends
+  pub ended_follows : (desk : ℕ) (e : Ended) → Names e.why e.winner → Follows conditions g (ended_by desk g moment e)
+  ended_follows desk e names = record { players = refl; sound = λ c s. IsSound-ended_by desk g moment e names (timely c) s }
+
+  -- others look on
+  pub viewers_follow : (viewers : List Cursor) → Follows conditions g (record g { viewers = viewers; last = moment_at g moment })
+  viewers_follow viewers = record {
+    players = refl;
+    sound = λ c s. IsSound-later g g.feed viewers g.remarks (moment_at g moment) g.offers g.tally (omega arith) (timely_at g moment (timely c) s) s.winners s;
+  }

@@ -1,6 +1,6 @@
 -- What each act at a desk keeps, in one table; and what follows for a desk, whatever the act.
 use Rattle.std.proofs.Common.{◌≡◌, ◌≢◌, ◌≤◌, ◌^◌, ℕ, ◌==◌, Bool, true, false, if◌then◌else◌, [], Option, Some, None, refl, sym, ap, ◌∙◌}
-use Rattle.fics_words.specs.Effect.{Effect, NoneHolds, first_cause, answered, unless}
+use Rattle.fics_words.specs.Effect.{Effect, NoneHolds, first_cause, answered, state_of, unless}
 use Rattle.fics_words.specs.declared.refusal.Refusal.{Refusal}
 use Rattle.linked_desk.specs.declared.acts.DeskAct.{DeskAct}
 use Rattle.linked_desk.specs.declared.acts.DeskAct.TheVariants as act
@@ -54,8 +54,8 @@ KeepsDesk-at_desk : (number : ℕ) (g : GameState) (moment : ℕ) (fits : Type 0
     KeepsDesk (record { number = number; game = Some g }) moment fits memory (at_desk (record { number = number; game = Some g }) effect)
 KeepsDesk-at_desk number g moment fits memory effect k = record {
   number = refl;
-  players = ap Some k.players;
-  sound = k.sound;
+  players = ap Some k.step.players;
+  sound = λ timely fits passed s. k.step.sound (timely, fits, passed) s;
   tells = k.tells;
   memory = λ e. sym k.memory ∙ e;
 }
@@ -77,17 +77,13 @@ KeepsDesk-effect_by number (Some g) session moment serial a =
 pub KeepsDesk-desk_effect : (d : DeskState) (session moment serial : ℕ) (a : DeskAct) → KeepsDesk d moment (FitsDeskAct a) (needs_memory a) (desk_effect d session moment serial a)
 KeepsDesk-desk_effect d session moment serial a = KeepsDesk-effect_by d.number d.game session moment serial a
 
-number-unless : (refused : Option Refusal) (old new : DeskState) → new.number ≡ old.number → (unless refused old new).number ≡ old.number
-number-unless None old new e = e
-number-unless (Some cause) old new e = refl
+-- what stands after an act is parted into refused and carried out here alone
+after_by : (P : DeskState → Type 0) (refused : Option Refusal) (old new : DeskState) → P old → (refused ≡ None → P new) → P (unless refused old new)
+after_by P None old new h step = step refl
+after_by P (Some cause) old new h step = h
 
-players-unless : (refused : Option Refusal) (old new : DeskState) → occupant_of new ≡ occupant_of old → occupant_of (unless refused old new) ≡ occupant_of old
-players-unless None old new e = e
-players-unless (Some cause) old new e = refl
-
-sound-unless : (refused : Option Refusal) (old new : DeskState) → HasSoundGame old → (refused ≡ None → HasSoundGame new) → HasSoundGame (unless refused old new)
-sound-unless None old new s t = t refl
-sound-unless (Some cause) old new s t = s
+holds_after : (P : DeskState → Type 0) (d : DeskState) (effect : Effect DeskState DeskReply) → P d → (NoneHolds effect.causes → P effect.after) → P (state_of d effect)
+holds_after P d effect h step = after_by P (first_cause effect.causes) d effect.after h (λ none. step (none_holds effect.causes none))
 
 soundly-answered : (refused : Option Refusal) (reply : DeskReply) → TellsWinners reply → AnswersSoundly (answered refused reply)
 soundly-answered None reply h = h
@@ -96,22 +92,19 @@ soundly-answered (Some cause) reply h = tt
 -- after an act the desk has its number
 pub number-desk_after : (d : DeskState) (session moment serial : ℕ) (a : DeskAct) → (desk_after d session moment serial a).number ≡ d.number
 number-desk_after d session moment serial a =
-    let effect = desk_effect d session moment serial a in
-    number-unless (first_cause effect.causes) d effect.after (KeepsDesk-desk_effect d session moment serial a).number
+    holds_after (λ (e : DeskState). e.number ≡ d.number) d (desk_effect d session moment serial a) refl (λ _. (KeepsDesk-desk_effect d session moment serial a).number)
 
 -- those who play there
 pub players-desk_after : (d : DeskState) (session moment serial : ℕ) (a : DeskAct) → occupant_of (desk_after d session moment serial a) ≡ occupant_of d
 players-desk_after d session moment serial a =
-    let effect = desk_effect d session moment serial a in
-    players-unless (first_cause effect.causes) d effect.after (KeepsDesk-desk_effect d session moment serial a).players
+    holds_after (λ (e : DeskState). occupant_of e ≡ occupant_of d) d (desk_effect d session moment serial a) refl
+    (λ _. (KeepsDesk-desk_effect d session moment serial a).players)
 
 -- and a sound game, if it had one
 pub sound-desk_after : (d : DeskState) (session moment serial : ℕ) (a : DeskAct) → moment ≤ 2 ^ 48 → FitsDeskAct a → HasSoundGame d →
     HasSoundGame (desk_after d session moment serial a)
 sound-desk_after d session moment serial a timely fits s =
-    let effect = desk_effect d session moment serial a in
-    sound-unless (first_cause effect.causes) d effect.after s
-    (λ passed. (KeepsDesk-desk_effect d session moment serial a).sound timely fits (none_holds effect.causes passed) s)
+    holds_after HasSoundGame d (desk_effect d session moment serial a) s (λ none. (KeepsDesk-desk_effect d session moment serial a).sound timely fits none s)
 
 -- the ends that it answers have their winners
 pub sound-desk_answer : (d : DeskState) (session moment serial : ℕ) (a : DeskAct) → HasSoundGame d → AnswersSoundly (desk_answer d session moment serial a)

@@ -1,13 +1,13 @@
 -- What a visit keeps.
-use Rattle.std.proofs.Common.{ℕ, true, List, Option, Some, None, All, refl, arith}
+use Rattle.std.proofs.Common.{ℕ, true, List, Option, Some, None, All, refl}
 use Rattle.std.proofs.lemmas.List.Elements.{All-nil, All-drop}
 use Rattle.style12_writer.specs.declared.item.Item.{Item}
 use Rattle.observer_feed.specs.declared.cursor.Cursor.{Cursor}
 use Rattle.observer_feed.specs.Feed.{cursor_of, past}
-use Rattle.linked_desk.specs.Desk.{GameState, moment_at}
+use Rattle.linked_desk.specs.Desk.{GameState}
 use Rattle.linked_desk.specs.Fetch.{fetch_effect, viewers_after}
 use Rattle.linked_desk.specs.Sound.{NamesWinner}
-use Rattle.linked_desk.proofs.Keeps.{Keeps, IsSound-later, timely_at}
+use Rattle.linked_desk.proofs.Keeps.{Keeps, viewers_follow}
 
 names_past : (feed : List Item) (cursor : Option Cursor) → All NamesWinner feed → All NamesWinner (past feed cursor)
 names_past feed None h = All-nil NamesWinner
@@ -15,8 +15,7 @@ names_past feed (Some cursor) h = All-drop NamesWinner cursor.seen feed h
 
 pub Keeps-fetch_effect : (g : GameState) (session moment : ℕ) → Keeps g moment (Unit {0}) true (fetch_effect g session moment)
 Keeps-fetch_effect g session moment = record {
-  players = refl;
-  sound = λ timely fits passed s. IsSound-later g g.feed (viewers_after g session) g.remarks (moment_at g moment) g.offers g.tally (omega arith) (timely_at g moment timely s) s.winners s;
+  step = viewers_follow g moment (λ c. c.0) (viewers_after g session);
   tells = λ s. names_past g.feed (cursor_of g.viewers session) s.winners;
   memory = refl;
 }

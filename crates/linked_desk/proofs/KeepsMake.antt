@@ -1,5 +1,5 @@
 -- What an offer at a desk keeps.
-use Rattle.std.proofs.Common.{◌≡◌, ◌≤◌, ◌^◌, ℕ, Bool, true, false, not, List, Option, Some, None, Ok, Err, IfSome, refl}
+use Rattle.std.proofs.Common.{◌≤◌, ◌^◌, ℕ, Bool, true, false, not, List, Option, Some, None, Ok, Err, IfSome, refl}
 use Rattle.std.specs.Prelude.{slice_get, if◌then◌else◌}
 use Rattle.chess_model.specs.Claims.{is_fifty}
 use Rattle.chess_model.specs.declared.why.Why.{Why}
@@ -10,31 +10,15 @@ use Rattle.game_board.specs.Claim.{claim_answer, has_claims, is_third_time}
 use Rattle.offer_book.specs.declared.offer.Offer.{Offer}
 use Rattle.offer_book.specs.declared.offer.Offer.TheVariants.{Draw, Abort, Adjourn, Takeback}
 use Rattle.offer_book.specs.Offers.{offering}
-use Rattle.linked_desk.specs.Desk.{GameState, occupant, seat_of}
+use Rattle.linked_desk.specs.Desk.{GameState, seat_of}
 use Rattle.desk_boards.specs.Claims.{claim_at, granted}
 use Rattle.linked_desk.specs.Make.{claim_effect, claimed, fitting_effect, make_effect, stood}
-use Rattle.linked_desk.specs.Offering.{agreed, end_without_winner, offer_item, told, with_count, with_offers}
-use Rattle.linked_desk.specs.Seats.{place_of}
-use Rattle.linked_desk.specs.Sound.{IsSound, Names}
-use Rattle.linked_desk.proofs.Keeps.{Keeps, IsSound-ended_by}
-use Rattle.linked_desk.proofs.KeepsOffers.{IsSound-agreed, IsSound-told, IsSound-with_count, IsSound-with_offers, either_occupant, either_sound, occupant-agreed, occupant-told, offer_item-names}
-
-sound_stood : (desk : ℕ) (g : GameState) (seat moment : ℕ) (offer : Offer) → moment ≤ 2 ^ 48 → IsSound g → IsSound (stood desk g seat moment offer)
-sound_stood desk g seat moment offer timely s =
-    let effect = offering g.offers seat offer in
-    let after : GameState = with_offers effect.after moment g in
-    either_sound effect.reply (with_count seat (agreed desk after moment seat offer)) (told effect.after seat moment (offer_item g seat offer) g)
-    (IsSound-with_count (agreed desk after moment seat offer) seat
-    (IsSound-agreed desk after moment seat offer timely (IsSound-with_offers g effect.after moment timely s)))
-    (IsSound-told g effect.after seat moment (offer_item g seat offer) (offer_item-names g seat offer) timely s)
-
-occupant-stood : (desk : ℕ) (g : GameState) (seat moment : ℕ) (offer : Offer) → occupant (stood desk g seat moment offer) ≡ occupant g
-occupant-stood desk g seat moment offer =
-    let effect = offering g.offers seat offer in
-    let after : GameState = with_offers effect.after moment g in
-    either_occupant effect.reply g (with_count seat (agreed desk after moment seat offer)) (told effect.after seat moment (offer_item g seat offer) g)
-    (occupant-agreed desk after moment seat offer)
-    (occupant-told g effect.after seat moment (offer_item g seat offer))
+use Rattle.linked_desk.specs.Offering.{agreed, end_without_winner, offer_item, with_offers}
+use Rattle.desk_boards.specs.Boards.{place}
+use Rattle.linked_desk.specs.Seats.{board_of}
+use Rattle.linked_desk.specs.Sound.{Names}
+use Rattle.linked_desk.proofs.Keeps.{Follows, Keeps, and_then, either, ended_follows, if_there, stays}
+use Rattle.linked_desk.proofs.KeepsOffers.{agreed_follows, count_follows, offer_item-names, offers_follow, told_follows}
 
 -- a claim ends the game as a draw, which names no winner
 names_if : (none fifty third : Bool) → IfSome
@@ -51,34 +35,29 @@ claim_names None = tt
 claim_names (Some b) = names_if (not (has_claims b.terms.variant)) (is_fifty (position_of b)) (is_third_time b)
 
 claimed_names : (boards : List Board) (seat : ℕ) (offer : Offer) → IfSome (claimed boards seat offer) (λ cause. Names cause None)
-claimed_names boards seat Draw = claim_names (slice_get boards (place_of seat))
+claimed_names boards seat Draw = claim_names (slice_get boards (place (board_of seat)))
 claimed_names boards seat Abort = tt
 claimed_names boards seat Adjourn = tt
 claimed_names boards seat (Takeback n) = tt
 
-sound_claim : (desk : ℕ) (g : GameState) (seat moment : ℕ) (offer : Offer) (cause : Option Why) → IfSome cause (λ c. Names c None) → moment ≤ 2 ^ 48 → IsSound g →
-    IsSound (claim_effect desk g seat moment offer cause).after
-sound_claim desk g seat moment offer None names timely s = sound_stood desk g seat moment offer timely s
-sound_claim desk g seat moment offer (Some cause) names timely s = IsSound-ended_by desk g moment (end_without_winner seat cause) names timely s
+module _ {conditions : Type 0} (desk : ℕ) (g : GameState) (moment seat : ℕ) (offer : Offer) (timely : conditions → moment ≤ 2 ^ 48) where
+  stood_follows : Follows conditions g (stood desk g seat moment offer)
+  stood_follows =
+      let effect = offering g.offers seat offer in
+      let after : GameState = with_offers effect.after moment g in
+      let ends : GameState = agreed desk after moment seat offer in
+      either effect.reply
+      (and_then (offers_follow moment timely g effect.after g.tally) (and_then (agreed_follows moment timely desk after seat offer) (count_follows ends seat)))
+      (told_follows moment timely g effect.after seat (offer_item g seat offer) (offer_item-names g seat offer))
 
-occupant-claim : (desk : ℕ) (g : GameState) (seat moment : ℕ) (offer : Offer) (cause : Option Why) →
-    occupant (claim_effect desk g seat moment offer cause).after ≡ occupant g
-occupant-claim desk g seat moment offer None = occupant-stood desk g seat moment offer
-occupant-claim desk g seat moment offer (Some cause) = refl
-
-sound_fitting : (desk : ℕ) (g : GameState) (seat : Option ℕ) (moment : ℕ) (offer : Offer) → moment ≤ 2 ^ 48 → IsSound g → IsSound (fitting_effect desk g seat moment offer).after
-sound_fitting desk g None moment offer timely s = s
-sound_fitting desk g (Some seat) moment offer timely s =
-    sound_claim desk g seat moment offer (claimed g.boards seat offer) (claimed_names g.boards seat offer) timely s
-
-occupant-fitting : (desk : ℕ) (g : GameState) (seat : Option ℕ) (moment : ℕ) (offer : Offer) → occupant (fitting_effect desk g seat moment offer).after ≡ occupant g
-occupant-fitting desk g None moment offer = refl
-occupant-fitting desk g (Some seat) moment offer = occupant-claim desk g seat moment offer (claimed g.boards seat offer)
+  claim_follows : (cause : Option Why) → IfSome cause (λ c. Names c None) → Follows conditions g (claim_effect desk g seat moment offer cause).after
+  claim_follows None names = stood_follows
+  claim_follows (Some cause) names = ended_follows g moment timely desk (end_without_winner seat cause) names
 
 pub Keeps-make_effect : (desk : ℕ) (g : GameState) (session moment : ℕ) (offer : Offer) → Keeps g moment (Unit {0}) true (make_effect desk g session moment offer)
 Keeps-make_effect desk g session moment offer = record {
-  players = occupant-fitting desk g (seat_of g session) moment offer;
-  sound = λ timely fits passed. sound_fitting desk g (seat_of g session) moment offer timely;
+  step = if_there (λ seat. (fitting_effect desk g seat moment offer).after) (seat_of g session) stays (λ seat.
+      claim_follows desk g moment seat offer (λ c. c.0) (claimed g.boards seat offer) (claimed_names g.boards seat offer));
   tells = λ s. tt;
   memory = refl;
 }

@@ -1,5 +1,5 @@
 -- What is kept where the offers at a desk change, and where one takes effect.
-use Rattle.std.proofs.Common.{◌≡◌, ℕ, ◌≤◌, ◌^◌, ◌∷◌, [], Bool, true, false, List, Option, Some, None, IfSome, refl, ◌∙◌, arith}
+use Rattle.std.proofs.Common.{ℕ, ◌≤◌, ◌^◌, ◌∷◌, [], Bool, true, false, List, Option, Some, None, IfSome, refl, arith}
 use Rattle.std.specs.Prelude.{slice_get, if◌then◌else◌}
 use Rattle.std.specs.Option.{option_map, option_and_then}
 use Rattle.chess_model.specs.declared.variant.Variant.{Variant}
@@ -15,11 +15,12 @@ use Rattle.offer_book.specs.Offers.{OfferBook}
 use Rattle.style12_writer.specs.OfferLines.{decline_text, taken_text}
 use Rattle.style12_writer.specs.declared.item.Item.{Item}
 use Rattle.style12_writer.specs.declared.item.Item.TheVariants as item
+use Rattle.desk_boards.specs.declared.board_number.BoardNumber.TheVariants.{First}
 use Rattle.desk_boards.specs.Boards.{latest}
-use Rattle.linked_desk.specs.Desk.{GameState, moment_at, occupant}
+use Rattle.linked_desk.specs.Desk.{GameState, moment_at}
 use Rattle.linked_desk.specs.Hands.{first_hands}
 use Rattle.desk_boards.specs.TakenBack.{back_by}
-use Rattle.linked_desk.specs.Offering.{agreed, decline_item, end_without_winner, offer_item, offer_text, told, with_count, with_offers, with_taken}
+use Rattle.linked_desk.specs.Offering.{agreed, decline_item, end_without_winner, offer_item, offer_text, told, with_count, with_taken}
 use Rattle.linked_desk.specs.Offering as offering
 use Rattle.linked_desk.specs.Sound.{IsSound, NamesWinner}
 use Rattle.linked_desk.specs.Tally.{counted}
@@ -27,13 +28,7 @@ use Rattle.linked_desk.specs.Views.{views_of, with_board_item, with_items}
 use Rattle.desk_boards.proofs.BoardLists.{latest-changed_at}
 use Rattle.linked_desk.proofs.Holding.{names_first}
 use Rattle.desk_boards.proofs.BackSound.{goes_back, sound_back}
-use Rattle.linked_desk.proofs.Keeps.{IsSound-ended_by, IsSound-later, timely_at, IsSound-with_view, IsSound-with_item, occupant-with_view, occupant-with_item}
-
--- the game with other offers and counts, since a later moment
-pub IsSound-offers : (g : GameState) (offers : OfferBook) (tally : List ℕ) (moment : ℕ) → moment ≤ 2 ^ 48 → IsSound g →
-    IsSound (record g { offers = offers; tally = tally; last = moment_at g moment })
-IsSound-offers g offers tally moment timely s =
-    IsSound-later g g.feed g.viewers g.remarks (moment_at g moment) offers tally (omega arith) (timely_at g moment timely s) s.winners s
+use Rattle.linked_desk.proofs.Keeps.{Follows, IsSound-later, and_then, ended_follows, item_follows, timely_at, view_follows}
 
 -- a line of text is no end
 talk_names : (of : Player → List ℕ) (p : Option Player) → IfSome (option_map (λ (q : Player). item.Talk (of q)) p) NamesWinner
@@ -45,16 +40,6 @@ offer_item-names g seat offer = talk_names (λ p. offer_text p.name offer) (slic
 
 pub decline_item-names : (g : GameState) (seat : ℕ) → IfSome (decline_item g seat) NamesWinner
 decline_item-names g seat = talk_names (λ p. decline_text p.name) (slice_get (seat_list g.seats) seat)
-
-pub IsSound-told : (g : GameState) (offers : OfferBook) (seat moment : ℕ) (x : Option Item) → IfSome x NamesWinner → moment ≤ 2 ^ 48 → IsSound g →
-    IsSound (told offers seat moment x g)
-IsSound-told g offers seat moment x names timely s =
-    IsSound-with_item (record g { offers = offers; tally = counted g.tally seat; last = moment_at g moment }) x names
-    (IsSound-offers g offers (counted g.tally seat) moment timely s)
-
-pub occupant-told : (g : GameState) (offers : OfferBook) (seat moment : ℕ) (x : Option Item) → occupant (told offers seat moment x g) ≡ occupant g
-occupant-told g offers seat moment x =
-    occupant-with_item (record g { offers = offers; tally = counted g.tally seat; last = moment_at g moment }) x
 
 begin_either : (few : Bool) (b new : Board) (moment : ℕ) → b.begin ≤ moment → new.begin ≤ moment → (if few then b else new).begin ≤ moment
 begin_either true b new moment h k = h
@@ -84,47 +69,35 @@ names_hands : (desk : ℕ) (b : Option Board) → IfSome (option_and_then (first
 names_hands desk None = tt
 names_hands desk (Some b) = names_first desk b
 
-IsSound-taken_back : (desk : ℕ) (g : GameState) (moment n : ℕ) → moment ≤ 2 ^ 48 → IsSound g → IsSound (offering.taken_back desk g moment n)
-IsSound-taken_back desk g moment n timely s =
-    let taken : GameState = with_taken g moment n in
-    let line : GameState = with_items taken (item.Talk (taken_text n) ∷ []) in
-    let shown : GameState = with_board_item desk 0 line in
-    IsSound-with_item shown (option_and_then (first_hands desk) (slice_get shown.boards 0)) (names_hands desk (slice_get shown.boards 0))
-    (IsSound-with_view line (slice_get (views_of desk line) 0)
-    (IsSound-with_item taken (Some (item.Talk (taken_text n))) tt (IsSound-with_taken g moment n timely s)))
+module _ {conditions : Type 0} (moment : ℕ) (timely : conditions → moment ≤ 2 ^ 48) where
+  -- the game with other offers and counts, since a later moment
+  pub offers_follow : (g : GameState) (offers : OfferBook) (tally : List ℕ) → Follows conditions g (record g { offers = offers; tally = tally; last = moment_at g moment })
+  offers_follow g offers tally = record {
+    players = refl;
+    sound = λ c s. IsSound-later g g.feed g.viewers g.remarks (moment_at g moment) offers tally (omega arith) (timely_at g moment (timely c) s) s.winners s;
+  }
 
-occupant-taken_back : (desk : ℕ) (g : GameState) (moment n : ℕ) → occupant (offering.taken_back desk g moment n) ≡ occupant g
-occupant-taken_back desk g moment n =
-    let line : GameState = with_items (with_taken g moment n) (item.Talk (taken_text n) ∷ []) in
-    let shown : GameState = with_board_item desk 0 line in
-    occupant-with_item shown (option_and_then (first_hands desk) (slice_get shown.boards 0))
-    ∙ occupant-with_view line (slice_get (views_of desk line) 0)
+  pub told_follows : (g : GameState) (offers : OfferBook) (seat : ℕ) (x : Option Item) → IfSome x NamesWinner → Follows conditions g (told offers seat moment x g)
+  told_follows g offers seat x names = and_then (offers_follow g offers (counted g.tally seat)) (item_follows _ x names)
 
-pub IsSound-agreed : (desk : ℕ) (g : GameState) (moment seat : ℕ) (offer : Offer) → moment ≤ 2 ^ 48 → IsSound g → IsSound (agreed desk g moment seat offer)
-IsSound-agreed desk g moment seat Draw timely s = IsSound-ended_by desk g moment (end_without_winner seat why.Agreed) (λ e. e, λ e. e) timely s
-IsSound-agreed desk g moment seat Abort timely s = IsSound-ended_by desk g moment (end_without_winner seat why.Aborted) (λ e. e, λ e. e) timely s
-IsSound-agreed desk g moment seat Adjourn timely s = IsSound-ended_by desk g moment (end_without_winner seat why.Adjourned) (λ e. e, λ e. e) timely s
-IsSound-agreed desk g moment seat (Takeback n) timely s = IsSound-taken_back desk g moment n timely s
+  taken_back_follows : (desk : ℕ) (g : GameState) (n : ℕ) → Follows conditions g (offering.taken_back desk g moment n)
+  taken_back_follows desk g n =
+      let taken : GameState = with_taken g moment n in
+      let line : GameState = with_items taken (item.Talk (taken_text n) ∷ []) in
+      let shown : GameState = with_board_item desk First line in
+      let back : Follows conditions g taken = record { players = refl; sound = λ c s. IsSound-with_taken g moment n (timely c) s } in
+      and_then back (and_then (item_follows taken (Some (item.Talk (taken_text n))) tt) (and_then (view_follows line (slice_get (views_of desk line) 0))
+      (item_follows shown (option_and_then (first_hands desk) (slice_get shown.boards 0)) (names_hands desk (slice_get shown.boards 0)))))
 
-pub occupant-agreed : (desk : ℕ) (g : GameState) (moment seat : ℕ) (offer : Offer) → occupant (agreed desk g moment seat offer) ≡ occupant g
-occupant-agreed desk g moment seat Draw = refl
-occupant-agreed desk g moment seat Abort = refl
-occupant-agreed desk g moment seat Adjourn = refl
-occupant-agreed desk g moment seat (Takeback n) = occupant-taken_back desk g moment n
+  pub agreed_follows : (desk : ℕ) (g : GameState) (seat : ℕ) (offer : Offer) → Follows conditions g (agreed desk g moment seat offer)
+  agreed_follows desk g seat Draw = ended_follows g moment timely desk (end_without_winner seat why.Agreed) (λ e. e, λ e. e)
+  agreed_follows desk g seat Abort = ended_follows g moment timely desk (end_without_winner seat why.Aborted) (λ e. e, λ e. e)
+  agreed_follows desk g seat Adjourn = ended_follows g moment timely desk (end_without_winner seat why.Adjourned) (λ e. e, λ e. e)
+  agreed_follows desk g seat (Takeback n) = taken_back_follows desk g n
 
 -- how many offers a seat has made is no part of that
-pub IsSound-with_count : (g : GameState) (seat : ℕ) → IsSound g → IsSound (with_count seat g)
-IsSound-with_count g seat s =
-    IsSound-later g g.feed g.viewers g.remarks g.last g.offers (counted g.tally seat) (omega arith) s.moment s.winners s
-
-pub IsSound-with_offers : (g : GameState) (offers : OfferBook) (moment : ℕ) → moment ≤ 2 ^ 48 → IsSound g → IsSound (with_offers offers moment g)
-IsSound-with_offers g offers moment timely s = IsSound-offers g offers g.tally moment timely s
-
-pub either_sound : (b : Bool) (one another : GameState) → IsSound one → IsSound another → IsSound (if b then one else another)
-either_sound true one another s t = s
-either_sound false one another s t = t
-
-pub either_occupant : (b : Bool) (g one another : GameState) → occupant one ≡ occupant g → occupant another ≡ occupant g →
-    occupant (if b then one else another) ≡ occupant g
-either_occupant true g one another e f = e
-either_occupant false g one another e f = f
+pub count_follows : {conditions : Type 0} (g : GameState) (seat : ℕ) → Follows conditions g (with_count seat g)
+count_follows g seat = record {
+  players = refl;
+  sound = λ _ s. IsSound-later g g.feed g.viewers g.remarks g.last g.offers (counted g.tally seat) (omega arith) s.moment s.winners s;
+}

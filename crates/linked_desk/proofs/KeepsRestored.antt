@@ -6,14 +6,16 @@ use Rattle.fics_words.specs.declared.seats.Seats.{Seats}
 use Rattle.game_board.specs.Board.{Board}
 use Rattle.game_records.specs.declared.stored_game.StoredGame.{StoredGame}
 use Rattle.game_records.specs.Replays.{Replays}
-use Rattle.desk_boards.specs.Boards.{latest}
+use Rattle.desk_boards.specs.Boards.{latest, place}
+use Rattle.desk_boards.specs.declared.board_number.BoardNumber.{BoardNumber}
+use Rattle.desk_boards.specs.Halves.{last_board}
 use Rattle.desk_boards.specs.Replaying.{replayed}
 use Rattle.desk_boards.specs.Sound.{AreSoundBoards, GoOn}
 use Rattle.linked_desk.specs.declared.ended.Ended.{Ended}
 use Rattle.linked_desk.specs.declared.occasion.Occasion.TheVariants.{Resumption}
 use Rattle.linked_desk.specs.Desk.{DeskState, GameState, occupant, occupant_of}
 use Rattle.linked_desk.specs.Finish.{end_at}
-use Rattle.linked_desk.specs.Restore.{finished_at, last_place, restored, resumed}
+use Rattle.linked_desk.specs.Restore.{finished_at, restored, resumed}
 use Rattle.linked_desk.specs.Seating.{AllDiffer, HasPairsFor, MayPlay, begun, names_of}
 use Rattle.linked_desk.specs.Sound.{HasSoundGame, IsSound, Names}
 use Rattle.linked_desk.proofs.Finishing.{IsSound-with_end, end_on-names, goes_on_at, occupant-finished}
@@ -22,7 +24,7 @@ use Rattle.linked_desk.proofs.Restored.{order_replayed}
 use Rattle.desk_boards.proofs.Replayed.{replayed_at}
 use Rattle.linked_desk.proofs.GoesOnAgain.{GoesOnAt, replayed_go_on}
 
-boards_go_on : (g : StoredGame) (moment : ℕ) (boards : List Board) → Replays g → replayed g.terms g.halves moment ≡ Some boards → GoesOnAt boards (last_place g.halves) →
+boards_go_on : (g : StoredGame) (moment : ℕ) (boards : List Board) → Replays g → replayed g.terms g.halves moment ≡ Some boards → GoesOnAt boards (last_board g.halves) →
     GoOn boards
 boards_go_on g moment boards r is here =
     let at = replayed_at g.terms g.halves moment boards r.spelled.halves.each is in
@@ -41,19 +43,19 @@ module _ (desk serial : ℕ) (g : StoredGame) (seats : Seats) (moment : ℕ) (bo
   abbrev start : GameState
   start = begun Resumption desk serial g.terms seats boards moment
 
-  sound_finished_at : (place : Option ℕ) → (GoesOnAt boards place → GoOn boards) → IsSound (finished_at desk start moment place)
+  sound_finished_at : (board : Option BoardNumber) → (GoesOnAt boards board → GoOn boards) → IsSound (finished_at desk start moment board)
   sound_finished_at None go = IsSound-begun Resumption desk serial g.terms seats boards moment None may sound order timely tt (λ runs. go tt)
-  sound_finished_at (Some place) go =
-      let end : Option Ended = end_at start place in
-      let names : IfSome end (λ e. Names e.why e.winner) = end_on-names (slice_get boards place) in
+  sound_finished_at (Some board) go =
+      let end : Option Ended = end_at start board in
+      let names : IfSome end (λ e. Names e.why e.winner) = end_on-names board (slice_get boards (place board)) in
       IsSound-with_end desk start moment end names timely refl
-      (IsSound-begun Resumption desk serial g.terms seats boards moment end may sound order timely names (λ none. go (goes_on_at (slice_get boards place) none)))
+      (IsSound-begun Resumption desk serial g.terms seats boards moment end may sound order timely names (λ none. go (goes_on_at board (slice_get boards (place board)) none)))
 
 pub IsSound-resumed : (desk serial : ℕ) (g : StoredGame) (seats : Seats) (moment : ℕ) (boards : List Board) → Replays g → HasPairsFor g.terms seats → AllDiffer (names_of seats) →
     moment ≤ 2 ^ 48 → replayed g.terms g.halves moment ≡ Some boards → IsSound (resumed desk serial g seats moment boards)
 IsSound-resumed desk serial g seats moment boards r pairs names timely is =
     sound_finished_at desk serial g seats moment boards (may_play g seats r pairs names)
-    (replayed_at g.terms g.halves moment boards r.spelled.halves.each is).sound (order_replayed g moment boards r is) timely (last_place g.halves)
+    (replayed_at g.terms g.halves moment boards r.spelled.halves.each is).sound (order_replayed g moment boards r is) timely (last_board g.halves)
     (boards_go_on g moment boards r is)
 
 -- the desk with a game at these boards, if there are any
@@ -71,15 +73,15 @@ pub sound_restored : (d : DeskState) (serial : ℕ) (g : StoredGame) (seats : Se
     moment ≤ 2 ^ 48 → IfSome (restored d serial g seats moment) HasSoundGame
 sound_restored d serial g seats moment = sound_if d serial g seats moment (replayed g.terms g.halves moment) refl
 
-occupant-finished_at : (desk : ℕ) (g : GameState) (moment : ℕ) (place : Option ℕ) → occupant (finished_at desk g moment place) ≡ occupant g
+occupant-finished_at : (desk : ℕ) (g : GameState) (moment : ℕ) (board : Option BoardNumber) → occupant (finished_at desk g moment board) ≡ occupant g
 occupant-finished_at desk g moment None = refl
-occupant-finished_at desk g moment (Some place) = occupant-finished desk g moment place
+occupant-finished_at desk g moment (Some board) = occupant-finished desk g moment board
 
 players_if : (d : DeskState) (serial : ℕ) (g : StoredGame) (seats : Seats) (moment : ℕ) (found : Option (List Board)) →
     IfSome (with_boards d serial g seats moment found) (λ e. occupant_of e ≡ Some (record { serial = serial; terms = g.terms; seats = seats }))
 players_if d serial g seats moment None = tt
 players_if d serial g seats moment (Some boards) =
-    ap Some (occupant-finished_at d.number (begun Resumption d.number serial g.terms seats boards moment) moment (last_place g.halves))
+    ap Some (occupant-finished_at d.number (begun Resumption d.number serial g.terms seats boards moment) moment (last_board g.halves))
 
 pub players_restored : (d : DeskState) (serial : ℕ) (g : StoredGame) (seats : Seats) (moment : ℕ) →
     IfSome (restored d serial g seats moment) (λ e. occupant_of e ≡ Some (record { serial = serial; terms = g.terms; seats = seats }))

@@ -14,7 +14,8 @@ use Rattle.clock_ledger.specs.Clock as clock
 use Rattle.game_records.specs.declared.stored_game.StoredGame.{StoredGame}
 use Rattle.game_records.specs.Replays.{Replays, half_moves}
 use Rattle.desk_boards.specs.Boards.{board_numbers}
-use Rattle.desk_boards.specs.Halves.{halves_of, list_on}
+use Rattle.desk_boards.specs.declared.board_number.BoardNumber.{BoardNumber}
+use Rattle.desk_boards.specs.Halves.{halves_of, last_board, list_on}
 use Rattle.desk_boards.specs.Laws.{IsFresh}
 use Rattle.desk_boards.specs.Replaying.{replayed}
 use Rattle.desk_boards.specs.Sound.{AreSoundBoards}
@@ -25,7 +26,7 @@ use Rattle.linked_desk.specs.declared.ended.Ended.{Ended}
 use Rattle.linked_desk.specs.declared.occasion.Occasion.TheVariants.{Resumption}
 use Rattle.linked_desk.specs.Desk.{DeskState, GameState}
 use Rattle.linked_desk.specs.Finish.{end_at, with_end}
-use Rattle.linked_desk.specs.Restore.{finished_at, last_place, restored, resumed}
+use Rattle.linked_desk.specs.Restore.{finished_at, restored, resumed}
 use Rattle.linked_desk.specs.Seating.{begun, uncoloured}
 use Rattle.linked_desk.specs.ShelfLaws.{Gets, GoesOnFrom, IsAsBefore, IsOnAgain, ResumingRestores}
 use Rattle.linked_desk.specs.Shelve.{names_in, shelved}
@@ -40,10 +41,10 @@ same-with_end : {X : Type 0} (of : GameState → X) (desk : ℕ) (g : GameState)
 same-with_end of desk g moment None same = refl
 same-with_end of desk g moment (Some e) same = same e
 
-same-finished_at : {X : Type 0} (of : GameState → X) (desk : ℕ) (g : GameState) (moment : ℕ) (place : Option ℕ) → ((e : Ended) → of (with_end desk g moment (Some e)) ≡ of g) →
-    of (finished_at desk g moment place) ≡ of g
+same-finished_at : {X : Type 0} (of : GameState → X) (desk : ℕ) (g : GameState) (moment : ℕ) (board : Option BoardNumber) → ((e : Ended) → of (with_end desk g moment (Some e)) ≡ of g) →
+    of (finished_at desk g moment board) ≡ of g
 same-finished_at of desk g moment None same = refl
-same-finished_at of desk g moment (Some place) same = same-with_end of desk g moment (end_at g place) same
+same-finished_at of desk g moment (Some board) same = same-with_end of desk g moment (end_at g board) same
 
 -- the boards of a game that replays
 found : (g : StoredGame) (moment : ℕ) → Replays g → (boards : List Board) × (replayed g.terms g.halves moment ≡ Some boards)
@@ -54,13 +55,13 @@ module _ (d : DeskState) (serial : ℕ) (g : StoredGame) (seats : Seats) (moment
   now = resumed d.number serial g seats moment boards
 
   boards-now : now.boards ≡ boards
-  boards-now = same-finished_at (λ (h : GameState). h.boards) d.number (begun Resumption d.number serial g.terms seats boards moment) moment (last_place g.halves) (λ e. refl)
+  boards-now = same-finished_at (λ (h : GameState). h.boards) d.number (begun Resumption d.number serial g.terms seats boards moment) moment (last_board g.halves) (λ e. refl)
 
   terms-now : now.terms ≡ g.terms
-  terms-now = same-finished_at (λ (h : GameState). h.terms) d.number (begun Resumption d.number serial g.terms seats boards moment) moment (last_place g.halves) (λ e. refl)
+  terms-now = same-finished_at (λ (h : GameState). h.terms) d.number (begun Resumption d.number serial g.terms seats boards moment) moment (last_board g.halves) (λ e. refl)
 
   seats-now : now.seats ≡ seats
-  seats-now = same-finished_at (λ (h : GameState). h.seats) d.number (begun Resumption d.number serial g.terms seats boards moment) moment (last_place g.halves) (λ e. refl)
+  seats-now = same-finished_at (λ (h : GameState). h.seats) d.number (begun Resumption d.number serial g.terms seats boards moment) moment (last_board g.halves) (λ e. refl)
 
   gets : (P : GameState → Type 0) → P now → Gets (restored d serial g seats moment) P
   gets P p = (

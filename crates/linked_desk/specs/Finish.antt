@@ -8,31 +8,33 @@ use Rattle.chess_model.specs.declared.why.Why.TheVariants as why
 use Rattle.chess_model.specs.Placement.{opposite}
 use Rattle.chess_model.specs.Result.{result}
 use Rattle.game_board.specs.Board.{Board, to_move, position_of}
+use Rattle.desk_boards.specs.Boards.{place}
+use Rattle.desk_boards.specs.declared.board_number.BoardNumber.{BoardNumber}
 use Rattle.linked_desk.specs.declared.ended.Ended.{Ended}
 use Rattle.linked_desk.specs.Desk.{GameState}
 use Rattle.linked_desk.specs.Ends.{ended_by}
 
--- the end at the board of that number, by what its position is for the player to move: a player who is mated has lost,
--- and stalemate is a draw
-abbrev pub end_in : ℕ → Colour → State → Option Ended
-end_in number mover Mate = Some (record { why = why.Mate; board = number; winner = Some (opposite mover) })
-end_in number mover Stalemate = Some (record { why = why.Stalemate; board = number; winner = None })
-end_in number mover Safe = None
-end_in number mover Check = None
+-- the end at a board, by what its position is for the player to move: a player who is mated has lost, and stalemate is
+-- a draw
+abbrev pub end_in : BoardNumber → Colour → State → Option Ended
+end_in board mover Mate = Some (record { why = why.Mate; board = board; winner = Some (opposite mover) })
+end_in board mover Stalemate = Some (record { why = why.Stalemate; board = board; winner = None })
+end_in board mover Safe = None
+end_in board mover Check = None
 
--- the end that the position on a board brings, if it does
-abbrev pub end_on : Board → Option Ended
-end_on b = end_in b.number (to_move b) (result (position_of b))
+-- the end that the position on the board of this number brings, if it does
+abbrev pub end_on : BoardNumber → Board → Option Ended
+end_on board b = end_in board (to_move b) (result (position_of b))
 
--- the end that the position on the board in that place brings
-abbrev pub end_at : GameState → ℕ → Option Ended
-end_at g place = option_and_then end_on (slice_get g.boards place)
+-- and in a game
+abbrev pub end_at : GameState → BoardNumber → Option Ended
+end_at g board = option_and_then (end_on board) (slice_get g.boards (place board))
 
 -- the game ended, where there is an end
 abbrev pub with_end : ℕ → GameState → ℕ → Option Ended → GameState
 with_end desk g moment None = g
 with_end desk g moment (Some e) = ended_by desk g moment e
 
--- the game once the position on the board in that place has ended it, or as it was
-abbrev pub finished : ℕ → GameState → ℕ → ℕ → GameState
-finished desk g moment place = with_end desk g moment (end_at g place)
+-- the game once the position on a board has ended it, or as it was
+abbrev pub finished : ℕ → GameState → ℕ → BoardNumber → GameState
+finished desk g moment board = with_end desk g moment (end_at g board)

@@ -1,6 +1,5 @@
 -- What the fields of every game at a desk keep.
 use Rattle.std.specs.Prelude.{◌≡◌, ◌≤◌, length, None}
-use Rattle.clock_ledger.specs.Charges.{last_moment}
 use Rattle.fics_words.specs.Seats.{seat_list}
 use Rattle.linked_desk.specs.declared.game.Game.TheInside.{Inside}
 use Rattle.desk_boards.specs.Boards.{latest}
@@ -10,6 +9,5 @@ pub record HoldsGame (g : Inside) : Type 0 where
   pub room : g.ended ≡ None → 4 ≤ g.feed.room
   -- no clock of a board runs ahead of the desk's
   pub order : latest g.boards ≤ g.last
-  pub moment : g.last ≤ last_moment
   -- every seat can make offers
   pub seated : g.offers.seats ≡ length (seat_list g.seats)

@@ -8,6 +8,7 @@ use Rattle.game_board.specs.Board.{Board}
 use Rattle.offer_book.specs.declared.offer.Offer.{Offer}
 use Rattle.offer_book.specs.declared.offer.Offer.TheVariants.{Draw, Abort, Adjourn, Takeback}
 use Rattle.offer_book.specs.Offers.{offering, stands}
+use Rattle.desk_boards.specs.Boards.{place}
 use Rattle.desk_boards.specs.Claims.{claim_at}
 use Rattle.desk_boards.specs.TakenBack.{lacks_half_moves}
 use Rattle.linked_desk.specs.declared.acts.DeskReply.{DeskReply}
@@ -15,7 +16,7 @@ use Rattle.linked_desk.specs.declared.acts.DeskReply.TheVariants.{Done}
 use Rattle.linked_desk.specs.Desk.{GameState, all_registered, is_pair, seat_of}
 use Rattle.linked_desk.specs.Ends.{ended_by, no_seat_cause, over_cause}
 use Rattle.linked_desk.specs.Offering.{agreed, end_without_winner, offer_item, told, told_out_cause, with_count, with_offers}
-use Rattle.linked_desk.specs.Seats.{place_of}
+use Rattle.linked_desk.specs.Seats.{board_of}
 
 -- why nobody at this desk may make an offer: only players with accounts adjourn; at a pair nothing is taken back; and
 -- as many half-moves as are to be taken back have to be there, at least one
@@ -32,7 +33,7 @@ behind (Some cause) causes = (true, cause) ∷ []
 
 -- the draw that an offer of this seat claims at its board, if it does
 abbrev pub claimed : List Board → ℕ → Offer → Option Why
-claimed boards seat Draw = claim_at (slice_get boards (place_of seat))
+claimed boards seat Draw = claim_at (slice_get boards (place (board_of seat)))
 claimed boards seat Abort = None
 claimed boards seat Adjourn = None
 claimed boards seat (Takeback n) = None

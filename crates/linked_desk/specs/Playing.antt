@@ -11,29 +11,30 @@ use Rattle.fics_words.specs.declared.refusal.Refusal.TheVariants.{NotPlaying}
 use Rattle.offer_book.specs.Offers.{after_half_move, where_stand}
 use Rattle.linked_desk.specs.declared.acts.DeskReply.{DeskReply}
 use Rattle.linked_desk.specs.declared.acts.DeskReply.TheVariants.{Done}
-use Rattle.desk_boards.specs.Boards.{word_at, reply_at, boards_after}
+use Rattle.desk_boards.specs.Boards.{word_at, reply_at, boards_after, place}
+use Rattle.desk_boards.specs.declared.board_number.BoardNumber.{BoardNumber}
 use Rattle.linked_desk.specs.Desk.{GameState, moment_at, seat_of}
 use Rattle.linked_desk.specs.Ends.{no_seat_cause, over_cause}
 use Rattle.linked_desk.specs.Finish.{finished}
 use Rattle.linked_desk.specs.Hands.{hands_at, partner_hands_at}
-use Rattle.linked_desk.specs.Seats.{place_of, colour_at}
+use Rattle.linked_desk.specs.Seats.{board_of, colour_at}
 use Rattle.linked_desk.specs.Views.{with_board_item, with_item}
 
 -- the half-move that a word of a seat stands for, or the refusal
 abbrev pub seat_word : GameState → ℕ → MoveWord → Result Move Refusal
-seat_word g seat word = word_at (slice_get g.boards (place_of seat)) (colour_at seat) word
+seat_word g seat word = word_at (slice_get g.boards (place (board_of seat))) (colour_at seat) word
 
 -- and of who has that seat, or none
 abbrev pub word_by : GameState → Option ℕ → MoveWord → Result Move Refusal
 word_by g None word = Err NotPlaying
 word_by g (Some seat) word = seat_word g seat word
 
--- the game with the half-move played at the board in that place, and this board told
-abbrev pub shown_moved : ℕ → GameState → ℕ → ℕ → Option ℕ → Result Move Refusal → GameState
-shown_moved desk g moment place stamp answer =
-    with_board_item desk place
+-- the game with the half-move played at a board, and this board told
+abbrev pub shown_moved : ℕ → GameState → ℕ → BoardNumber → Option ℕ → Result Move Refusal → GameState
+shown_moved desk g moment board stamp answer =
+    with_board_item desk board
     (record g {
-      boards = boards_after g.boards place (moment_at g moment) stamp answer;
+      boards = boards_after g.boards board (moment_at g moment) stamp answer;
       last = moment_at g moment;
     })
 
@@ -42,24 +43,24 @@ abbrev pub captured_by : Result (Option Man) Refusal → Option Man
 captured_by (Ok man) = man
 captured_by (Err cause) = None
 
--- the game with what is told of the hands at the board in that place, where a half-move there captured this man
-abbrev pub with_hands : ℕ → ℕ → Option Man → GameState → GameState
-with_hands desk place man g = with_item g (hands_at desk g place man)
+-- the game with what is told of the hands at a board, where a half-move there captured this man
+abbrev pub with_hands : ℕ → BoardNumber → Option Man → GameState → GameState
+with_hands desk board man g = with_item g (hands_at desk g board man)
 
 -- and with what is told of the hands at the other board of a pair
-abbrev pub with_partner_hands : ℕ → ℕ → Option Man → GameState → GameState
-with_partner_hands desk place man g = with_item g (partner_hands_at desk g place man)
+abbrev pub with_partner_hands : ℕ → BoardNumber → Option Man → GameState → GameState
+with_partner_hands desk board man g = with_item g (partner_hands_at desk g board man)
 
 -- and the hands told that the half-move has changed, those of the own board first
-abbrev pub held_moved : ℕ → GameState → ℕ → ℕ → Option ℕ → Result Move Refusal → GameState
-held_moved desk g moment place stamp answer =
-    let man = captured_by (reply_at (slice_get g.boards place) answer) in
-    with_partner_hands desk place man
-    (with_hands desk place man (shown_moved desk g moment place stamp answer))
+abbrev pub held_moved : ℕ → GameState → ℕ → BoardNumber → Option ℕ → Result Move Refusal → GameState
+held_moved desk g moment board stamp answer =
+    let man = captured_by (reply_at (slice_get g.boards (place board)) answer) in
+    with_partner_hands desk board man
+    (with_hands desk board man (shown_moved desk g moment board stamp answer))
 
 -- and ended, where the half-move mates or leaves the other player no move
-abbrev pub moved : ℕ → GameState → ℕ → ℕ → Option ℕ → Result Move Refusal → GameState
-moved desk g moment place stamp answer = finished desk (held_moved desk g moment place stamp answer) moment place
+abbrev pub moved : ℕ → GameState → ℕ → BoardNumber → Option ℕ → Result Move Refusal → GameState
+moved desk g moment board stamp answer = finished desk (held_moved desk g moment board stamp answer) moment board
 
 -- the game where the offers of the seat's opponent have gone, and every takeback, since the seat has moved
 abbrev pub with_cleared : ℕ → GameState → GameState
@@ -69,7 +70,7 @@ with_cleared seat g = record g { offers = where_stand (after_half_move seat g.of
 abbrev pub moved_by : ℕ → GameState → ℕ → Option ℕ → MoveWord → Option ℕ → GameState
 moved_by desk g moment None word stamp = g
 moved_by desk g moment (Some seat) word stamp =
-    moved desk (with_cleared seat g) moment (place_of seat) stamp (seat_word g seat word)
+    moved desk (with_cleared seat g) moment (board_of seat) stamp (seat_word g seat word)
 
 -- plays a word of a seat of the running game: refused as the board answers
 abbrev pub seat_move_effect : ℕ → GameState → ℕ → ℕ → MoveWord → Option ℕ → Effect GameState DeskReply
@@ -77,7 +78,7 @@ seat_move_effect desk g seat moment word stamp = record {
   causes = refused_by (seat_word g seat word);
   memory = true;
   reply = Done;
-  after = moved desk (with_cleared seat g) moment (place_of seat) stamp (seat_word g seat word);
+  after = moved desk (with_cleared seat g) moment (board_of seat) stamp (seat_word g seat word);
 }
 
 -- plays a word at the session's board: refused where it has no seat, where the game has ended, and then as the board

@@ -1,19 +1,17 @@
 -- The seats of a desk: seats 0 and 1 are White and Black of the first board, 2 and 3 those of the second. So the
 -- partner of a player has the other colour: the teams are 0 with 3 and 1 with 2 (FICS help page `bughouse`).
-use Rattle.std.specs.Prelude.{◌≡◌, ℕ, ◌+◌, ◌-◌, ◌/◌, ◌%◌, ◌==◌, if◌then◌else◌, List, [], ◌∷◌, map, refl}
+use Rattle.std.specs.Prelude.{◌≡◌, ℕ, ◌-◌, ◌/◌, ◌%◌, ◌==◌, if◌then◌else◌, List, [], ◌∷◌, map, refl}
 use Rattle.std.specs.Option.{option_to_list}
 use Rattle.chess_model.specs.declared.man.Colour.{Colour}
 use Rattle.chess_model.specs.declared.man.Colour.TheVariants.{White, Black}
 use Rattle.fics_words.specs.declared.seats.Opponents.{Opponents}
 use Rattle.fics_words.specs.declared.seats.Seats.{Seats}
+use Rattle.desk_boards.specs.declared.board_number.BoardNumber.{BoardNumber}
+use Rattle.desk_boards.specs.declared.board_number.BoardNumber.TheVariants.{First, Second}
 
--- the place of a seat's board among the boards, counted from 0
-abbrev pub place_of : ℕ → ℕ
-place_of seat = seat / 2
-
--- the number of a seat's board, counted from 1
-abbrev pub board_of : ℕ → ℕ
-board_of seat = place_of seat + 1
+-- the board of a seat
+abbrev pub board_of : ℕ → BoardNumber
+board_of seat = if seat / 2 == 0 then First else Second
 
 -- the colour of a seat
 abbrev pub colour_at : ℕ → Colour
@@ -28,7 +26,7 @@ abbrev pub pairs_of : Seats → List Opponents
 pairs_of seats = seats.first ∷ option_to_list seats.second
 
 -- each seat has its board and its colour, and partners play with different colours on different boards
-example_boards : map board_of (0 ∷ 1 ∷ 2 ∷ 3 ∷ []) ≡ 1 ∷ 1 ∷ 2 ∷ 2 ∷ []
+example_boards : map board_of (0 ∷ 1 ∷ 2 ∷ 3 ∷ []) ≡ First ∷ First ∷ Second ∷ Second ∷ []
 example_boards = refl
 
 example_colours : map colour_at (0 ∷ 1 ∷ 2 ∷ 3 ∷ []) ≡ White ∷ Black ∷ White ∷ Black ∷ []

@@ -8,6 +8,8 @@ use Rattle.style12_writer.specs.declared.view.BoardView.{BoardView}
 use Rattle.game_board.specs.Board.{Board}
 use Rattle.game_board.specs.BoardFace.{board_face, last_taken}
 use Rattle.game_board.specs.Charges.{remaining_of}
+use Rattle.desk_boards.specs.Boards.{place}
+use Rattle.desk_boards.specs.declared.board_number.BoardNumber.{BoardNumber}
 use Rattle.linked_desk.specs.Desk.{GameState, game_number}
 use Rattle.linked_desk.specs.Seats.{pairs_of}
 
@@ -53,6 +55,6 @@ abbrev pub with_view : GameState → Option BoardView → GameState
 with_view g None = g
 with_view g (Some view) = with_items g (item.Board view ∷ [])
 
--- the game with the board in that place as the last item
-abbrev pub with_board_item : ℕ → ℕ → GameState → GameState
-with_board_item desk place g = with_view g (slice_get (views_of desk g) place)
+-- the game with a board as the last item, if it has it
+abbrev pub with_board_item : ℕ → BoardNumber → GameState → GameState
+with_board_item desk board g = with_view g (slice_get (views_of desk g) (place board))

@@ -1,25 +1,21 @@
 //! The acceptance of an offer at a desk.
-ghost use Rattle.std.specs.Prelude.{◌≤◌};
-ghost use Rattle.clock_ledger.specs.Charges.{last_moment};
 ghost use Rattle.fics_words.specs.Effect.{Takes};
 ghost use Rattle.linked_desk.specs.AcceptOffer.{accept_effect};
 
 use crate::acts::DeskReply;
 use crate::game::Game;
-use fics_words::{Fail, Refusal};
+use clock_ledger::Moment;
+use fics_words::{DeskNumber, Fail, Refusal};
 
 impl Game {
     /// Accepts for a session the earliest offer of another seat that its own lacks: it takes effect, or stands for this
     /// seat too.
     pub(crate) fn accept_offer(
         &mut self,
-        desk: u8,
+        desk: DeskNumber,
         session: u32,
-        moment: u64,
+        moment: Moment,
     ) -> Result<DeskReply, Fail>
-        requires low { 1 ≤ desk }
-        requires high { desk ≤ 128 }
-        requires moment { moment ≤ last_moment }
         ensures { Takes (accept_effect desk self.old session moment) self.old self.new result }
     {
         let Some(seat) = self.seat_of(session) else {

@@ -1,20 +1,23 @@
 //! An acknowledgement of the board by a player's client.
-ghost use Rattle.std.specs.Prelude.{◌≤◌};
-ghost use Rattle.clock_ledger.specs.Charges.{last_moment};
 ghost use Rattle.fics_words.specs.Effect.{Takes};
 ghost use Rattle.clock_ledger.specs.Span.{IsStamp};
 ghost use Rattle.linked_desk.specs.Acked.{acked_effect};
 
 use crate::acts::DeskReply;
 use crate::game::Game;
-use crate::seats::{colour_at, place_of};
+use crate::seats::{board_of, colour_at};
+use clock_ledger::Moment;
 use fics_words::{Fail, Refusal};
 
 impl Game {
     /// Keeps the stamp with which a session's client acknowledged its board, where the game runs and the session is to
     /// move. Takes no memory.
-    pub(crate) fn acked(&mut self, session: u32, moment: u64, stamp: u32) -> Result<DeskReply, Fail>
-        requires moment { moment ≤ last_moment }
+    pub(crate) fn acked(
+        &mut self,
+        session: u32,
+        moment: Moment,
+        stamp: u32,
+    ) -> Result<DeskReply, Fail>
         requires stamp { IsStamp stamp }
         ensures { Takes (acked_effect self.old session moment stamp) self.old self.new result }
     {
@@ -22,7 +25,7 @@ impl Game {
             return Err(Fail::Refused(Refusal::NotPlaying));
         };
         if self.ended.is_none() {
-            self.boards.acked(place_of(seat), colour_at(seat), stamp);
+            self.boards.acked(board_of(seat), colour_at(seat), stamp);
         }
         self.last = self.last.max(moment);
         Ok(DeskReply::Done)

@@ -1,12 +1,12 @@
 //! The acts at a desk, and which game answers them.
-ghost use Rattle.std.specs.Prelude.{◌≡◌, ◌≤◌};
-ghost use Rattle.clock_ledger.specs.Charges.{last_moment};
+ghost use Rattle.std.specs.Prelude.{◌≡◌};
 ghost use Rattle.fics_words.specs.Effect.{Takes};
 ghost use Rattle.linked_desk.specs.Acts.{FitsDeskAct, game_effect, items_told};
 
 use crate::game::Game;
 use chess_model::MoveWord;
-use fics_words::{Fail, Line};
+use clock_ledger::Moment;
+use fics_words::{DeskNumber, Fail, Line};
 use offer_book::Offer;
 use style12_writer::ItemList;
 
@@ -80,14 +80,11 @@ impl Game {
     /// Makes an act of a session.
     pub(crate) fn act(
         &mut self,
-        desk: u8,
+        desk: DeskNumber,
         session: u32,
-        moment: u64,
+        moment: Moment,
         act: &DeskAct,
     ) -> Result<DeskReply, Fail>
-        requires low { 1 ≤ desk }
-        requires high { desk ≤ 128 }
-        requires moment { moment ≤ last_moment }
         requires fits { FitsDeskAct act.now }
         ensures { Takes (game_effect desk self.old session moment act.now) self.old self.new result }
     {

@@ -1,18 +1,16 @@
 //! The refusal of an offer at a desk by a player.
-ghost use Rattle.std.specs.Prelude.{◌≤◌};
-ghost use Rattle.clock_ledger.specs.Charges.{last_moment};
 ghost use Rattle.fics_words.specs.Effect.{Takes};
 ghost use Rattle.linked_desk.specs.DeclineOffer.{decline_effect};
 
 use crate::acts::DeskReply;
 use crate::game::Game;
+use clock_ledger::Moment;
 use fics_words::{Fail, Refusal};
 
 impl Game {
     /// Declines for a session the earliest offer of another seat that its own lacks: it stands for no seat any more,
     /// and that is told.
-    pub(crate) fn decline_offer(&mut self, session: u32, moment: u64) -> Result<DeskReply, Fail>
-        requires { moment ≤ last_moment }
+    pub(crate) fn decline_offer(&mut self, session: u32, moment: Moment) -> Result<DeskReply, Fail>
         ensures { Takes (decline_effect self.old session moment) self.old self.new result }
     {
         let Some(seat) = self.seat_of(session) else {

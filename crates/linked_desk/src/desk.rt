@@ -1,9 +1,8 @@
 //! The desk.
-ghost use Rattle.std.specs.Prelude.{◌≡◌, ◌≤◌, ◌↔◌, ℕ, None, Some, IfOk, IsSome, IsTrue, OnOk, OnErr};
+ghost use Rattle.std.specs.Prelude.{◌≡◌, ◌≤◌, ◌↔◌, ℕ, None, Some, IfOk, IsSome, IsTrue, OnOk, OnErr, slice_get};
 ghost use Rattle.std.specs.Option.{option_copied};
-ghost use Rattle.clock_ledger.specs.Charges.{last_moment};
 ghost use Rattle.fics_words.specs.Effect.{Takes};
-ghost use Rattle.desk_boards.specs.Boards.{numbered};
+ghost use Rattle.desk_boards.specs.Boards.{place};
 
 use crate::acts::{DeskAct, DeskReply};
 use crate::ended::Ended;
@@ -11,7 +10,9 @@ use crate::game::Game;
 use crate::restore::resumed;
 use crate::seating::opened;
 use chess_model::Terms;
-use fics_words::{Fail, Refusal, Seats};
+use clock_ledger::Moment;
+use desk_boards::BoardNumber;
+use fics_words::{DeskNumber, Fail, Refusal, Seats};
 use game_board::GameBoard;
 use game_records::StoredGame;
 use memory::NoMemory;
@@ -21,7 +22,7 @@ use style12_writer::{Item, ItemList};
 
 /// A desk of the hall, with the game that is played at it, if there is one.
 pub struct Desk {
-    number: u8,
+    number: DeskNumber,
     // apart, since who takes the desk's turn moves the desk, and a game has more than a kilobyte
     game: Option<Box<Game>>,
 }
@@ -35,18 +36,12 @@ impl Drop for Desk {
 }
 
 impl Model for Desk {
-    ghost use Rattle.std.specs.Prelude.{◌≤◌};
     ghost use Rattle.std.specs.Option.{option_map};
     ghost use Rattle.linked_desk.specs.Desk.{DeskState};
 
     ghost Value = { DeskState };
 
     ghost view = { λ d. record { number = d.number; game = option_map (λ game. game.value) d.game } };
-
-    ghost invariant = { λ d. record {
-      low : 1 ≤ d.number;
-      high : d.number ≤ 128;
-    } };
 }
 
 impl Desk {
@@ -57,10 +52,8 @@ impl Desk {
     ghost use Rattle.linked_desk.specs.Shelve.{IsAdjourned, names_in, shelved_at};
     ghost use Rattle.linked_desk.specs.Acts.{FitsDeskAct, desk_effect, items_told, missing_effect};
 
-    /// A desk without a game. Its number is 1 to 128.
-    pub fn vacant(number: u8) -> Desk
-        requires low { 1 ≤ number }
-        requires high { number ≤ 128 }
+    /// A desk without a game.
+    pub fn vacant(number: DeskNumber) -> Desk
         ensures { result ≡ record { number = number; game = None } }
     {
         Desk { number, game: None }
@@ -75,13 +68,12 @@ impl Desk {
         serial: u64,
         terms: Terms,
         seats: &Seats,
-        moment: u64,
+        moment: Moment,
     ) -> Result<(), NoMemory>
         requires vacant { self.old.game ≡ None }
         requires sessions { AllDiffer (sessions_of seats.now) }
         requires names { AllDiffer (names_of seats.now) }
         requires pairs { HasPairsFor terms seats.now }
-        requires moment { moment ≤ last_moment }
         ensures ok { OnOk result (self.new ≡ started self.old serial terms seats.now moment) }
         ensures err { OnErr result (self.new ≡ self.old) }
     {
@@ -104,14 +96,13 @@ impl Desk {
         serial: u64,
         game: &StoredGame,
         seats: &Seats,
-        moment: u64,
+        moment: Moment,
     ) -> Result<bool, NoMemory>
         requires vacant { self.old.game ≡ None }
         requires sessions { AllDiffer (sessions_of seats.now) }
         requires names { AllDiffer (names_of seats.now) }
         requires players { names_in seats.now ≡ game.now.names }
         requires pairs { HasPairsFor game.now.terms seats.now }
-        requires moment { moment ≤ last_moment }
         ensures replays { IfOk result (λ yes. IsTrue yes ↔ Replays game.now) }
         ensures restored { IfOk result (λ yes. IsTrue yes → Some self.new
             ≡ restored self.old serial game.now seats.now moment) }
@@ -144,11 +135,10 @@ impl Desk {
     pub fn act(
         &mut self,
         session: u32,
-        moment: u64,
+        moment: Moment,
         serial: u64,
         act: &DeskAct,
     ) -> Result<DeskReply, Fail>
-        requires moment { moment ≤ last_moment }
         requires fits { FitsDeskAct act.now }
         ensures { Takes (desk_effect self.old session moment serial act.now) self.old self.new result }
     {
@@ -217,12 +207,12 @@ impl Desk {
         }
     }
 
-    /// The board of that number, 1 or 2; None where the game has no such board, and where the desk is vacant.
-    pub fn board(&self, number: u8) -> Option<&GameBoard>
-        ensures { option_copied result ≡ numbered number (boards_at self.now) }
+    /// The board of that number; None where the game has no such board, and where the desk is vacant.
+    pub fn board(&self, board: BoardNumber) -> Option<&GameBoard>
+        ensures { option_copied result ≡ slice_get (boards_at self.now) (place board) }
     {
         match &self.game {
-            Some(game) => game.boards().numbered(number),
+            Some(game) => game.boards().at(board),
             None => None,
         }
     }

@@ -1,22 +1,19 @@
 //! The end of a game.
-ghost use Rattle.std.specs.Prelude.{◌≡◌, ◌≤◌, None};
-ghost use Rattle.clock_ledger.specs.Charges.{last_moment};
+ghost use Rattle.std.specs.Prelude.{◌≡◌, None};
 ghost use Rattle.linked_desk.specs.Ends.{end_item, ended_by, winner_on};
 
 use crate::ended::Ended;
 use crate::game::Game;
 use crate::views::view_of;
 use chess_model::Colour;
-use fics_words::Opponents;
+use clock_ledger::Moment;
+use fics_words::{DeskNumber, Opponents};
 use game_board::GameBoard;
 use style12_writer::Item;
 
 impl Game {
     /// Ends the running game, and tells it at each board. Takes no memory.
-    pub(crate) fn end(&mut self, desk: u8, moment: u64, end: Ended)
-        requires low { 1 ≤ desk }
-        requires high { desk ≤ 128 }
-        requires moment { moment ≤ last_moment }
+    pub(crate) fn end(&mut self, desk: DeskNumber, moment: Moment, end: Ended)
         requires running { self.old.ended ≡ None }
         ensures { self.new ≡ ended_by desk self.old moment end }
     {
@@ -36,16 +33,14 @@ impl Game {
 }
 
 /// What is told of the end at a board.
-fn end_item(desk: u8, end: &Ended, players: &Opponents, board: &GameBoard) -> Item
-    requires low { 1 ≤ desk }
-    requires high { desk ≤ 128 }
+fn end_item(desk: DeskNumber, end: &Ended, players: &Opponents, board: &GameBoard) -> Item
     ensures { result ≡ end_item desk end.now players.now board.now }
 {
     Item::End {
         view: view_of(desk, players, board),
         why: end.why,
         winner: winner_on(end, board.number()),
-        own: board.number() == end.board,
+        own: board.number() == end.board.number(),
     }
 }
 
@@ -53,7 +48,7 @@ fn end_item(desk: u8, end: &Ended, players: &Opponents, board: &GameBoard) -> It
 fn winner_on(end: &Ended, board: u8) -> Option<Colour>
     ensures { result ≡ winner_on end.now board }
 {
-    if board == end.board {
+    if board == end.board.number() {
         return end.winner;
     }
     match end.winner {

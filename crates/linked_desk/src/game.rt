@@ -4,6 +4,7 @@ ghost use Rattle.std.specs.Prelude.{◌≡◌, ◌<◌, IfSome, length};
 use crate::ended::Ended;
 use crate::tally::Tally;
 use chess_model::Terms;
+use clock_ledger::Moment;
 use desk_boards::Boards;
 use fics_words::Seats;
 use observer_feed::Feed;
@@ -25,7 +26,7 @@ pub(crate) struct Game {
     pub(crate) boards: Boards,
     pub(crate) feed: Feed<Item>,
     pub(crate) remarks: u16,
-    pub(crate) last: u64,
+    pub(crate) last: Moment,
     pub(crate) ended: Option<Ended>,
     pub(crate) offers: Offers,
     pub(crate) tally: Tally,

@@ -1,49 +1,47 @@
 //! What viewers are told of the men in hand.
-ghost use Rattle.std.specs.Prelude.{◌≡◌, ◌≤◌};
-ghost use Rattle.chess_model.specs.Tests.{has_drops};
+ghost use Rattle.std.specs.Prelude.{◌≡◌};
 ghost use Rattle.game_board.specs.BoardFace.{last_played};
 ghost use Rattle.linked_desk.specs.Hands.{changes_hands, ends_with_drop, first_hands, hands_at, hands_told, hold_item, is_drop, partner_hands_at};
 
 use crate::game::Game;
 use crate::views::game_number;
-use chess_model::{Colour, Kind, Man, Move, Variant};
-use desk_boards::other_place;
+use chess_model::{Colour, Kind, Man, Move, Variant, has_drops};
+use desk_boards::BoardNumber;
+use fics_words::DeskNumber;
 use game_board::{GameBoard, Played, handed_over_as};
 use style12_writer::Item;
 
 impl Game {
-    /// What is told of the hands at the board in that place after a half-move there that captured this man.
-    pub(crate) fn hands_at(&self, desk: u8, place: u8, captured: Option<Man>) -> Option<Item>
-        requires low { 1 ≤ desk }
-        requires high { desk ≤ 128 }
-        ensures { result ≡ hands_at desk self.now place captured }
+    /// What is told of the hands at a board after a half-move there that captured this man.
+    pub(crate) fn hands_at(
+        &self,
+        desk: DeskNumber,
+        board: BoardNumber,
+        captured: Option<Man>,
+    ) -> Option<Item>
+        ensures { result ≡ hands_at desk self.now board captured }
     {
-        let board = self.boards.at(place)?;
+        let board = self.boards.at(board)?;
         hands_told(desk, board, captured)
     }
 
-    /// What is told of the hands at the other board of a pair, where a half-move at the board in that place captured
-    /// this man.
+    /// What is told of the hands at the other board of a pair, where a half-move at this one captured this man.
     pub(crate) fn partner_hands_at(
         &self,
-        desk: u8,
-        place: u8,
+        desk: DeskNumber,
+        board: BoardNumber,
         captured: Option<Man>,
     ) -> Option<Item>
-        requires low { 1 ≤ desk }
-        requires high { desk ≤ 128 }
-        ensures { result ≡ partner_hands_at desk self.now place captured }
+        ensures { result ≡ partner_hands_at desk self.now board captured }
     {
-        let board = self.boards.at(other_place(place))?;
+        let board = self.boards.at(board.other())?;
         let man = captured?;
         Some(hold_item(desk, board, Some(handed_over_as(man))))
     }
 }
 
 /// What is told of the hands at the start of a game, where its variant has hands.
-pub(crate) fn first_hands(desk: u8, board: &GameBoard) -> Option<Item>
-    requires low { 1 ≤ desk }
-    requires high { desk ≤ 128 }
+pub(crate) fn first_hands(desk: DeskNumber, board: &GameBoard) -> Option<Item>
     ensures { result ≡ first_hands desk board.now }
 {
     if !has_drops(board.terms().variant) {
@@ -53,9 +51,7 @@ pub(crate) fn first_hands(desk: u8, board: &GameBoard) -> Option<Item>
 }
 
 /// What is told of the hands of a board after a half-move there that captured this man.
-fn hands_told(desk: u8, board: &GameBoard, captured: Option<Man>) -> Option<Item>
-    requires low { 1 ≤ desk }
-    requires high { desk ≤ 128 }
+fn hands_told(desk: DeskNumber, board: &GameBoard, captured: Option<Man>) -> Option<Item>
     ensures { result ≡ hands_told desk board.now captured }
 {
     let is_drop = ends_with_drop(board.list());
@@ -70,9 +66,7 @@ fn hands_told(desk: u8, board: &GameBoard, captured: Option<Man>) -> Option<Item
 }
 
 /// Both hands at a board as it stands, and the kind of the man that has just come, if one has.
-fn hold_item(desk: u8, board: &GameBoard, came: Option<Kind>) -> Item
-    requires low { 1 ≤ desk }
-    requires high { desk ≤ 128 }
+fn hold_item(desk: DeskNumber, board: &GameBoard, came: Option<Kind>) -> Item
     ensures { result ≡ hold_item desk board.now came }
 {
     let position = board.position();
@@ -81,18 +75,6 @@ fn hold_item(desk: u8, board: &GameBoard, came: Option<Kind>) -> Item
         white: position.hand(Colour::White),
         black: position.hand(Colour::Black),
         came,
-    }
-}
-
-/// Whether men in hand belong to the variant.
-fn has_drops(variant: Variant) -> bool
-    ensures { result ≡ has_drops variant }
-{
-    match variant {
-        Variant::Chess => false,
-        Variant::Crazyhouse => true,
-        Variant::Bughouse => true,
-        Variant::Fischer(_) => false,
     }
 }
 

@@ -1,6 +1,5 @@
 //! Leaving a desk.
-ghost use Rattle.std.specs.Prelude.{◌≡◌, ◌≤◌, Ok};
-ghost use Rattle.clock_ledger.specs.Charges.{last_moment};
+ghost use Rattle.std.specs.Prelude.{◌≡◌, Ok};
 ghost use Rattle.fics_words.specs.Effect.{Takes};
 ghost use Rattle.linked_desk.specs.Desk.{seat_of};
 ghost use Rattle.linked_desk.specs.Leave.{forfeit, leave_effect, leaving_end, left_by, waits};
@@ -11,14 +10,13 @@ use crate::game::Game;
 use crate::offering::end_without_winner;
 use crate::seats::{board_of, colour_at};
 use chess_model::Why;
+use clock_ledger::Moment;
+use fics_words::DeskNumber;
 
 impl Game {
     /// A session leaves: it is no viewer any more, and a running game in which it plays is adjourned, or lost by it.
     /// Takes no memory.
-    pub(crate) fn leave(&mut self, desk: u8, session: u32, moment: u64) -> DeskReply
-        requires low { 1 ≤ desk }
-        requires high { desk ≤ 128 }
-        requires moment { moment ≤ last_moment }
+    pub(crate) fn leave(&mut self, desk: DeskNumber, session: u32, moment: Moment) -> DeskReply
         ensures { Takes (leave_effect desk self.old session moment) self.old self.new (Ok result) }
     {
         self.end_by_leaving(desk, session, moment);
@@ -28,10 +26,7 @@ impl Game {
     }
 
     /// Ends a running game in which the session plays.
-    fn end_by_leaving(&mut self, desk: u8, session: u32, moment: u64)
-        requires low { 1 ≤ desk }
-        requires high { desk ≤ 128 }
-        requires moment { moment ≤ last_moment }
+    fn end_by_leaving(&mut self, desk: DeskNumber, session: u32, moment: Moment)
         ensures { self.new ≡ left_by desk self.old moment (seat_of self.old session) }
     {
         let Some(seat) = self.seat_of(session) else {

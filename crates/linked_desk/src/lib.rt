@@ -47,6 +47,7 @@ mod watch;
 pub use acts::{DeskAct, DeskReply};
 pub use chess_model::Why;
 pub use desk::Desk;
+pub use desk_boards::BoardNumber;
 pub use ended::Ended;
 pub use laws::{
     acts_keep_the_game, acts_keep_the_players, boards_are_known_by_their_games, men_stay_whole,
@@ -55,7 +56,7 @@ pub use leave_laws::leaving_adjourns_or_loses;
 pub use observer_feed::Cursor;
 pub use offer_book::Offer;
 pub use offer_laws::half_moves_clear_offers;
-pub use seats::colour_at;
+pub use seats::{board_of, colour_at};
 pub use shelf_laws::{resuming_restores, shelved_games_replay};
 pub use sight::viewer_of;
 pub use style12_writer::{BoardView, Item, ItemList};

@@ -1,15 +1,15 @@
 //! An offer at a desk.
-ghost use Rattle.std.specs.Prelude.{◌≡◌, ◌≤◌, ◌<◌, None};
-ghost use Rattle.clock_ledger.specs.Charges.{last_moment};
+ghost use Rattle.std.specs.Prelude.{◌≡◌, ◌<◌, None};
 ghost use Rattle.fics_words.specs.Effect.{Takes, first_cause, refusal_of};
 ghost use Rattle.linked_desk.specs.Make.{claim_effect, claimed, make_effect, offer_effect, unfit_causes};
 
 use crate::acts::DeskReply;
 use crate::game::Game;
 use crate::offering::end_without_winner;
-use crate::seats::place_of;
+use crate::seats::board_of;
 use chess_model::Why;
-use fics_words::{Fail, Refusal};
+use clock_ledger::Moment;
+use fics_words::{DeskNumber, Fail, Refusal};
 use offer_book::Offer;
 
 impl Game {
@@ -17,14 +17,11 @@ impl Game {
     /// told. An offer of a draw that may be claimed ends the game at once.
     pub(crate) fn make(
         &mut self,
-        desk: u8,
+        desk: DeskNumber,
         session: u32,
-        moment: u64,
+        moment: Moment,
         offer: Offer,
     ) -> Result<DeskReply, Fail>
-        requires low { 1 ≤ desk }
-        requires high { desk ≤ 128 }
-        requires moment { moment ≤ last_moment }
         ensures { Takes (make_effect desk self.old session moment offer) self.old self.new result }
     {
         let Some(seat) = self.seat_of(session) else {
@@ -77,7 +74,7 @@ impl Game {
         ensures { result ≡ claimed self.now.boards seat offer }
     {
         match offer {
-            Offer::Draw => self.boards.claim(place_of(seat)),
+            Offer::Draw => self.boards.claim(board_of(seat)),
             Offer::Abort => None,
             Offer::Adjourn => None,
             Offer::Takeback(_) => None,
@@ -87,14 +84,11 @@ impl Game {
     /// An offer of a seat that fits the desk.
     fn claim_or_offer(
         &mut self,
-        desk: u8,
+        desk: DeskNumber,
         seat: u8,
-        moment: u64,
+        moment: Moment,
         offer: Offer,
     ) -> Result<DeskReply, Fail>
-        requires low { 1 ≤ desk }
-        requires high { desk ≤ 128 }
-        requires moment { moment ≤ last_moment }
         requires seated { seat < self.old.offers.seats }
         requires running { self.old.ended ≡ None }
         ensures { Takes (claim_effect desk self.old seat moment offer (claimed self.old.boards seat offer)) self.old
@@ -108,10 +102,13 @@ impl Game {
     }
 
     /// An offer of a seat that claims no draw.
-    fn offer(&mut self, desk: u8, seat: u8, moment: u64, offer: Offer) -> Result<DeskReply, Fail>
-        requires low { 1 ≤ desk }
-        requires high { desk ≤ 128 }
-        requires moment { moment ≤ last_moment }
+    fn offer(
+        &mut self,
+        desk: DeskNumber,
+        seat: u8,
+        moment: Moment,
+        offer: Offer,
+    ) -> Result<DeskReply, Fail>
         requires seated { seat < self.old.offers.seats }
         requires running { self.old.ended ≡ None }
         ensures { Takes (offer_effect desk self.old seat moment offer) self.old self.new result }

@@ -1,6 +1,5 @@
 //! What is told of offers, and what an offer does that every seat has made.
-ghost use Rattle.std.specs.Prelude.{◌≡◌, ◌≤◌, IfOk, OnErr, OnOk, None, false, option_and_then, slice_get};
-ghost use Rattle.clock_ledger.specs.Charges.{last_moment};
+ghost use Rattle.std.specs.Prelude.{◌≡◌, IfOk, OnErr, OnOk, None, false, option_and_then, slice_get};
 ghost use Rattle.linked_desk.specs.Ends.{ended_by};
 ghost use Rattle.linked_desk.specs.Hands.{first_hands};
 ghost use Rattle.linked_desk.specs.Offering.{agreed, decline_item, end_without_winner, offer_item, offer_text, taken_back, told, with_offers};
@@ -11,7 +10,9 @@ use crate::game::{Game, ROOM_TO_END};
 use crate::hands::first_hands;
 use crate::seats::board_of;
 use chess_model::Why;
-use fics_words::{Handle, Line};
+use clock_ledger::Moment;
+use desk_boards::BoardNumber;
+use fics_words::{DeskNumber, Handle, Line};
 use memory::NoMemory;
 use offer_book::{Offer, Offers};
 use std::alloc::Global;
@@ -47,10 +48,9 @@ impl Game {
         &mut self,
         offers: Offers,
         seat: u8,
-        moment: u64,
+        moment: Moment,
         item: Option<Item>,
     ) -> Result<(), NoMemory>
-        requires moment { moment ≤ last_moment }
         requires seats { offers.seats ≡ self.old.offers.seats }
         requires room { is_told_out self.old.tally seat ≡ false }
         ensures ok { OnOk result (self.new ≡ told offers seat moment item self.old) }
@@ -70,15 +70,12 @@ impl Game {
     /// memory changes nothing.
     pub(crate) fn agree(
         &mut self,
-        desk: u8,
+        desk: DeskNumber,
         offers: Offers,
-        moment: u64,
+        moment: Moment,
         seat: u8,
         offer: Offer,
     ) -> Result<(), NoMemory>
-        requires low { 1 ≤ desk }
-        requires high { desk ≤ 128 }
-        requires moment { moment ≤ last_moment }
         requires seats { offers.seats ≡ self.old.offers.seats }
         requires running { self.old.ended ≡ None }
         ensures ok { OnOk result (self.new ≡ agreed desk (with_offers offers moment self.old) moment seat offer) }
@@ -94,10 +91,14 @@ impl Game {
     }
 
     /// The game ends without a winner by an act of a seat.
-    pub(crate) fn settle(&mut self, desk: u8, offers: Offers, moment: u64, seat: u8, why: Why)
-        requires low { 1 ≤ desk }
-        requires high { desk ≤ 128 }
-        requires moment { moment ≤ last_moment }
+    pub(crate) fn settle(
+        &mut self,
+        desk: DeskNumber,
+        offers: Offers,
+        moment: Moment,
+        seat: u8,
+        why: Why,
+    )
         requires seats { offers.seats ≡ self.old.offers.seats }
         requires running { self.old.ended ≡ None }
         ensures { self.new ≡ ended_by desk (with_offers offers moment self.old) moment (end_without_winner seat why) }
@@ -108,10 +109,13 @@ impl Game {
 
     /// Half-moves of the first board are taken back, which is told, and then the board with its hands. Running out of
     /// memory changes nothing.
-    fn take_back(&mut self, desk: u8, offers: Offers, moment: u64, n: u16) -> Result<(), NoMemory>
-        requires low { 1 ≤ desk }
-        requires high { desk ≤ 128 }
-        requires moment { moment ≤ last_moment }
+    fn take_back(
+        &mut self,
+        desk: DeskNumber,
+        offers: Offers,
+        moment: Moment,
+        n: u16,
+    ) -> Result<(), NoMemory>
         requires seats { offers.seats ≡ self.old.offers.seats }
         ensures ok { OnOk result (self.new ≡ taken_back desk (with_offers offers moment self.old) moment n) }
         ensures err { OnErr result (self.new ≡ self.old) }
@@ -123,7 +127,7 @@ impl Game {
         self.boards.take_back(n, now);
         self.last = now;
         self.feed.add(Item::Talk(line));
-        if let Some(view) = self.view(desk, 0) {
+        if let Some(view) = self.view(desk, BoardNumber::First) {
             self.feed.add(Item::Board(view));
         }
         if let Some(hold) = self.hands_now(desk) {
@@ -133,12 +137,10 @@ impl Game {
     }
 
     /// The hands of the first board as they stand, where its variant has hands.
-    fn hands_now(&self, desk: u8) -> Option<Item>
-        requires low { 1 ≤ desk }
-        requires high { desk ≤ 128 }
+    fn hands_now(&self, desk: DeskNumber) -> Option<Item>
         ensures { result ≡ option_and_then (first_hands desk) (slice_get self.now.boards 0) }
     {
-        let board = self.boards.at(0)?;
+        let board = self.boards.at(BoardNumber::First)?;
         first_hands(desk, board)
     }
 }

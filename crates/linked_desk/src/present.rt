@@ -1,21 +1,19 @@
 //! What is shown of a game as it stands.
-ghost use Rattle.std.specs.Prelude.{◌≡◌, ◌≤◌, ◌++◌, IfOk, OnOk};
+ghost use Rattle.std.specs.Prelude.{◌≡◌, ◌++◌, IfOk, OnOk};
 ghost use Rattle.linked_desk.specs.Present.{present_boards, present_items};
 ghost use Rattle.linked_desk.specs.Seating.{first_items};
 
 use crate::game::Game;
 use crate::hands::first_hands;
 use crate::views::view_of;
-use fics_words::Opponents;
+use fics_words::{DeskNumber, Opponents};
 use game_board::GameBoard;
 use memory::NoMemory;
 use style12_writer::{Item, ItemList};
 
 impl Game {
     /// The boards.
-    pub(crate) fn present_boards(&self, desk: u8) -> Result<ItemList, NoMemory>
-        requires low { 1 ≤ desk }
-        requires high { desk ≤ 128 }
+    pub(crate) fn present_boards(&self, desk: DeskNumber) -> Result<ItemList, NoMemory>
         ensures { IfOk result (λ items. items ≡ present_boards desk self.now) }
     {
         let mut items = ItemList::new(self.alloc);
@@ -30,9 +28,7 @@ impl Game {
     }
 
     /// The boards, each with its hands behind it where the variant has them.
-    pub(crate) fn present_items(&self, desk: u8) -> Result<ItemList, NoMemory>
-        requires low { 1 ≤ desk }
-        requires high { desk ≤ 128 }
+    pub(crate) fn present_items(&self, desk: DeskNumber) -> Result<ItemList, NoMemory>
         ensures { IfOk result (λ items. items ≡ present_items desk self.now) }
     {
         let mut items = ItemList::new(self.alloc);
@@ -50,12 +46,10 @@ impl Game {
 /// Adds a board, and its hands where the variant has them.
 fn add_board(
     items: &mut ItemList,
-    desk: u8,
+    desk: DeskNumber,
     players: &Opponents,
     board: &GameBoard,
 ) -> Result<(), NoMemory>
-    requires low { 1 ≤ desk }
-    requires high { desk ≤ 128 }
     ensures { OnOk result (items.new ≡ items.old ++ first_items desk players.now board.now) }
 {
     items.push(Item::Board(view_of(desk, players, board)))?;

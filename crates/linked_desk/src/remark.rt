@@ -1,11 +1,10 @@
 //! A remark on a game.
-ghost use Rattle.std.specs.Prelude.{◌≤◌};
-ghost use Rattle.clock_ledger.specs.Charges.{last_moment};
 ghost use Rattle.fics_words.specs.Effect.{Takes};
 ghost use Rattle.linked_desk.specs.Remark.{remark_effect};
 
 use crate::acts::DeskReply;
 use crate::game::{Game, ROOM_TO_END};
+use clock_ledger::Moment;
 use fics_words::{Fail, Line, Refusal};
 use style12_writer::Item;
 
@@ -17,10 +16,9 @@ impl Game {
     pub(crate) fn remark(
         &mut self,
         session: u32,
-        moment: u64,
+        moment: Moment,
         text: &Line,
     ) -> Result<DeskReply, Fail>
-        requires { moment ≤ last_moment }
         ensures { Takes (remark_effect self.old session moment text.now) self.old self.new result }
     {
         if !self.is_watching(session) {

@@ -1,10 +1,9 @@
 //! How a game begins.
 ghost use Rattle.std.specs.Prelude.{◌≡◌, ◌≢◌, ◌+◌, ◌≤◌, [], ◌∷◌, ◌++◌, false, length, map, IfOk, OnOk};
-ghost use Rattle.clock_ledger.specs.Charges.{last_moment};
 ghost use Rattle.fics_words.specs.Seats.{seat_list};
 ghost use Rattle.offer_book.specs.Offers.{no_offers};
 ghost use Rattle.observer_feed.specs.Feed.{empty_feed, is_viewer};
-ghost use Rattle.desk_boards.specs.Boards.{latest};
+ghost use Rattle.desk_boards.specs.Boards.{latest, number_of};
 ghost use Rattle.linked_desk.specs.Seating.{AllDiffer, HasPairsFor, announcement, announcements, first_items, from_start, game_at, news, opened, sessions_of, shown_items};
 ghost use Rattle.linked_desk.specs.Seats.{pairs_of};
 
@@ -14,8 +13,9 @@ use crate::occasion::Occasion;
 use crate::tally::Tally;
 use crate::views::{game_number, view_of};
 use chess_model::Terms;
-use desk_boards::Boards;
-use fics_words::{Line, Opponents, Seats};
+use clock_ledger::Moment;
+use desk_boards::{BoardNumber, Boards};
+use fics_words::{DeskNumber, Line, Opponents, Seats};
 use game_board::GameBoard;
 use memory::NoMemory;
 use observer_feed::{Backlog, Feed};
@@ -28,15 +28,12 @@ use style12_writer::{Item, continued_line, created_line};
 #[tactic(auto, using(crate::proofs::Opening::announced_first))]
 pub(crate) fn opened(
     alloc: Global,
-    desk: u8,
+    desk: DeskNumber,
     serial: u64,
     terms: Terms,
     seats: &Seats,
-    moment: u64,
+    moment: Moment,
 ) -> Result<Game, NoMemory>
-    requires low { 1 ≤ desk }
-    requires high { desk ≤ 128 }
-    requires moment { moment ≤ last_moment }
     requires sessions { AllDiffer (sessions_of seats.now) }
     requires pairs { HasPairsFor terms seats.now }
     ensures { IfOk result (λ game. game ≡ opened desk serial terms seats.now moment) }
@@ -55,10 +52,9 @@ pub(crate) fn game_at(
     seats: &Seats,
     boards: Boards,
     feed: Feed<Item>,
-    moment: u64,
+    moment: Moment,
 ) -> Game
     requires order { latest boards ≤ moment }
-    requires moment { moment ≤ last_moment }
     requires viewers { feed.viewers ≡ map from_start (seat_list seats.now) }
     requires room { 4 ≤ feed.room }
     ensures { result ≡ game_at serial terms seats.now boards feed.items moment }
@@ -83,12 +79,10 @@ pub(crate) fn game_at(
 pub(crate) fn announced(
     alloc: Global,
     occasion: Occasion,
-    desk: u8,
+    desk: DeskNumber,
     terms: &Terms,
     seats: &Seats,
 ) -> Result<Feed<Item>, NoMemory>
-    requires low { 1 ≤ desk }
-    requires high { desk ≤ 128 }
     requires sessions { AllDiffer (sessions_of seats.now) }
     ensures items { IfOk result (λ feed. feed.items ≡ announcements occasion desk terms.now seats.now) }
     ensures viewers { IfOk result (λ feed. feed.viewers ≡ map from_start (seat_list seats.now)) }
@@ -104,12 +98,10 @@ fn announce(
     feed: &mut Feed<Item>,
     alloc: Global,
     occasion: Occasion,
-    desk: u8,
+    desk: DeskNumber,
     terms: &Terms,
     seats: &Seats,
 ) -> Result<(), NoMemory>
-    requires low { 1 ≤ desk }
-    requires high { desk ≤ 128 }
     requires sessions { AllDiffer (sessions_of seats.now) }
     requires empty { feed.old ≡ empty_feed }
     ensures items { OnOk result (feed.new.items ≡ announcements occasion desk terms.now seats.now) }
@@ -118,17 +110,17 @@ fn announce(
 {
     feed.reserve(6 + ROOM_TO_END)?;
     add_players(feed, seats)?;
-    feed.add(announcement(alloc, occasion, desk, terms, 1, &seats.first)?);
+    let first = BoardNumber::First;
+    feed.add(announcement(alloc, occasion, desk, terms, first, &seats.first)?);
     if let Some(players) = &seats.second {
-        feed.add(announcement(alloc, occasion, desk, terms, 2, players)?);
+        let second = BoardNumber::Second;
+        feed.add(announcement(alloc, occasion, desk, terms, second, players)?);
     }
     Ok(())
 }
 
 /// Shows each board at the beginning.
-pub(crate) fn show_each(feed: &mut Feed<Item>, desk: u8, seats: &Seats, boards: &Boards)
-    requires low { 1 ≤ desk }
-    requires high { desk ≤ 128 }
+pub(crate) fn show_each(feed: &mut Feed<Item>, desk: DeskNumber, seats: &Seats, boards: &Boards)
     requires room { 4 ≤ feed.old.room }
     ensures items { feed.new.items ≡ feed.old.items ++ shown_items desk (pairs_of seats.now) boards.now }
     ensures viewers { feed.new.viewers ≡ feed.old.viewers }
@@ -144,9 +136,7 @@ pub(crate) fn show_each(feed: &mut Feed<Item>, desk: u8, seats: &Seats, boards: 
 }
 
 /// Shows a board at the beginning, with its hands where the variant has them.
-fn show(feed: &mut Feed<Item>, desk: u8, players: &Opponents, board: &GameBoard)
-    requires low { 1 ≤ desk }
-    requires high { desk ≤ 128 }
+fn show(feed: &mut Feed<Item>, desk: DeskNumber, players: &Opponents, board: &GameBoard)
     requires room { 2 ≤ feed.old.room }
     ensures items { feed.new.items ≡ feed.old.items ++ first_items desk players.now board.now }
     ensures viewers { feed.new.viewers ≡ feed.old.viewers }
@@ -158,20 +148,18 @@ fn show(feed: &mut Feed<Item>, desk: u8, players: &Opponents, board: &GameBoard)
     }
 }
 
-/// The line that tells that a game begins at the board of that number.
+/// The line that tells that a game begins at a board.
 fn announcement(
     alloc: Global,
     occasion: Occasion,
-    desk: u8,
+    desk: DeskNumber,
     terms: &Terms,
-    number: u8,
+    board: BoardNumber,
     players: &Opponents,
 ) -> Result<Item, NoMemory>
-    requires low { 1 ≤ desk }
-    requires high { desk ≤ 128 }
-    ensures { IfOk result (λ item. item ≡ announcement occasion desk terms.now number players.now) }
+    ensures { IfOk result (λ item. item ≡ announcement occasion desk terms.now (number_of board) players.now) }
 {
-    let game = game_number(desk, number);
+    let game = game_number(desk, board.number());
     Ok(Item::Talk(news(alloc, occasion, game, players, terms)?))
 }
 

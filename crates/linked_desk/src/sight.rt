@@ -4,6 +4,7 @@ ghost use Rattle.linked_desk.specs.Sight.{board_in, observing, playing, sight};
 
 use crate::seats::{board_of, colour_at};
 use chess_model::Colour;
+use desk_boards::BoardNumber;
 use style12_writer::{BoardView, Viewer};
 
 /// How a board is seen: by the player of that seat, or by an observer, who has none. A player has relation 1 or -1 at
@@ -15,7 +16,7 @@ pub fn viewer_of(seat: Option<u8>, view: &BoardView) -> Viewer
     let Some(seat) = seat else {
         return observing();
     };
-    if board_of(seat) != board_in(view.game) {
+    if board_of(seat).number() != board_in(view.game).number() {
         return observing();
     }
     playing(colour_at(seat), view.face.to_move)
@@ -42,9 +43,13 @@ fn playing(own: Colour, to_move: Colour) -> Viewer
     }
 }
 
-/// The number of the board in its game, by the number under which it is shown.
-fn board_in(game: u16) -> u8
+/// Which board of its desk it is, by the number under which it is shown.
+fn board_in(game: u16) -> BoardNumber
     ensures { result ≡ board_in game }
 {
-    if game % 2 == 0 { 2 } else { 1 }
+    if game % 2 == 0 {
+        BoardNumber::Second
+    } else {
+        BoardNumber::First
+    }
 }

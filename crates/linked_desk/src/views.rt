@@ -1,6 +1,7 @@
 //! What is shown of a game.
 ghost use Rattle.std.specs.Prelude.{◌≡◌, ◌+◌, ◌<◌, ◌≤◌, ℕ, IfOk, option_map, slice_get};
 ghost use Rattle.style12_writer.specs.declared.item.Item.TheVariants as item;
+ghost use Rattle.desk_boards.specs.Boards.{place};
 ghost use Rattle.linked_desk.specs.Acts.{game_effect, items_told};
 ghost use Rattle.linked_desk.specs.Desk.{game_number};
 ghost use Rattle.linked_desk.specs.Views.{feed_with, view_of, views_of};
@@ -8,7 +9,8 @@ ghost use Rattle.linked_desk.specs.Views.{feed_with, view_of, views_of};
 use crate::acts::DeskAct;
 use crate::game::Game;
 use chess_model::Colour;
-use fics_words::Opponents;
+use desk_boards::BoardNumber;
+use fics_words::{DeskNumber, Opponents};
 use game_board::GameBoard;
 use memory::NoMemory;
 use observer_feed::Feed;
@@ -16,19 +18,15 @@ use std::alloc::Global;
 use style12_writer::{BoardView, Item, ItemList};
 
 /// The number under which a board at a desk is shown.
-pub(crate) fn game_number(desk: u8, board: u8) -> u16
-    requires low { 1 ≤ desk }
-    requires high { desk ≤ 128 }
+pub(crate) fn game_number(desk: DeskNumber, board: u8) -> u16
     ensures { result ≡ game_number desk board }
 {
-    2 * (u16::from(desk) - 1) + u16::from(board)
+    2 * (u16::from(desk.get()) - 1) + u16::from(board)
 }
 
 /// All that the board line of a game shows.
 #[tactic(auto, unfolding(crate::specs::Views::view_of))]
-pub(crate) fn view_of(desk: u8, players: &Opponents, board: &GameBoard) -> BoardView
-    requires low { 1 ≤ desk }
-    requires high { desk ≤ 128 }
+pub(crate) fn view_of(desk: DeskNumber, players: &Opponents, board: &GameBoard) -> BoardView
     ensures { result ≡ view_of desk players.now board.now }
 {
     let terms = board.terms();
@@ -47,27 +45,22 @@ pub(crate) fn view_of(desk: u8, players: &Opponents, board: &GameBoard) -> Board
 }
 
 impl Game {
-    /// The board in that place as an item, if there is one.
-    pub(crate) fn board_item(&self, desk: u8, place: u8) -> Option<Item>
-        requires low { 1 ≤ desk }
-        requires high { desk ≤ 128 }
-        ensures { result ≡ option_map item.Board (slice_get (views_of desk self.now) place) }
+    /// A board as an item, if the game has it.
+    pub(crate) fn board_item(&self, desk: DeskNumber, board: BoardNumber) -> Option<Item>
+        ensures { result ≡ option_map item.Board (slice_get (views_of desk self.now) (place board)) }
     {
-        Some(Item::Board(self.view(desk, place)?))
+        Some(Item::Board(self.view(desk, board)?))
     }
 
-    /// What is shown of the board in that place, if there is one.
-    pub(crate) fn view(&self, desk: u8, place: u8) -> Option<BoardView>
-        requires low { 1 ≤ desk }
-        requires high { desk ≤ 128 }
-        ensures { result ≡ slice_get (views_of desk self.now) place }
+    /// What is shown of a board, if the game has it.
+    pub(crate) fn view(&self, desk: DeskNumber, board: BoardNumber) -> Option<BoardView>
+        ensures { result ≡ slice_get (views_of desk self.now) (place board) }
     {
-        let players = match place {
-            0 => &self.seats.first,
-            1 => self.seats.second.as_ref()?,
-            _ => return None,
+        let players = match board {
+            BoardNumber::First => &self.seats.first,
+            BoardNumber::Second => self.seats.second.as_ref()?,
         };
-        let board = self.boards.at(place)?;
+        let board = self.boards.at(board)?;
         Some(view_of(desk, players, board))
     }
 }
@@ -90,12 +83,10 @@ impl Game {
     pub(crate) fn items_ahead(
         &self,
         alloc: Global,
-        desk: u8,
+        desk: DeskNumber,
         session: u32,
         act: &DeskAct,
     ) -> Result<ItemList, NoMemory>
-        requires low { 1 ≤ desk }
-        requires high { desk ≤ 128 }
         ensures { IfOk result (λ items. (moment : ℕ) → items
             ≡ items_told (game_effect desk self.now session moment act.now).reply) }
     {

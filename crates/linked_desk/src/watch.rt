@@ -1,21 +1,22 @@
 //! How a session becomes a viewer of a game, and how an observer ceases to be one.
-ghost use Rattle.std.specs.Prelude.{◌≤◌};
-ghost use Rattle.clock_ledger.specs.Charges.{last_moment};
 ghost use Rattle.fics_words.specs.Effect.{Takes};
 ghost use Rattle.linked_desk.specs.Watch.{unwatch_effect, watch_effect};
 
 use crate::acts::DeskReply;
 use crate::game::Game;
-use fics_words::{Fail, Refusal};
+use clock_ledger::Moment;
+use fics_words::{DeskNumber, Fail, Refusal};
 use observer_feed::Backlog;
 
 impl Game {
     /// Makes the session a viewer, who is told what comes from now on, and gives it the boards as they stand. Refused
     /// with `AlreadyWatching`.
-    pub(crate) fn watch(&mut self, desk: u8, session: u32, moment: u64) -> Result<DeskReply, Fail>
-        requires low { 1 ≤ desk }
-        requires high { desk ≤ 128 }
-        requires moment { moment ≤ last_moment }
+    pub(crate) fn watch(
+        &mut self,
+        desk: DeskNumber,
+        session: u32,
+        moment: Moment,
+    ) -> Result<DeskReply, Fail>
         ensures { Takes (watch_effect desk self.old session moment) self.old self.new result }
     {
         if self.is_watching(session) {
@@ -28,8 +29,7 @@ impl Game {
     }
 
     /// An observer is no viewer any more. Refused with `NotWatching`, a player too. Takes no memory.
-    pub(crate) fn unwatch(&mut self, session: u32, moment: u64) -> Result<DeskReply, Fail>
-        requires { moment ≤ last_moment }
+    pub(crate) fn unwatch(&mut self, session: u32, moment: Moment) -> Result<DeskReply, Fail>
         ensures { Takes (unwatch_effect self.old session moment) self.old self.new result }
     {
         if !self.is_watching(session) {

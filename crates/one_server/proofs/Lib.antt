@@ -4,4 +4,5 @@ pub mod Copying
 pub mod Opens
 pub mod Replies
 pub mod Lending
+pub mod Made
 pub mod Resumed

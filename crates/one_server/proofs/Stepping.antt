@@ -47,22 +47,6 @@ part_there lobby desks (suc n) desk h e =
     let there : slice_get desks n ≡ Some desk = subst (λ (k : ℕ). slice_get desks k ≡ Some desk) same e in
     slice_get-map ADesk desks n ∙ ap (option_map ADesk) there
 
-same_desk : (one another : DeskState) → Some (ADesk one) ≡ Some (ADesk another) → one ≡ another
-same_desk one another e = cc
-
-no_desk : (x : Option DeskState) (desk : DeskState) → option_map ADesk x ≡ Some (ADesk desk) → x ≡ Some desk
-no_desk None desk e = absurd cc
-no_desk (Some one) desk e = ap Some (same_desk one desk e)
-
--- and what stands there is that desk
-pub desk_there : (lobby : LobbyState) (desks : List DeskState) (number : ℕ) (desk : DeskState) → 1 ≤ number → slice_get (parts_of lobby desks) number ≡ Some (ADesk desk)
-    → slice_get desks (number - 1) ≡ Some desk
-desk_there lobby desks zero desk h e = absurd (omega arith)
-desk_there lobby desks (suc n) desk h e =
-    let same : suc n - 1 ≡ n = omega arith in
-    let there : slice_get desks n ≡ Some desk = no_desk (slice_get desks n) desk (sym (slice_get-map ADesk desks n) ∙ e) in
-    subst (λ (k : ℕ). slice_get desks k ≡ Some desk) (sym same) there
-
 -- a desk that is written anew in the list of parts
 written : (lobby : LobbyState) (desks : List DeskState) (number : ℕ) (desk : DeskState) → 1 ≤ number
     → set (parts_of lobby desks) number (ADesk desk) ≡ parts_of lobby (set desks (number - 1) desk)

@@ -1,6 +1,5 @@
 //! The step of an act on the lobby and the desks: each act is lent its own parts alone.
-ghost use Rattle.std.specs.Prelude.{◌≡◌, ◌≤◌, ◌-◌, IfOk, OnOk, OnErr, Some, length, slice_get, slice_set};
-ghost use Rattle.clock_ledger.specs.Charges.{last_moment};
+ghost use Rattle.std.specs.Prelude.{◌≡◌, ◌-◌, IfOk, OnOk, OnErr, Some, length, slice_get, slice_set};
 ghost use Rattle.histories.specs.Core.{reply, after};
 ghost use Rattle.linked_desk.specs.Acts.{FitsDeskAct, desk_answer, desk_after};
 ghost use Rattle.linked_desk.specs.Desk.{DeskState};
@@ -17,6 +16,7 @@ use crate::act::{Act, Timed};
 use crate::reply::Reply;
 use crate::resuming::alone_step;
 use crate::steps::{desk_step, lobby_step, pair_step};
+use clock_ledger::Moment;
 use collections::Listed;
 use linked_desk::{Desk, DeskAct};
 use lobby_state::{Lobby, PairAct, Plan};
@@ -39,12 +39,13 @@ pub(crate) fn act_step(
     ensures err_lobby { OnErr result (lobby.new ≡ lobby.old) }
     ensures err_desks { OnErr result (desks.new ≡ desks.old) }
 {
+    let moment = Moment::new(timed.moment);
     match &timed.act {
         Act::Lobby(act) => lobby_step(lobby, session, timed.moment, act),
         Act::Desk { desk, serial, act } => {
-            step_at_desk(desks, *desk, session, timed.moment, *serial, act)
+            step_at_desk(desks, *desk, session, moment, *serial, act)
         }
-        Act::Pair(act) => planned_step(alloc, lobby, desks, session, timed.moment, act),
+        Act::Pair(act) => planned_step(alloc, lobby, desks, session, moment, act),
     }
 }
 
@@ -53,11 +54,10 @@ fn step_at_desk(
     desks: &mut Listed<Desk>,
     number: u8,
     session: u32,
-    moment: u64,
+    moment: Moment,
     serial: u64,
     act: &DeskAct,
 ) -> Result<Reply, NoMemory>
-    requires moment { moment ≤ last_moment }
     requires number { IsDesk number }
     requires fits { FitsDeskAct act.now }
     requires count { length desks.old ≡ desk_count }
@@ -77,10 +77,9 @@ fn planned_step(
     lobby: &mut Lobby,
     desks: &mut Listed<Desk>,
     session: u32,
-    moment: u64,
+    moment: Moment,
     act: &PairAct,
 ) -> Result<Reply, NoMemory>
-    requires moment { moment ≤ last_moment }
     requires names { NamesDesk act.now }
     requires whole { IsWhole (parts_of lobby.old desks.old) }
     ensures reply { IfOk result
@@ -107,11 +106,10 @@ fn carry_out(
     alloc: Global,
     lobby: &mut Lobby,
     desks: &mut Listed<Desk>,
-    moment: u64,
+    moment: Moment,
     number: u8,
     plan: &Plan,
 ) -> Result<Reply, NoMemory>
-    requires moment { moment ≤ last_moment }
     requires number { IsDesk number }
     requires planned { IsPlanned lobby.old plan.now }
     requires count { length desks.old ≡ desk_count }

@@ -10,6 +10,7 @@ use crate::part::Part;
 use crate::reply::Reply;
 use crate::resuming::alone_step;
 use crate::steps::{desk_step, lobby_step, pair_step};
+use clock_ledger::Moment;
 use lobby_state::Lobby;
 use memory::NoMemory;
 use std::alloc::Global;
@@ -60,7 +61,13 @@ pub fn alone(one: &mut Part, session: u32, timed: &Timed) -> Result<Reply, NoMem
             Act::Desk { .. } => unreachable!(),
         },
         Part::Desk(desk) => match &timed.act {
-            Act::Desk { serial, act, .. } => desk_step(desk, session, timed.moment, *serial, act),
+            Act::Desk { serial, act, .. } => desk_step(
+                desk,
+                session,
+                Moment::new(timed.moment),
+                *serial,
+                act,
+            ),
             Act::Lobby(_) => unreachable!(),
             Act::Pair(_) => unreachable!(),
         },
@@ -95,5 +102,5 @@ pub fn together(
     let Ok(plan) = lobby.plan(session, act) else {
         unreachable!();
     };
-    pair_step(alloc, lobby, desk, timed.moment, &plan)
+    pair_step(alloc, lobby, desk, Moment::new(timed.moment), &plan)
 }

@@ -1,11 +1,11 @@
 //! A Resume: a game leaves the shelf and goes on at a desk, or another is asked to resume it.
-ghost use Rattle.std.specs.Prelude.{◌≡◌, ◌≤◌, IfOk, OnOk, OnErr};
-ghost use Rattle.clock_ledger.specs.Charges.{last_moment};
+ghost use Rattle.std.specs.Prelude.{◌≡◌, IfOk, OnOk, OnErr};
 ghost use Rattle.lobby_state.specs.Planned.{IsPlanned};
 ghost use Rattle.one_server.specs.Plans.{alone_lobby, alone_reply};
 ghost use Rattle.one_server.specs.Resuming.{CanResumeAt, resume_desk};
 
 use crate::reply::PairReply;
+use clock_ledger::Moment;
 use fics_words::Seats;
 use linked_desk::Desk;
 use lobby_state::{Lobby, Plan};
@@ -17,12 +17,11 @@ pub(crate) fn restore(
     alloc: Global,
     lobby: &Lobby,
     desk: &mut Desk,
-    moment: u64,
+    moment: Moment,
     serial: u64,
     number: u64,
     seats: &Seats,
 ) -> Result<(), NoMemory>
-    requires moment { moment ≤ last_moment }
     requires ready { CanResumeAt lobby.now desk.old number seats.now }
     ensures ok { OnOk result (desk.new ≡ resume_desk lobby.now desk.old serial number seats.now moment) }
     ensures err { OnErr result (desk.new ≡ desk.old) }

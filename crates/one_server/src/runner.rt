@@ -2,6 +2,7 @@
 
 use crate::act::Act;
 use crate::reply::Reply;
+use clock_ledger::Moment;
 use memory::NoMemory;
 use std::alloc::Global;
 
@@ -9,7 +10,7 @@ use std::alloc::Global;
 /// and its state: what is known of the session, of what it has seen and of what it made.
 pub trait Runner {
     ghost use Rattle.std.specs.Prelude.{◌≡◌, true, IsOk};
-    ghost use Rattle.one_server.specs.Acts.{IsEvent, NeedsNoMemory};
+    ghost use Rattle.one_server.specs.Acts.{FitsAct, NeedsNoMemory};
     ghost use Rattle.one_server.specs.Running.{IsKnown, RunnerState, Runs};
 
     ghost Home: { Type 0 };
@@ -25,8 +26,8 @@ pub trait Runner {
 
     /// Makes an act at `moment`, in milliseconds. The reply is the server's; running out of memory gives none, and the
     /// act isn't made. Where the mark is true, an act that needs no memory of its own never runs out of it.
-    fn run(&mut self, alloc: Global, moment: u64, act: Act) -> Result<Reply, NoMemory>
-        requires { IsEvent (record { moment = moment; act = act }) }
+    fn run(&mut self, alloc: Global, moment: Moment, act: Act) -> Result<Reply, NoMemory>
+        requires { FitsAct act }
         ensures home { home self.new ≡ home self.old }
         ensures ran { Runs (state self.old) (record { moment = moment; act = act }) result (state self.new) }
         ensures marked { (state self.old).mark ≡ true → NeedsNoMemory act → IsOk result };

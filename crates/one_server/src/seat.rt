@@ -5,6 +5,7 @@ use crate::act::Act;
 use crate::reply::Reply;
 use crate::runner::Runner;
 use crate::server::OneServer;
+use clock_ledger::Moment;
 use memory::NoMemory;
 use std::alloc::Global;
 
@@ -44,7 +45,7 @@ impl Runner for OneSeat<'_> {
         self.session
     }
 
-    fn run(&mut self, _alloc: Global, moment: u64, act: Act) -> Result<Reply, NoMemory> {
-        self.server.run(self.session, moment, act)
+    fn run(&mut self, _alloc: Global, moment: Moment, act: Act) -> Result<Reply, NoMemory> {
+        self.server.run(self.session, moment.millis(), act)
     }
 }

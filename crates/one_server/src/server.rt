@@ -8,6 +8,7 @@ use crate::act_step::act_step;
 use crate::copies::Copies;
 use crate::reply::Reply;
 use collections::Listed;
+use fics_words::DeskNumber;
 use histories::Entry;
 use linked_desk::Desk;
 use lobby_state::{DESKS, Lobby, lobbies_are_well_formed};
@@ -124,7 +125,7 @@ fn vacant_desks(alloc: Global) -> Result<Listed<Desk>, NoMemory>
 {
     let mut desks = Listed::new(alloc);
     for slot in 0..DESKS {
-        desks.push(Desk::vacant(slot as u8 + 1))?;
+        desks.push(Desk::vacant(DeskNumber::new(slot as u8 + 1)))?;
     }
     Ok(desks)
 }

@@ -1,6 +1,5 @@
 //! The three kinds of step: on the lobby alone, on a desk alone, and on both.
-ghost use Rattle.std.specs.Prelude.{◌≡◌, ◌≤◌, IfOk, IsOk, OnOk, OnErr, true};
-ghost use Rattle.clock_ledger.specs.Charges.{last_moment};
+ghost use Rattle.std.specs.Prelude.{◌≡◌, IfOk, IsOk, OnOk, OnErr, true};
 ghost use Rattle.linked_desk.specs.Acts.{FitsDeskAct, desk_answer, desk_after, needs_memory};
 ghost use Rattle.lobby_state.specs.Acts.{FitsLobby, LobbyNeedsNoMemory, lobby_answer, lobby_after};
 ghost use Rattle.lobby_state.specs.Planned.{IsPlanned};
@@ -10,6 +9,7 @@ ghost use Rattle.one_server.specs.Plans.{CanCarry, plan_desk, plan_lobby, plan_r
 use crate::clearing::clear_step;
 use crate::reply::{PairReply, Reply};
 use crate::resuming::{alone_step, restore};
+use clock_ledger::Moment;
 use fics_words::Fail;
 use linked_desk::{Desk, DeskAct};
 use lobby_state::{Lobby, LobbyAct, Plan, Ready};
@@ -42,11 +42,10 @@ pub fn lobby_step(
 pub fn desk_step(
     desk: &mut Desk,
     session: u32,
-    moment: u64,
+    moment: Moment,
     serial: u64,
     act: &DeskAct,
 ) -> Result<Reply, NoMemory>
-    requires moment { moment ≤ last_moment }
     requires fits { FitsDeskAct act.now }
     ensures reply { IfOk result (λ reply. reply ≡ desk_reply (desk_answer desk.old session moment serial act.now)) }
     ensures after { OnOk result (desk.new ≡ desk_after desk.old session moment serial act.now) }
@@ -66,10 +65,9 @@ pub fn pair_step(
     alloc: Global,
     lobby: &mut Lobby,
     desk: &mut Desk,
-    moment: u64,
+    moment: Moment,
     plan: &Plan,
 ) -> Result<Reply, NoMemory>
-    requires moment { moment ≤ last_moment }
     requires planned { IsPlanned lobby.old plan.now }
     requires ready { CanCarry lobby.old plan.now desk.old }
     ensures reply { IfOk result (λ reply. reply ≡ Reply.Pair (plan_reply plan.now desk.old)) }

@@ -17,6 +17,8 @@ pub trait Steps: Served {
         requires fits { Self.core.fits act.now }
         ensures { result ≡ Self.core.first act.now };
 
+    // What is found here to be done isn't kept for `together`: a plan of some two hundred bytes, carried along, costs
+    // each act a hundred instructions, and few acts have two parts.
     /// The number of its second part, if it has one, by the first part's value.
     fn second_part(one: &Self::Part, session: u32, act: &Self::Act) -> Option<u8>
         requires fits { Self.core.fits act.now }

@@ -4,11 +4,12 @@ use Rattle.std.specs.Prelude.{IsSome, IfSome}
 use Rattle.game_board.specs.Board.{Board}
 use Rattle.game_records.specs.declared.stored_game.StoredGame.{StoredGame}
 use Rattle.game_records.specs.Replays.{Replays}
+use Rattle.desk_boards.specs.Halves.{last_board}
 use Rattle.desk_boards.specs.Replaying.{replayed}
 use Rattle.fics_words.specs.declared.seats.Seats.{Seats}
 use Rattle.style12_writer.specs.declared.item.Item.{Item}
 use Rattle.linked_desk.specs.declared.occasion.Occasion.TheVariants.{Resumption}
-use Rattle.linked_desk.specs.Restore.{finished_at, last_place, resumed}
+use Rattle.linked_desk.specs.Restore.{finished_at, resumed}
 use Rattle.linked_desk.specs.Seating.{begun, game_at, opening_items, shown_items}
 use Rattle.linked_desk.specs.Seats.{pairs_of}
 use Rattle.linked_desk.proofs.Opening.{announced_first}
@@ -50,6 +51,6 @@ returns-clause-game c =
     ∙ announced_first Resumption desk g.terms seats boards c.requires.pairs (numbers_replayed g c.args.moment boards r found) in
     let begins : c.game_at-game.result ≡ begun Resumption desk c.args.serial g.terms seats boards c.args.moment =
     c.game_at-game.ensures ∙ ap (λ (items : List Item). game_at c.args.serial g.terms seats boards items c.args.moment) told in
-    let place : c.last_place.result ≡ last_place g.halves = c.last_place.ensures ∙ ap last_place c.as_slice.ensures in
-    λ yes. ap Some (c.finish_at.ensures ∙ (λ i. finished_at desk (begins i) c.args.moment (place i)))
+    let board : c.last_board.result ≡ last_board g.halves = c.last_board.ensures ∙ ap last_board c.as_slice.ensures in
+    λ yes. ap Some (c.finish_at.ensures ∙ (λ i. finished_at desk (begins i) c.args.moment (board i)))
     ∙ sym (ap (option_map (resumed desk c.args.serial g seats c.args.moment)) found)

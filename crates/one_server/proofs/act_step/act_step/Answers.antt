@@ -1,4 +1,4 @@
-use Rattle.std.proofs.Common.{◌≡◌, Some, List, set, ◌-◌, subst}
+use Rattle.std.proofs.Common.{◌≡◌, ℕ, IfOk, OnOk, Some, List, set, ◌-◌, subst}
 use Rattle.histories.specs.Core.{reply, after}
 use Rattle.linked_desk.specs.Acts.{desk_answer, desk_after}
 use Rattle.linked_desk.specs.Desk.{DeskState}
@@ -63,7 +63,8 @@ returns-in-Desk-clause-reply c =
     c.step_at_desk.result
     (λ r e. at_act c.args.timed.now (Desk c.in-Desk.desk c.in-Desk.serial c.in-Desk.act) (λ (t : Timed). reply house (parts_of lobby desks) c.args.session t ≡ Some r) c.in-Desk.is
     (reply_desk lobby desks c.args.session c.args.timed.now.moment c.in-Desk.desk c.in-Desk.serial c.in-Desk.act found.0 d.0 found.1 r e))
-    (c.step_at_desk.ensures.reply found.0 found.1)
+    (subst (λ (m : ℕ). IfOk c.step_at_desk.result (λ (r : Reply). r ≡ desk_reply (desk_answer found.0 c.args.session m c.in-Desk.serial c.in-Desk.act)))
+    c.new-moment.ensures (c.step_at_desk.ensures.reply found.0 found.1))
 
 pub returns-in-Desk-clause-after : goal.returns-in-Desk-clause-after
 returns-in-Desk-clause-after c =
@@ -76,7 +77,8 @@ returns-in-Desk-clause-after c =
     c.step_at_desk.result
     (λ e. at_act c.args.timed.now (Desk c.in-Desk.desk c.in-Desk.serial c.in-Desk.act) (λ (t : Timed). after house (parts_of lobby desks) c.args.session t ≡ parts_of lobby c.step_at_desk.new.desks) c.in-Desk.is
     (after_desk lobby desks c.args.session c.args.timed.now.moment c.in-Desk.desk c.in-Desk.serial c.in-Desk.act found.0 d.0 found.1 c.step_at_desk.new.desks e))
-    (c.step_at_desk.ensures.after found.0 found.1)
+    (subst (λ (m : ℕ). OnOk c.step_at_desk.result (c.step_at_desk.new.desks ≡ set desks (c.in-Desk.desk - 1) (desk_after found.0 c.args.session m c.in-Desk.serial c.in-Desk.act)))
+    c.new-moment.ensures (c.step_at_desk.ensures.after found.0 found.1))
 
 pub returns-in-Pair-clause-reply : goal.returns-in-Pair-clause-reply
 returns-in-Pair-clause-reply c =
@@ -96,4 +98,5 @@ returns-in-Pair-clause-after c =
     (after house (parts_of lobby desks) c.args.session c.args.timed.now ≡ parts_of c.planned_step.new.lobby c.planned_step.new.desks)
     c.planned_step.result
     (λ e. at_act c.args.timed.now (Pair c.in-Pair.act) (λ (t : Timed). after house (parts_of lobby desks) c.args.session t ≡ parts_of c.planned_step.new.lobby c.planned_step.new.desks) c.in-Pair.is e)
-    c.planned_step.ensures.after
+    (subst (λ (m : ℕ). OnOk c.planned_step.result (after house (parts_of lobby desks) c.args.session (record { moment = m; act = Pair c.in-Pair.act }) ≡ parts_of c.planned_step.new.lobby c.planned_step.new.desks))
+    c.new-moment.ensures c.planned_step.ensures.after)

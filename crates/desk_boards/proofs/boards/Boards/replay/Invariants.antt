@@ -7,6 +7,6 @@ use Rattle.desk_boards.proofs.boards.Boards.replay.Given as goal
 -- the boards so far, with the half-moves that are still to come, are what the whole game comes to
 abbrev pub invariant-loop-half : goal.invariant-loop-half
 invariant-loop-half l = record {
-  boards : played_on l.boards (drop l.half-index l.halves) ≡ replayed l.fn.terms l.halves l.moment;
+  boards : played_on l.boards (drop l.half-index l.halves) ≡ replayed l.fn.terms l.halves l.fn.moment;
   charges : AllByRecursion (λ h. IsCharge h.charge) (drop l.half-index l.halves);
 }

@@ -2,6 +2,7 @@ use Rattle.std.proofs.Common.{◌≡◌, ◌++◌, true, false, take, sym, ap, s
 use Rattle.chess_model.specs.Result.{result, is_end}
 use Rattle.game_board.specs.Board.{Board, position_of}
 use Rattle.game_board.specs.Play.{move_answer}
+use Rattle.desk_boards.specs.declared.board_number.BoardNumber.TheVariants.{First}
 use Rattle.examine_board.specs.Exam.{ExamState, board_on}
 use Rattle.examine_board.specs.Play.{is_pair, position}
 use Rattle.examine_board.proofs.Words.{Going, answer_over, answer_pair, first_is, going, going_answer, going_lies, going_room, position_is}
@@ -19,8 +20,8 @@ returns-then-is_end-clause-answer c =
     let e = c.args.self.now in
     let b : Board = c.both.result.0.now in
     let single : is_pair i.terms.variant ≡ false = sym c.is_pair.ensures ∙ c.if-is_pair.false in
-    let is : b ≡ board_on e 1 =
-    subst (λ (x : ExamState). b ≡ board_on x 1) c.self.view_is
+    let is : b ≡ board_on e First =
+    subst (λ (x : ExamState). b ≡ board_on x First) c.self.view_is
     (first_is i.terms (take i.point (take i.shared i.stored ++ i.branch)) b _ (sym c.both.ensures ∙ c.self.invariant.boards)) in
     let over : is_end (result (position e)) ≡ true =
     ap (λ p. is_end (result p)) (sym (position_is e b is)) ∙ ap is_end (sym c.state.ensures) ∙ sym c.is_end.ensures ∙ c.if-is_end.true in

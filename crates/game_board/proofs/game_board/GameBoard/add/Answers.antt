@@ -116,5 +116,4 @@ invariant_of-self c =
       counted = omega (arith, ap length grown, length-append i.list (half ∷ []), c.self.invariant.counted);
       most = omega (arith, ap (λ (b : Board). b.played) c.self.view_is);
       resumed = omega (arith, ap length grown, length-append i.list (half ∷ []), c.self.invariant.resumed);
-      moment = c.self.invariant.moment;
     }

@@ -106,5 +106,4 @@ invariant_of-self c =
       counted = c.self.invariant.counted;
       most = c.self.invariant.most;
       resumed = c.self.invariant.resumed;
-      moment = c.self.invariant.moment;
     }

@@ -7,5 +7,5 @@ use Rattle.game_board.proofs.game_board.GameBoard.make.Goals as goal
 pub add-captured-requires-clause-sound : goal.add-captured-requires-clause-sound
 add-captured-requires-clause-sound c =
     subst (λ (o : Option Charge). IfSome o IsChargeable) (sym c.next_charge-charge.ensures.value)
-    (IsChargeable-next c.args.self.now c.args.moment c.args.stamp c.requires.order c.requires.moment
+    (IsChargeable-next c.args.self.now c.args.moment c.args.stamp c.requires.order c.next_charge-charge.ensures.timely
     c.next_charge-charge.ensures.kept c.requires.stamp)

@@ -10,4 +10,4 @@ invariant_of-self c =
     c.self.invariant.first c.self.invariant.second c.start-self-inside.ensures.variant (c.start-self-inside.ensures.stands i.number) c.truncate.ensures c.truncate-2.ensures
     (c.take_all_off.ensures ∙ ap (λ (l : Ledger). record l { charges = [] }) c.self.invariant.white)
     (c.take_all_off-2.ensures ∙ ap (λ (l : Ledger). record l { charges = [] }) c.self.invariant.black)
-    c.self.invariant.moment c.truncate-3.ensures
+    c.truncate-3.ensures

@@ -115,5 +115,4 @@ invariant_of-self-2 c =
       counted = omega (arith, many, c.self.invariant.counted);
       most = c.self.invariant.most;
       resumed = omega arith;
-      moment = c.self.invariant.moment;
     }

@@ -1,20 +1,20 @@
 //! The server of one lobby and 128 desks makes its acts on the parts that it is lent. No act is known here by its name.
 
-use crate::housed::Housed;
+use crate::boxed_part::BoxedPart;
 use histories::Served;
 use memory::NoMemory;
 use one_server::{self, Part, Reply, Timed};
 use std::alloc::Global;
 use turn_chain::Steps;
 
-/// The server of one lobby and 128 desks, as a hall keeps it. Its rules are those of the server of one thread.
-pub struct House;
+/// The rules of the hall: those of the server of one thread, over parts as the hall keeps them.
+pub struct HallRules;
 
-impl Served for House {
+impl Served for HallRules {
     ghost use Rattle.one_server.specs.House.{house};
     ghost use Rattle.one_server.specs.LawfulProof.{house_lawful};
 
-    type Part = Housed;
+    type Part = BoxedPart;
 
     type Act = Timed;
 
@@ -25,7 +25,7 @@ impl Served for House {
     ghost lawful = { house_lawful };
 }
 
-impl Steps for House {
+impl Steps for HallRules {
     ghost use Rattle.one_server.specs.Acts.{NeedsNoMemory};
 
     ghost sure = { λ timed. NeedsNoMemory timed.act };
@@ -34,7 +34,7 @@ impl Steps for House {
         one_server::first_part(&act.act)
     }
 
-    fn second_part(one: &Housed, session: u32, act: &Timed) -> Option<u8> {
+    fn second_part(one: &BoxedPart, session: u32, act: &Timed) -> Option<u8> {
         match &*one.part {
             Part::Lobby(lobby) => one_server::second_part(lobby, session, &act.act),
             Part::Desk(_) => None,
@@ -43,7 +43,7 @@ impl Steps for House {
 
     fn alone(
         _alloc: Global,
-        one: &mut Housed,
+        one: &mut BoxedPart,
         session: u32,
         act: &Timed,
     ) -> Result<Reply, NoMemory> {
@@ -52,8 +52,8 @@ impl Steps for House {
 
     fn together(
         alloc: Global,
-        one: &mut Housed,
-        two: &mut Housed,
+        one: &mut BoxedPart,
+        two: &mut BoxedPart,
         session: u32,
         act: &Timed,
     ) -> Result<Reply, NoMemory> {

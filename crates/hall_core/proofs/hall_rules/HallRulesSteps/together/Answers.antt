@@ -1,7 +1,7 @@
 use Rattle.std.proofs.Common.{Some, ap, sym, ◌∙◌}
 use Rattle.one_server.specs.Acts.{second_part}
 use Rattle.one_server.proofs.Lending.{lends_second}
-use Rattle.hall_core.proofs.house.HouseSteps.together.Goals as goal
+use Rattle.hall_core.proofs.hall_rules.HallRulesSteps.together.Goals as goal
 
 pub together-requires-clause-both : goal.together-requires-clause-both
 together-requires-clause-both c =

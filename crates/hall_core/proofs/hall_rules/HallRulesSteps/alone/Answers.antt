@@ -1,6 +1,6 @@
 use Rattle.std.proofs.Common.{Some, ap, sym, ◌∙◌}
 use Rattle.one_server.proofs.Lending.{lends_first}
-use Rattle.hall_core.proofs.house.HouseSteps.alone.Goals as goal
+use Rattle.hall_core.proofs.hall_rules.HallRulesSteps.alone.Goals as goal
 
 pub alone-requires-clause-first : goal.alone-requires-clause-first
 alone-requires-clause-first c =

@@ -10,34 +10,34 @@ use std::marker::Model;
 
 /// A part as it lies behind its turn. Contracts see the part.
 #[derive(Drop)]
-pub struct Housed {
+pub struct BoxedPart {
     pub(crate) part: Box<Part>,
 }
 
-impl Model for Housed {
+impl Model for BoxedPart {
     ghost use Rattle.one_server.specs.declared.part.Part.{Part};
 
     ghost Value = { Part };
 
-    ghost view = { λ housed. housed.part.value };
+    ghost view = { λ boxed. boxed.part.value };
 }
 
-impl Housed {
+impl BoxedPart {
     /// Puts a part in its place.
-    pub(crate) fn new(alloc: Global, part: Part) -> Result<Housed, NoMemory>
-        ensures { IfOk result (λ housed. housed ≡ part) }
+    pub(crate) fn new(alloc: Global, part: Part) -> Result<BoxedPart, NoMemory>
+        ensures { IfOk result (λ boxed. boxed ≡ part) }
     {
         let Ok(part) = Box::new(alloc, part) else {
             return Err(NoMemory);
         };
-        Ok(Housed { part })
+        Ok(BoxedPart { part })
     }
 
     /// Gives the part back, which takes no memory.
     pub(crate) fn into_part(self) -> Part
         ensures { result ≡ self }
     {
-        let Housed { part } = self;
+        let BoxedPart { part } = self;
         Box::into_inner(part)
     }
 }
