@@ -1,5 +1,5 @@
 -- The next position is that of the list with the half-move at its end.
-use Rattle.std.proofs.Common.{arith, ◌≡◌, ℕ, ◌+◌, ◌<◌, ◌≤◌, Bool, true, false, ◌&&◌, cond, List, ◌++◌, min, refl, sym, ap, subst, ◌∙◌}
+use Rattle.std.proofs.Common.{arith, ◌≡◌, ℕ, ◌+◌, ◌<◌, ◌≤◌, Bool, true, false, ◌&&◌, cond, List, [], ◌∷◌, ◌++◌, map, min, refl, sym, ap, subst, ◌∙◌}
 use Rattle.chess_model.specs.declared.man.Colour.{Colour}
 use Rattle.chess_model.specs.declared.man.Colour.TheVariants.{White, Black}
 use Rattle.chess_model.specs.declared.man.Kind.{Kind}
@@ -7,16 +7,19 @@ use Rattle.chess_model.specs.declared.man.Kind.TheVariants.{Pawn, Knight, Bishop
 use Rattle.chess_model.specs.declared.hand.Hand.{Hand}
 use Rattle.chess_model.specs.declared.moves.Move.{Move}
 use Rattle.chess_model.specs.declared.moves.Move.TheVariants.{Plain, Castle, Drop}
+use Rattle.chess_model.specs.declared.moves.MoveWord.{MoveWord}
 use Rattle.chess_model.specs.declared.variant.Variant.{Variant}
 use Rattle.chess_model.specs.Placement.{array_of}
-use Rattle.chess_model.specs.MoveList.{HalfMove, Ply, moves_of, place_from, side_from, history}
+use Rattle.chess_model.specs.MoveList.{HalfMove, Ply, moves_of, on_board, place_from, side_from, history}
 use Rattle.chess_model.specs.RightsAndCounts.{rights_after, en_passant_after, quiet_count}
 use Rattle.chess_model.specs.Holdings.{same_colour, same_kind, drops, count_in, gained, spent, hand_after}
 use Rattle.chess_model.specs.Position.{Position, position_after, Stands, hand_of_side}
 use Rattle.chess_model.specs.Allowed.{Allowed}
+use Rattle.chess_model.specs.Answer.{IsAnswer}
 use Rattle.chess_model.specs.Next.{gain, next}
 use Rattle.chess_model.proofs.MoreMoves.{one, last_ply, moves_of-same, place_from-append, side_from-append, history-same, rights_after-append, en_passant_after-append, quiet_count-append, spent-append, gained-append, hand_after-append}
 use Rattle.std.proofs.lemmas.Bool.{and_parts}
+use Rattle.std.proofs.lemmas.List.{map-append}
 
 pub position_after-append : (v : Variant) (T : List HalfMove) (b : ℕ) (m : Move) →
     ((c : Colour) (k : Kind) → spent v T b c k ≤ gained v T b c k) →
@@ -111,3 +114,12 @@ Stands-next p T b m h stands =
       same = ap (λ (x : Position). next x m) stands.same ∙ position_after-append p.variant T b m stands.paid;
       paid = paid-append p.variant T b m stands.paid allowed;
     }
+
+-- a position stands behind one more half-move of a game on one board
+pub stands_on : (p q : Position) (moves : List Move) (m : Move)
+    → ((T : List HalfMove) (b : ℕ) → Stands p T b → Stands q (T ++ record { board = b; what = m } ∷ []) b)
+    → Stands p (map on_board moves) 1 → Stands q (map on_board (moves ++ m ∷ [])) 1
+stands_on p q moves m f s = subst (λ (l : List HalfMove). Stands q l 1) (sym (map-append on_board moves (m ∷ []))) (f (map on_board moves) 1 s)
+
+pub answer_allowed : (p q : Position) (word : MoveWord) (m : Move) → IsAnswer p word m → p ≡ q → Allowed q m
+answer_allowed p q word m is at = subst (λ (x : Position). Allowed x m) at is.choice.allowed

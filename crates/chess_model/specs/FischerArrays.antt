@@ -4,6 +4,7 @@ use Rattle.std.specs.Prelude.{◌≡◌, ℕ, ◌+◌, ◌-◌, ◌*◌, ◌/◌
 use Rattle.std.specs.List.{count_by}
 use Rattle.chess_model.specs.declared.man.Kind.{Kind}
 use Rattle.chess_model.specs.declared.man.Kind.TheVariants.{Pawn, Knight, Bishop, Rook, Queen, King}
+use Rattle.chess_model.specs.Limits.{arrays}
 use Rattle.chess_model.specs.Men.{same_kind}
 
 -- the kinds on the home ranks of chess, from file a to file h (FIDE Laws 2.3)
@@ -75,8 +76,8 @@ pub record IsArrayRank (rank : List Kind) : Type 0 where
 
 -- each number has such an array, no two have the same one, and 518 has the usual one
 pub record FischerArrays : Type 0 where
-  pub each : (n : ℕ) → n < 960 → IsArrayRank (numbered_rank n)
-  pub no_two_alike : (m n : ℕ) → m < 960 → n < 960 → numbered_rank m ≡ numbered_rank n → m ≡ n
+  pub each : (n : ℕ) → n < arrays → IsArrayRank (numbered_rank n)
+  pub no_two_alike : (m n : ℕ) → m < arrays → n < arrays → numbered_rank m ≡ numbered_rank n → m ≡ n
   pub usual : numbered_rank 518 ≡ usual_rank
   -- B B Q N N R K R
   pub zero : numbered_rank 0 ≡ Bishop ∷ Bishop ∷ Queen ∷ Knight ∷ Knight ∷ Rook ∷ King ∷ Rook ∷ []

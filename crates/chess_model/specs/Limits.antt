@@ -8,3 +8,7 @@ most_halves = 1200
 -- the most minutes that a clock starts with, and the most seconds of increment
 abbrev pub most_time : ℕ
 most_time = 600
+
+-- how many arrays Fischer random has
+abbrev pub arrays : ℕ
+arrays = 960

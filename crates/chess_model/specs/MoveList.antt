@@ -60,6 +60,13 @@ pub record HalfMove : Type 0 where
   pub board : ℕ
   pub what : Move
 
+-- a half-move on a board, and one of a game on one board
+abbrev pub on : ℕ → Move → HalfMove
+on number m = record { board = number; what = m }
+
+abbrev pub on_board : Move → HalfMove
+on_board m = on 1 m
+
 -- the half-moves of a board
 abbrev pub moves_of : ℕ → List HalfMove → List Move
 moves_of b T = map (λ h. h.what) (filter (λ h. nat_eq h.board b) T)

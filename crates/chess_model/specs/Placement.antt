@@ -8,6 +8,7 @@ use Rattle.chess_model.specs.declared.man.Man.{Man}
 use Rattle.chess_model.specs.declared.variant.Variant.{Variant}
 use Rattle.chess_model.specs.declared.variant.Variant.TheVariants.{Chess, Crazyhouse, Bughouse, Fischer}
 use Rattle.chess_model.specs.FischerArrays.{usual_rank, numbered_rank, first_file, last_file}
+use Rattle.chess_model.specs.Limits.{arrays}
 use Rattle.chess_model.specs.Squares.{square_at}
 
 -- the man on each square, by the square's number
@@ -47,12 +48,12 @@ abbrev pub last_rank : Colour → ℕ
 last_rank White = 7
 last_rank Black = 0
 
--- the kinds on the home ranks at the start, from file a to file h; numbers of arrays count modulo 960
+-- the kinds on the home ranks at the start, from file a to file h; numbers of arrays count modulo how many there are
 abbrev pub back_rank : Variant → List Kind
 back_rank Chess = usual_rank
 back_rank Crazyhouse = usual_rank
 back_rank Bughouse = usual_rank
-back_rank (Fischer number) = numbered_rank (number % 960)
+back_rank (Fischer number) = numbered_rank (number % arrays)
 
 -- the file of the king at the start
 abbrev pub king_file : Variant → ℕ

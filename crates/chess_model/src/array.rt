@@ -3,6 +3,7 @@ ghost use Rattle.std.specs.Prelude.{◌≡◌, map, unwrap_or};
 ghost use Rattle.chess_model.specs.Placement.{array_from, array_of, unpromoted};
 
 use crate::home_rank::{Files, home_rank};
+use crate::limits::ARRAYS;
 use crate::man::{Colour, Kind, Man};
 use crate::variant::Variant;
 
@@ -99,7 +100,7 @@ pub fn array_for(v: Variant) -> [Option<Man>; 64]
         Variant::Chess => USUAL_ARRAY,
         Variant::Crazyhouse => USUAL_ARRAY,
         Variant::Bughouse => USUAL_ARRAY,
-        Variant::Fischer(number) => array_with(&home_rank(number % 960)),
+        Variant::Fischer(number) => array_with(&home_rank(number % ARRAYS)),
     }
 }
 

@@ -1,6 +1,7 @@
 //! The home ranks of Fischer random, by their numbers.
 
 ghost use Rattle.std.specs.Prelude.{◌≡◌, ◌<◌};
+ghost use Rattle.chess_model.specs.Limits.{arrays};
 ghost use Rattle.chess_model.specs.FischerArrays.{on_free, with_bishops, with_king, with_knights, with_queen};
 
 use crate::man::Kind;
@@ -24,7 +25,7 @@ const KNIGHT_PAIRS: [(u16, u16); 10] = [
 
 /// The home rank of the array of that number.
 pub(crate) fn home_rank(number: u16) -> Files
-    requires { number < 960 }
+    requires { number < arrays }
     ensures { result ≡ with_king number }
 {
     let files = on_free(Kind::Rook, 0, knights_set(number));
@@ -48,7 +49,7 @@ fn queen_set(number: u16) -> Files
 }
 
 fn knights_set(number: u16) -> Files
-    requires { number < 960 }
+    requires { number < arrays }
     ensures { result ≡ with_knights number }
 {
     let (first, second) = KNIGHT_PAIRS[(number / 96) as usize];

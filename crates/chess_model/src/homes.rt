@@ -1,11 +1,13 @@
 //! Where kings and rooks begin.
 
 ghost use Rattle.std.specs.Prelude.{◌≡◌, ◌<◌, true, false};
+ghost use Rattle.chess_model.specs.Limits.{arrays};
 ghost use Rattle.chess_model.specs.FischerArrays.{first_file, last_file, numbered_rank};
 ghost use Rattle.chess_model.specs.declared.man.Kind.{Kind};
 ghost use Rattle.chess_model.specs.Placement.{king_file, rook_file};
 
 use crate::home_files::{KING_FILES, LONG_ROOK_FILES, SHORT_ROOK_FILES};
+use crate::limits::ARRAYS;
 use crate::variant::Variant;
 
 /// The file on which the kings of a variant begin, 0 for a to 7 for h.
@@ -17,7 +19,7 @@ pub fn file_of_king(v: Variant) -> u8
         Variant::Chess => 4,
         Variant::Crazyhouse => 4,
         Variant::Bughouse => 4,
-        Variant::Fischer(number) => numbered_king(number % 960),
+        Variant::Fischer(number) => numbered_king(number % ARRAYS),
     }
 }
 
@@ -41,7 +43,7 @@ fn file_of_long_rook(v: Variant) -> u8
         Variant::Chess => 0,
         Variant::Crazyhouse => 0,
         Variant::Bughouse => 0,
-        Variant::Fischer(number) => numbered_long_rook(number % 960),
+        Variant::Fischer(number) => numbered_long_rook(number % ARRAYS),
     }
 }
 
@@ -53,13 +55,13 @@ fn file_of_short_rook(v: Variant) -> u8
         Variant::Chess => 7,
         Variant::Crazyhouse => 7,
         Variant::Bughouse => 7,
-        Variant::Fischer(number) => numbered_short_rook(number % 960),
+        Variant::Fischer(number) => numbered_short_rook(number % ARRAYS),
     }
 }
 
 /// The file of the king in the array of that number.
 fn numbered_king(number: u16) -> u8
-    requires { number < 960 }
+    requires { number < arrays }
     ensures value { result ≡ first_file Kind.King (numbered_rank number) }
     ensures within { result < 8 }
 {
@@ -68,7 +70,7 @@ fn numbered_king(number: u16) -> u8
 
 /// The file of the rook for long castling in the array of that number.
 fn numbered_long_rook(number: u16) -> u8
-    requires { number < 960 }
+    requires { number < arrays }
     ensures value { result ≡ first_file Kind.Rook (numbered_rank number) }
     ensures within { result < 8 }
 {
@@ -77,7 +79,7 @@ fn numbered_long_rook(number: u16) -> u8
 
 /// The file of the rook for short castling in the array of that number.
 fn numbered_short_rook(number: u16) -> u8
-    requires { number < 960 }
+    requires { number < arrays }
     ensures value { result ≡ last_file Kind.Rook (numbered_rank number) }
     ensures within { result < 8 }
 {

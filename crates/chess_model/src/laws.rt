@@ -11,12 +11,14 @@ ghost use Rattle.chess_model.specs.ResultExamples.{ResultExamples, ClaimExamples
 
 /// What an allowed half-move does to each square: the man that moves or comes stands on its target, the squares that
 /// are left or taken on are empty, and every other square is as before.
+#[tactic(auto, using(crate::proofs::ChessLaws::known_squares))]
 pub fn each_square_is_known()
     ensures { EachSquareIsKnown }
 {}
 
 /// A square is attacked exactly where some kind of man, put on it with the other colour, would strike an attacking
 /// man of that kind.
+#[tactic(auto, using(crate::proofs::ChessLaws::attack_both_ways))]
 pub fn attack_goes_both_ways()
     ensures { AttackGoesBothWays }
 {}
@@ -27,16 +29,19 @@ pub fn rights_never_come_back()
 {}
 
 /// The quiet count is 0 after a pawn's move, a capture or a drop, and grows by 1 after any other half-move.
+#[tactic(auto, using(crate::proofs::ChessLaws::quiet_counted))]
 pub fn quiet_moves_are_counted()
     ensures { CountsQuietMoves }
 {}
 
 /// No allowed half-move makes men: those on the board and in its two hands don't grow in number.
+#[tactic(auto, using(crate::proofs::ChessLaws::men_not_made))]
 pub fn no_men_are_made()
     ensures { NoMenAreMade }
 {}
 
 /// A legal list of half-moves stays legal with an allowed half-move at its end and without its last one.
+#[tactic(auto, using(crate::proofs::LegalLists::legal_lists))]
 pub fn legal_lists_grow()
     ensures { LegalListsGrow }
 {}
@@ -52,11 +57,13 @@ pub fn words_are_answered()
 {}
 
 /// The list of allowed half-moves has exactly these, in their order.
+#[tactic(auto, using(crate::proofs::MovesListed::moves_listed))]
 pub fn moves_are_listed()
     ensures { MovesAreListed }
 {}
 
 /// Check, mate and stalemate are what the words of the rules say.
+#[tactic(auto, using(crate::proofs::StatesTold::state_told))]
 pub fn states_are_told()
     ensures { StatesAreTold }
 {}
@@ -64,31 +71,37 @@ pub fn states_are_told()
 /// After every legal list of half-moves each colour has one king, the side that isn't to move isn't in check, king and
 /// rook stand on their homes where a right stands, and an enemy pawn stands behind the en passant square, which is
 /// empty. A capture takes an enemy man, and never a king.
+#[tactic(auto, using(crate::proofs::SoundPositions::legal_sound))]
 pub fn legal_positions_are_sound()
     ensures { LegalPositionsAreSound }
 {}
 
 /// A half-move of another board leaves this board alone, but for its hands.
+#[tactic(auto, using(crate::proofs::Movers::other_board_stays))]
 pub fn other_board_stays()
     ensures { OtherBoardStays }
 {}
 
 /// Of the half-moves of a board, counted from 0, those with an even number are White's.
+#[tactic(auto, using(crate::proofs::Movers::colours_alternate))]
 pub fn colours_alternate()
     ensures { ColoursAlternate }
 {}
 
 /// Each number from 0 to 959 has an array of Fischer random, no two have the same one, and 518 has the usual one.
+#[tactic(auto, using(crate::proofs::HomeRanks::fischer_arrays))]
 pub fn fischer_arrays_are_set_up()
     ensures { FischerArrays }
 {}
 
 /// The homes of kings and rooks are where these stand in the array.
+#[tactic(auto, using(crate::proofs::Movers::homes_in_array))]
 pub fn homes_are_in_the_array()
     ensures { HomesAreInTheArray }
 {}
 
 /// A position stands for the third time exactly where it has stood twice before.
+#[tactic(auto, using(crate::proofs::Threefold::third_times))]
 pub fn third_times_are_counted()
     ensures { ThirdTimes }
 {}
@@ -96,6 +109,7 @@ pub fn third_times_are_counted()
 /// No legal list of half-moves makes or loses a man, by colour and kind: in chess and in Fischer random with the
 /// captured men, in crazyhouse with both hands, and in a pair of boards with the hands of both boards. A promoted man
 /// counts as a pawn.
+#[tactic(auto, using(crate::proofs::Censuses::census_kept))]
 pub fn census_stays()
     ensures { CensusStays }
 {}

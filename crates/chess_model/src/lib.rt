@@ -10,6 +10,7 @@
 #![tactic(auto)]
 
 mod array;
+mod drops;
 mod face;
 mod hand;
 mod home_files;
@@ -29,6 +30,7 @@ mod variant_words;
 mod why;
 
 pub use array::array_for;
+pub use drops::has_drops;
 pub use face::Face;
 pub use hand::Hand;
 pub use homes::{file_of_king, file_of_rook};
@@ -39,7 +41,7 @@ pub use laws::{
     rights_never_come_back, states_are_told, tests_say_the_rules, third_times_are_counted,
     words_are_answered, worked_claims, worked_examples, worked_moves, worked_results, worked_words,
 };
-pub use limits::{MOST_HALVES, MOST_TIME};
+pub use limits::{ARRAYS, MOST_HALVES, MOST_TIME};
 pub use man::{Colour, Kind, Man};
 pub use material::{material_of, materials};
 pub use moves::{Move, MoveWord, Rejection};

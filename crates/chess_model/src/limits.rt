@@ -5,3 +5,6 @@ pub const MOST_HALVES: usize = 1_200;
 
 /// The most minutes that a clock starts with, and the most seconds of increment.
 pub const MOST_TIME: u16 = 600;
+
+/// How many arrays Fischer random has.
+pub const ARRAYS: u16 = 960;

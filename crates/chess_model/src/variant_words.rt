@@ -1,14 +1,13 @@
 //! The words for variants, written and read.
 ghost use Rattle.std.specs.Prelude.{◌≡◌, ◌≢◌, ◌+◌, ◌<◌, ◌++◌, ℕ, IfSome, IfNone, codes, decimal};
+ghost use Rattle.chess_model.specs.Limits.{arrays};
 ghost use Rattle.chess_model.specs.VariantWord.{IsNumbered, word_of};
 ghost use Rattle.chess_model.specs.declared.variant.Variant.{Variant};
 
+use crate::limits::ARRAYS;
 use crate::text::MoveText;
 use crate::variant::Variant;
 use std::str;
-
-/// How many arrays Fischer random has.
-const ARRAYS: u16 = 960;
 
 /// The words by which players name a variant, as in what they seek and in the start line of a game: `chess`,
 /// `crazyhouse`, `bughouse` or `fischer N`, where N is the array's number.
@@ -47,7 +46,7 @@ pub fn read_variant(word: &[u8]) -> Option<Variant>
 
 /// The words of the array of that number.
 fn fischer_words(number: u16) -> MoveText
-    requires { number < 960 }
+    requires { number < arrays }
     ensures { result ≡ codes "fischer " ++ decimal number }
 {
     let units = digit(number % 10);
@@ -77,8 +76,8 @@ fn digit(number: u16) -> u8
 /// The number of the array that these words name.
 fn read_fischer(word: &[u8]) -> Option<u16>
     ensures named { IfSome result (λ number. word.now ≡ codes "fischer " ++ decimal number) }
-    ensures within { IfSome result (λ number. number < 960) }
-    ensures none { IfNone result ((number : ℕ) → number < 960 → word.now ≢ codes "fischer " ++ decimal number) }
+    ensures within { IfSome result (λ number. number < arrays) }
+    ensures none { IfNone result ((number : ℕ) → number < arrays → word.now ≢ codes "fischer " ++ decimal number) }
 {
     let digits = match word {
         [b'f', b'i', b's', b'c', b'h', b'e', b'r', b' ', digits @ ..] => digits,

@@ -8,10 +8,6 @@ use Rattle.cmd_lines.specs.LineCommand as lines
 abbrev pub board_lines : LineCommand GameState
 board_lines = record { start = new_game; answer = answer_line; ending = codes "\n\r" }
 
--- what is written for the lines of an input
-abbrev pub text_of : List (List ℕ) → List ℕ
-text_of = lines.text_of board_lines
-
 -- the number of the first line of an input that is outside the grammar
 abbrev pub bad_in : List (List ℕ) → Option ℕ
 bad_in = lines.bad_in board_lines

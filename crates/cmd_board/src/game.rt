@@ -6,6 +6,7 @@ ghost use Rattle.style12_writer.specs.Line12.{line12_text};
 
 use crate::endings::{put_end, put_ended};
 use chess_model::{MoveWord, State, Terms, Variant};
+use clock_ledger::Moment;
 use fics_words::{Handle, Refusal};
 use game_board::GameBoard;
 use memory::NoMemory;
@@ -45,7 +46,7 @@ impl UntimedGame {
     pub fn new(alloc: Global) -> Result<UntimedGame, NoMemory>
         ensures { IfOk result (λ game. game ≡ new_game) }
     {
-        let board = GameBoard::start(alloc, 1, untimed(), 0)?;
+        let board = GameBoard::start(alloc, 1, untimed(), Moment::new(0))?;
         let over = board.state().is_end();
         Ok(UntimedGame { board, over })
     }
@@ -73,7 +74,7 @@ impl UntimedGame {
             return put_refusal(Refusal::GameOver, out);
         }
         let colour = self.board.to_move();
-        match self.board.play(colour, word, 0, None) {
+        match self.board.play(colour, word, Moment::new(0), None) {
             Ok(_captured) => {
                 let state = self.board.state();
                 self.over = state.is_end();

@@ -1,15 +1,11 @@
 -- The position that stands in a game, and what a line of it names.
-use Rattle.std.proofs.Common.{◌≡◌, ℕ, true, false, cond, List, [], ◌∷◌, ◌++◌, map, length, Some, None, sym, ap, subst, ◌∙◌}
+use Rattle.std.proofs.Common.{◌≡◌, ℕ, true, false, cond, List, map, length, Some, None, sym, ap, ◌∙◌}
 use Rattle.std.specs.Prelude.{◌||◌, nat_le, Result}
 use Rattle.std.specs.Option.{option_and_then}
 use Rattle.std.specs.Result.{result_ok}
-use Rattle.std.proofs.lemmas.List.{map-append}
 use Rattle.chess_model.specs.declared.moves.Move.{Move}
 use Rattle.chess_model.specs.declared.moves.MoveWord.{MoveWord}
 use Rattle.chess_model.specs.declared.moves.Rejection.{Rejection}
-use Rattle.chess_model.specs.Answer.{IsAnswer}
-use Rattle.chess_model.specs.Allowed.{Allowed}
-use Rattle.chess_model.specs.MoveList.{HalfMove}
 use Rattle.chess_model.specs.Position.{Position, Stands}
 use Rattle.chess_model.specs.Result.{is_end, result}
 use Rattle.chess_model.specs.WordAnswer.{word_answer}
@@ -19,12 +15,6 @@ use Rattle.cmd_bot.specs.Game.{BotGame, is_over, move_named, on_board, position_
 -- the position that is kept is the game's
 pub stands_at : (p : Position) (kept : List Move) (game : BotGame) → Stands p (map on_board kept) 1 → record { variant = p.variant; moves = kept } ≡ game → p ≡ position_of game
 stands_at p kept game s view = s.same ∙ ap position_of view
-
--- and it stays so with one more half-move
-pub stands_on : (p q : Position) (moves : List Move) (m : Move)
-    → ((T : List HalfMove) (b : ℕ) → Stands p T b → Stands q (T ++ record { board = b; what = m } ∷ []) b)
-    → Stands p (map on_board moves) 1 → Stands q (map on_board (moves ++ m ∷ [])) 1
-stands_on p q moves m f s = subst (λ (l : List HalfMove). Stands q l 1) (sym (map-append on_board moves (m ∷ []))) (f (map on_board moves) 1 s)
 
 -- a game that has ended, and one that hasn't
 pub over_at_end : (p : Position) (game : BotGame) → p ≡ position_of game → is_end (result p) ≡ true → true ≡ is_over game
@@ -52,6 +42,3 @@ word_answered p game line word r e over f at =
     ap result_ok f ∙ ap (λ (x : Position). result_ok (word_answer x word)) at
     ∙ sym (ap (λ t. cond t None (result_ok (word_answer (position_of game) word))) over)
     ∙ ap (option_and_then (word_played game)) e
-
-pub answer_allowed : (p q : Position) (word : MoveWord) (m : Move) → IsAnswer p word m → p ≡ q → Allowed q m
-answer_allowed p q word m is at = subst (λ (x : Position). Allowed x m) at is.choice.allowed

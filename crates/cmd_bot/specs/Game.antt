@@ -3,12 +3,12 @@ use Rattle.std.specs.Prelude.{ℕ, nat_le, Bool, ◌||◌, if◌then◌else◌, 
 use Rattle.std.specs.List.{find, range_with_len}
 use Rattle.std.specs.Option.{option_and_then}
 use Rattle.std.specs.Result.{result_ok}
-use Rattle.chess_model.specs.Limits.{most_halves}
+use Rattle.chess_model.specs.Limits.{arrays, most_halves}
 use Rattle.chess_model.specs.declared.moves.Move.{Move}
 use Rattle.chess_model.specs.declared.moves.MoveWord.{MoveWord}
 use Rattle.chess_model.specs.declared.variant.Variant.{Variant}
 use Rattle.chess_model.specs.declared.variant.Variant.TheVariants.{Chess, Crazyhouse, Fischer}
-use Rattle.chess_model.specs.MoveList.{HalfMove}
+pub use Rattle.chess_model.specs.MoveList.{on_board}
 use Rattle.chess_model.specs.Position.{Position, position_after}
 use Rattle.chess_model.specs.Result.{is_end, result}
 use Rattle.chess_model.specs.WordAnswer.{word_answer}
@@ -18,10 +18,6 @@ use Rattle.move_reader.specs.Reading.{reading}
 pub record BotGame : Type 0 where
   pub variant : Variant
   pub moves : List Move
-
--- the half-moves of a game on one board
-abbrev pub on_board : Move → HalfMove
-on_board m = record { board = 1; what = m }
 
 -- the position after these half-moves from the start of a variant
 abbrev pub position_of : BotGame → Position
@@ -39,7 +35,7 @@ with_move game m = record game { moves = game.moves ++ m ∷ [] }
 
 -- the number from 0 to 959 of the array that the line names
 unfoldable pub array_named : List ℕ → Option ℕ
-array_named line = find (λ n. bytes_eq (codes "fischer " ++ decimal n) line) (range_with_len 0 960)
+array_named line = find (λ n. bytes_eq (codes "fischer " ++ decimal n) line) (range_with_len 0 arrays)
 
 -- crazyhouse is looked at 3 half-moves ahead at most
 abbrev pub with_drops : ℕ → Option Variant

@@ -1,5 +1,5 @@
 -- How a check ends, by whether its store could be opened.
-use Rattle.std.proofs.Common.{◌≡◌, ℕ, List, [], length, Option, None, Some, Err, refl, sym, subst, inl, inr}
+use Rattle.std.proofs.Common.{◌≡◌, ℕ, List, [], length, Option, None, Some, refl, sym, subst, inl, inr}
 use Rattle.std.specs.Prelude.{IfSome, take}
 use Rattle.std.specs.FinMap as map
 use Rattle.std.specs.Io.KnownBytes.{Appends}
@@ -8,15 +8,9 @@ use Rattle.edge_traits.specs.Pairs.{Records}
 use Rattle.edge_traits.specs.Sink.{AppendsFront}
 use Rattle.cmd_lines.specs.declared.end.End.{End}
 use Rattle.cmd_lines.specs.declared.end.End.TheVariants.{Done, ReadFault, WriteFault, Memory, BadLine, Spent}
-use Rattle.cmd_lines.specs.Reading.{AfterSend}
 use Rattle.lobby_load.specs.BadRows.{IsAccount, IsGame, IsGoodStore}
 use Rattle.lobby_load.specs.Loaded.{HasCount, HasSizes}
-use Rattle.lobby_load.specs.Refused as load
-use Rattle.lobby_load.specs.Telling.{Tells, bad_record_line}
-use Rattle.lobby_load.specs.declared.refusals.StoreFault.{StoreFault}
-use Rattle.lobby_load.specs.declared.refusals.StoreFault.TheVariants as store
 use Rattle.lobby_state.specs.Lobby.{LobbyState}
-use Rattle.cmd_store.specs.Outcomes.{OnWriteFault, outcome_of}
 use Rattle.cmd_store.specs.declared.outcome.Outcome.TheVariants.{Read}
 use Rattle.cmd_check.specs.CheckEnds.{CheckEnds, WritesLine}
 use Rattle.cmd_check.specs.Counts.{AreCounts, check_line}
@@ -47,27 +41,3 @@ told table a b c accounts games Memory counts nothing wrote =
     inr (check_line accounts games, inl (accounts, games, counts, refl), front_behind a b c (check_line accounts games) nothing wrote)
 told table a b c accounts games BadLine counts nothing wrote = absurd wrote
 told table a b c accounts games Spent counts nothing wrote = absurd wrote
-
--- the store couldn't be opened
-pub not_opened : (A : Type 0) (table : Option Records) (a b : Option (List ℕ)) (fault : StoreFault) → Tells {A = A} table a b (Err fault)
-    → CheckEnds table a b (outcome_of fault)
-not_opened A table a b store.BadRecord h = record { key = h.0; first = h.1; wrote = h.2 }
-not_opened A table a b store.KeeperFault h = h
-not_opened A table a b store.WriteFault h = inr (bad_record_line h.0, inr (h.0, h.1, refl), h.2)
-not_opened A table a b store.Memory (inl nothing) = inl nothing
-not_opened A table a b store.Memory (inr h) = inr (bad_record_line h.0, inr (h.0, h.1, refl), h.2)
-
-pub write_failed : (A : Type 0) (fault : StoreFault) (P : Type 0) → load.OnWriteFault {A = A} (Err fault) P → OnWriteFault (outcome_of fault) P
-write_failed A store.BadRecord P h = tt
-write_failed A store.KeeperFault P h = tt
-write_failed A store.WriteFault P h = h
-write_failed A store.Memory P h = tt
-
--- the line wasn't sent
-pub not_sent : (A : Type 0) (line : List ℕ) (a b : Option (List ℕ)) (end : End) → AfterSend {A = A} a b line (Err end) → WritesLine line a b end
-not_sent A line a b Done h = absurd h
-not_sent A line a b ReadFault h = h
-not_sent A line a b WriteFault h = h
-not_sent A line a b Memory h = h
-not_sent A line a b BadLine h = h
-not_sent A line a b Spent h = h

@@ -2,12 +2,13 @@
 use Rattle.std.proofs.Common.{◌≡◌, ℕ, suc, ◌+◌, ◌-◌, List, [], ◌∷◌, ◌++◌, codes, slice_set, refl, sym, ap, subst, ◌∙◌, arith}
 use Rattle.std.proofs.lemmas.Option.{same_Some}
 use Rattle.histories.specs.History.{Legal}
+use Rattle.histories.proofs.Histories.{legal_back}
 use Rattle.one_server.specs.declared.part.Part.{Part}
 use Rattle.one_server.specs.House.{house}
 use Rattle.one_server.specs.Running.{Log}
 use Rattle.one_server.specs.Server.{ServerState, parts_in}
 use Rattle.cmd_replay.specs.Evening.{Does, opening_parts}
-use Rattle.cmd_replay.specs.FollowingProof.{legal_back, one_doing}
+use Rattle.cmd_replay.specs.FollowingProof.{one_doing}
 use Rattle.replay_core.specs.declared.script.ScriptEvent.{ScriptEvent}
 use Rattle.replay_core.specs.declared.script.ScriptEvent.TheVariants as event
 use Rattle.session_core.specs.Memory.{MemoryState}
@@ -73,7 +74,7 @@ same_state one other server memories number moment =
 -- what an event made is legal where it came
 own_legal : (session : ℕ) (what : ScriptEvent) (old new : DemoState) (c : Comes session what old new) → Legal house (parts_in old.server) c.answered.entries
 own_legal session what old new c =
-    legal_back old.server.opening old.server.log c.answered.entries (subst (λ (s : ServerState). Legal house s.opening s.log) c.answered.more c.legal)
+    legal_back house old.server.opening old.server.log c.answered.entries (subst (λ (s : ServerState). Legal house s.opening s.log) c.answered.more c.legal)
 
 one_coming : (session : ℕ) (what : ScriptEvent) (old new other : DemoState) → Comes session what old new → Comes session what old other → new ≡ other
 one_coming session what old new other c d =

@@ -6,7 +6,7 @@ ghost use Rattle.cmd_demo.specs.Turns.{moves_at, moves_of, moves_on};
 
 use chess_model::{Colour, Move};
 use game_board::GameBoard;
-use linked_desk::{Desk, colour_at};
+use linked_desk::{Desk, board_of, colour_at};
 use memory::NoMemory;
 use one_server::OneServer;
 use std::alloc::Global;
@@ -33,7 +33,7 @@ fn moves_at(alloc: Global, seat: u8, desk: &Desk) -> Result<Vec<Move>, NoMemory>
     if desk.ended().is_some() {
         return Ok(Vec::new(alloc));
     }
-    let Some(board) = desk.board(seat / 2 + 1) else {
+    let Some(board) = desk.board(board_of(seat)) else {
         return Ok(Vec::new(alloc));
     };
     moves_on(alloc, colour_at(seat), board)

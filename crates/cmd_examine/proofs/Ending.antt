@@ -2,7 +2,7 @@
 use Rattle.std.proofs.Common.{◌≡◌, ℕ, ◌<◌, ◌^◌, List, [], Option, Some, None, Result, Ok, Err, refl, sym, subst, inl, inr}
 use Rattle.std.specs.Prelude.{IfOk, IfSome, option_map}
 use Rattle.std.specs.Io.KnownBytes.{Appends}
-use Rattle.std.proofs.KnownBytes.{Appends-nil, Appends-trans}
+use Rattle.std.proofs.KnownBytes.{Appends-trans}
 use Rattle.edge_traits.specs.Pairs.{Records}
 use Rattle.game_records.specs.declared.stored_game.StoredGame.{StoredGame}
 use Rattle.lobby_shelf.specs.Numbers.{stored_game}
@@ -47,10 +47,6 @@ not_shown A e left written written' WriteFault h = inr (record { unread = refl; 
 not_shown A e left written written' Memory h = inr (record { unread = refl; text = h })
 not_shown A e left written written' BadLine h = absurd h
 not_shown A e left written written' Spent h = absurd h
-
--- running out of memory before anything was written
-pub no_memory : (e : ExamState) (left written : Option (List ℕ)) → AnswersFrom e left left written written Memory
-no_memory e left written = inr (record { unread = refl; text = (0, Appends-nil written) })
 
 -- ---- behind an opening of the store that wrote nothing
 

@@ -1,19 +1,9 @@
 -- The game that stands under a key is one, since a record spells one game.
-use Rattle.std.proofs.Common.{◌≡◌, ℕ, List, Some, sym, ap, subst, ◌∙◌}
-use Rattle.game_records.proofs.ReadBack.{one_spelled}
+use Rattle.std.proofs.Common.{◌≡◌, ℕ, List, Some, sym, subst, ◌∙◌}
+use Rattle.game_records.proofs.ReadBack.{one_spelled, same_game}
 use Rattle.game_records.specs.Spelling.{IsSpelled}
-use Rattle.game_records.specs.declared.records.Record.{Record}
 use Rattle.game_records.specs.declared.records.Record.TheVariants as a
-use Rattle.game_records.specs.declared.stored_game.StoredGame.{StoredGame}
 use Rattle.cmd_examine.specs.OneGame.{HasOneGame}
-
-game_of : Record → StoredGame → StoredGame
-game_of (a.Account account) game = game
-game_of (a.Game game) other = game
-
-same_game : (one other : StoredGame) → a.Game one ≡ a.Game other → one ≡ other
-unfolding game_of
-same_game one other e = ap (λ (r : Record). game_of r one) e
 
 same_bytes : (bytes others : List ℕ) → Some bytes ≡ Some others → bytes ≡ others
 same_bytes bytes others e = cc

@@ -3,7 +3,7 @@ use Rattle.std.specs.Prelude.{◌≡◌, codes, Some, refl}
 use Rattle.std.specs.Fmt.{digits}
 use Rattle.fics_words.specs.declared.refusal.Refusal.TheVariants.{NoEarlierMoves}
 use Rattle.cmd_examine.specs.Lines.{reading}
-use Rattle.cmd_examine.specs.Texts.{refusal_text}
+use Rattle.cmd_lines.specs.Words.{refusal_text}
 use Rattle.cmd_examine.specs.declared.line.ExamLine.TheVariants.{Forward, Revert}
 
 one_forward : reading (codes "forward") ≡ Some (Forward 1)

@@ -1,13 +1,11 @@
 -- The lines of `examine`: `forward` and `back`, each alone or with a blank and a decimal from 1 to 2,400; `revert`; and
 -- move words. This program's own.
-use Rattle.std.specs.Prelude.{ℕ, ◌==◌, Bool, if◌then◌else◌, bytes_eq, codes, decimal, List, Option, Some, option_map}
+use Rattle.std.specs.Prelude.{ℕ, if◌then◌else◌, bytes_eq, codes, decimal, List, Option, Some, option_map}
 use Rattle.std.specs.List.{after_first, before_first, find, range_with_len}
 use Rattle.move_reader.specs.Reading as word
+use Rattle.cmd_lines.specs.Words.{is_blank}
 use Rattle.cmd_examine.specs.declared.line.ExamLine.{ExamLine}
 use Rattle.cmd_examine.specs.declared.line.ExamLine.TheVariants.{Forward, Back, Revert, Play}
-
-abbrev pub is_blank : ℕ → Bool
-is_blank byte = byte == 32
 
 -- the number from 1 to 2,400 of which the bytes are the decimal
 unfoldable pub count_of : List ℕ → Option ℕ

@@ -1,10 +1,10 @@
 -- What `examine` writes for a line, and what the line makes of the exam.
-use Rattle.std.specs.Prelude.{ℕ, List, [], ◌++◌, codes, decimal, Option, None, Result, Ok, Err, option_map}
+use Rattle.std.specs.Prelude.{ℕ, List, [], ◌++◌, codes, Option, None, Result, Ok, Err, option_map}
 use Rattle.std.specs.List.{flat_map}
 use Rattle.chess_model.specs.declared.variant.Variant.TheVariants.{Chess}
-use Rattle.fics_words.specs.Refusal.{name_of, number_of}
 use Rattle.fics_words.specs.declared.refusal.Refusal.{Refusal}
 use Rattle.cmd_lines.specs.LineCommand.{LineCommand}
+use Rattle.cmd_lines.specs.Words.{refusal_text}
 use Rattle.examine_board.specs.Answers.{answer, left_by}
 use Rattle.examine_board.specs.Exam.{ExamState}
 use Rattle.examine_board.specs.Lines.{exam_lines}
@@ -13,10 +13,6 @@ use Rattle.examine_board.specs.Steps.{backed, forwarded, reverted}
 use Rattle.cmd_examine.specs.Lines.{reading}
 use Rattle.cmd_examine.specs.declared.line.ExamLine.{ExamLine}
 use Rattle.cmd_examine.specs.declared.line.ExamLine.TheVariants.{Forward, Back, Revert, Play}
-
--- the line of a refusal: its number and its name
-abbrev pub refusal_text : Refusal → List ℕ
-refusal_text cause = codes "refused " ++ decimal (number_of cause) ++ codes " " ++ name_of cause ++ codes "\n"
 
 -- lines, each ended by a line feed
 abbrev pub lines_text : List (List ℕ) → List ℕ
@@ -57,5 +53,5 @@ no_exam = record {
   names = [];
   stored = [];
   list = [];
-  place = 0;
+  point = 0;
 }

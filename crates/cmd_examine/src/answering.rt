@@ -10,8 +10,8 @@ ghost use Rattle.cmd_examine.specs.Texts.{answer_line, done, shown_text, told};
 
 use crate::line::ExamLine;
 use crate::reading::read_line;
-use crate::texts::{LINE_END, put_exam, put_refusal};
-use cmd_lines::{End, LineAnswerer, answer_from, send};
+use crate::texts::{LINE_END, put_exam};
+use cmd_lines::{End, LineAnswerer, answer_from, put_refusal, send};
 use edge_traits::{Sink, Source};
 use examine_board::Exam;
 use fics_words::Refusal;

@@ -1,10 +1,10 @@
 //! The reading of a line.
 
-ghost use Rattle.std.specs.Prelude.{◌≡◌, ◌<◌, IfSome, length};
-ghost use Rattle.std.specs.List.{after_first, before_first, position};
-ghost use Rattle.cmd_examine.specs.Lines.{count_of, is_blank, reading, worded};
+ghost use Rattle.std.specs.Prelude.{◌≡◌};
+ghost use Rattle.cmd_examine.specs.Lines.{count_of, reading, worded};
 
 use crate::line::ExamLine;
+use cmd_lines::cut;
 use fics_words::read_number;
 use move_reader::read_word;
 
@@ -39,25 +39,6 @@ fn read_worded(word: &[u8], rest: &[u8], line: &[u8]) -> Option<ExamLine>
         return Some(ExamLine::Back(read_count(rest)?));
     }
     Some(ExamLine::Play(read_word(line)?))
-}
-
-/// The bytes before the first blank, and those behind it; all and none where there is no blank.
-fn cut(bytes: &[u8]) -> (&[u8], &[u8])
-    ensures word { result.0.now ≡ before_first is_blank bytes.now }
-    ensures rest { result.1.now ≡ after_first is_blank bytes.now }
-{
-    match first_blank(bytes) {
-        Some(place) => (&bytes[..place], &bytes[place + 1..]),
-        None => (bytes, &[]),
-    }
-}
-
-/// The place of the first blank.
-fn first_blank(bytes: &[u8]) -> Option<usize>
-    ensures place { result ≡ position is_blank bytes.now }
-    ensures within { IfSome result (λ place. place < length bytes.now) }
-{
-    bytes.iter().position(|byte| *byte == b' ')
 }
 
 /// The number of half-moves, 1 to 2,400, of which the bytes are the decimal.

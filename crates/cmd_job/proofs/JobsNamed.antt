@@ -1,9 +1,8 @@
 -- Where texts name no job.
-use Rattle.std.proofs.Common.{◌≡◌, ◌≢◌, ℕ, List, [], ◌∷◌, Option, Some, None, get_or, refl, sym, ap, subst, ◌∙◌}
-use Rattle.std.specs.Prelude.{◌==◌, if◌then◌else◌, Result, Ok, Err, IfErr, String, codes, option_copied, unwrap_or}
+use Rattle.std.proofs.Common.{◌≡◌, ℕ, List, Option, Some, None, get_or, refl, sym, ap, subst, ◌∙◌}
+use Rattle.std.specs.Prelude.{◌==◌, if◌then◌else◌, Result, Ok, Err, IfErr, codes, option_copied, unwrap_or}
 use Rattle.std.specs.Borrow.{Bor}
-use Rattle.std.specs.declared.alloc.Global.{Global}
-use Rattle.cmd_job.specs.Jobs.{IsBehind, IsBind, IsCount, IsExamine, IsGame, IsOverStore, IsPort, IsServe, OnUsage, TextsName, text_of}
+use Rattle.cmd_job.specs.Jobs.{IsBind, IsCount, IsExamine, IsGame, IsOverStore, IsPort, IsServe, OnUsage, text_of}
 use Rattle.cmd_job.specs.Options.{Chosen, Says}
 use Rattle.cmd_job.specs.declared.command_name.CommandName.{CommandName}
 use Rattle.cmd_job.specs.declared.command_name.CommandName.TheVariants as name
@@ -38,23 +37,6 @@ command_by-text name.Serve = refl
 -- a text names one command
 pub one_command : (command other : CommandName) → text_of command ≡ text_of other → command ≡ other
 one_command command other e = sym (command_by-text command) ∙ ap (λ (n : List ℕ). command_by (get_or n 1 0) (get_or n 2 0)) e ∙ command_by-text other
-
-pub no_command : (word : List ℕ) (rest : List (List ℕ)) → ((command : CommandName) → word ≢ text_of command) → (job : Job) → TextsName (word ∷ rest) job → ⊥
-no_command word rest none job h = none h.0 (let same : word ∷ rest ≡ text_of h.0 ∷ h.1 = h.2 in cc)
-
-pub none_behind : (word : List ℕ) (rest : List (List ℕ)) (command : CommandName) → word ≡ text_of command → ((job : Job) → IsBehind command rest job → ⊥) → (job : Job) → TextsName (word ∷ rest) job → ⊥
-none_behind word rest command is none job h =
-    let both : word ∷ rest ≡ text_of h.0 ∷ h.1 = h.2 in
-    let first : text_of h.0 ≡ word = sym cc in
-    let called : text_of h.0 ≡ text_of command = first ∙ is in
-    let behind : h.1 ≡ rest = sym cc in
-    none job (subst (λ (w : List (List ℕ)). IsBehind command w job) behind (subst (λ (c : CommandName). IsBehind c h.1 job) (one_command h.0 command called) h.3))
-
-serves : (command : CommandName) (words : List (List ℕ)) (job : Job) → command ≡ name.Serve → IsBehind command words job
-    → (port : ℕ) × (bind : String Global) × (store : Option (String Global)) × (count : Option ℕ) × (job ≡ Serve port bind store count)
-serves command words job is h =
-    let behind : IsBehind name.Serve words job = subst (λ (c : CommandName). IsBehind c words job) is h in
-    (behind.0, behind.1, behind.2, behind.3, behind.5)
 
 -- ---- the values of the options
 

@@ -6,7 +6,6 @@ use Rattle.std.specs.List.{position_or_len, before_first, after_first}
 use Rattle.std.proofs.lemmas.Bool.{eqb-true}
 use Rattle.std.proofs.lemmas.List.{length-map}
 use Rattle.std.proofs.lemmas.Slice.Eq.{bytes_eq-Decides}
-use Rattle.std.proofs.lemmas.List.Sums.{split_at_first, passes_at_first}
 use Rattle.cmd_job.specs.Options.{AreOptions, BeginsWith, Chosen, GivenValue, Says, Tells, chosen_of, is_equals, listed, name_of, nothing_chosen, same_option, values_of, with_chosen}
 use Rattle.cmd_job.specs.declared.command_name.CommandName.{CommandName}
 use Rattle.cmd_job.specs.declared.options.JobOption.{JobOption}
@@ -43,10 +42,6 @@ no_cut Bind = refl
 no_cut Count = refl
 no_cut Store = refl
 no_cut Game = refl
-
--- a word that is cut is joined again by `=`
-pub joined : (word : List ℕ) → position_or_len is_equals word < length word → word ≡ before_first is_equals word ++ 61 ∷ after_first is_equals word
-joined word h = split_at_first is_equals word 0 h ∙ ap (λ (b : ℕ). before_first is_equals word ++ b ∷ after_first is_equals word) (eqb-true _ 61 (passes_at_first is_equals word 0 h))
 
 -- the option that is called so, by the third byte of its name
 option_by : ℕ → JobOption

@@ -6,7 +6,8 @@ use Rattle.std.proofs.lemmas.List.{take_all, length-take-le}
 use Rattle.std.proofs.Math.Seq.{take-suc}
 use Rattle.cmd_lines.specs.Handling.{Reaching, IsOutsideAt, HasBadLine, AreLines, AfterAnswering, bad_line}
 use Rattle.cmd_lines.specs.Feeding.{AfterFeeding}
-use Rattle.cmd_lines.specs.Lines.{is_kept, but_last, last_of, last_line, lines_of, whole_lines}
+use Rattle.fics_words.specs.Pieces.{is_kept, but_last, last_of}
+use Rattle.cmd_lines.specs.Lines.{last_line, lines_of, whole_lines}
 use Rattle.cmd_lines.specs.MachineFeeding.{line_feeding}
 use Rattle.cmd_lines.specs.HandlerStanding.{HandlerStanding}
 use Rattle.cmd_lines.specs.Progress.{Progress, IsLineAnswered, AfterLine, AfterFeed, AfterStop, OnBadLine}

@@ -5,7 +5,8 @@ use Rattle.std.specs.List.{onto_first, join_with_byte}
 use Rattle.std.proofs.lemmas.Bool.Decides.{nat_tests}
 use Rattle.std.proofs.lemmas.List.Splits.{slice_split_none, slice_split_at, join_with_byte-slice_split}
 use Rattle.std.proofs.lemmas.List.Elements.{All-nil, All-cons}
-use Rattle.cmd_lines.specs.Lines.{HasNoLineFeed, pieces, AreParts}
+use Rattle.fics_words.specs.Pieces.{pieces}
+use Rattle.cmd_lines.specs.Lines.{HasNoLineFeed, AreParts}
 use Rattle.fics_words.proofs.Pieces.{Begins, Begins-pieces}
 
 onto-all : (b : ℕ) (parts : List (List ℕ)) → (b == 10) ≡ false → Begins parts → All HasNoLineFeed parts → All HasNoLineFeed (onto_first b parts)

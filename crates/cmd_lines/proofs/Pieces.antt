@@ -4,22 +4,9 @@ use Rattle.std.specs.Prelude.{filter, ◌==◌}
 use Rattle.std.specs.List.{onto_first}
 use Rattle.std.proofs.lemmas.List.Splits.{slice_split_none, slice_split_at, slice_split-cons_no}
 use Rattle.std.proofs.lemmas.List.Elements.{All-nil, All-cons, All-append, filter-append}
-use Rattle.cmd_lines.specs.Lines.{HasNoLineFeed, is_kept, pieces, lines_of, but_last, last_of, last_line, whole_lines}
-use Rattle.fics_words.proofs.Pieces.{Begins, Begins-pieces}
-
-but_last-cons : (x : List ℕ) (parts : List (List ℕ)) → Begins parts → but_last (x ∷ parts) ≡ x ∷ but_last parts
-but_last-cons x [] h = absurd (let bad = h.is in cc)
-but_last-cons x (y ∷ ys) h = refl
-
-last_of-cons : (x : List ℕ) (parts : List (List ℕ)) → Begins parts → last_of (x ∷ parts) ≡ last_of parts
-last_of-cons x [] h = absurd (let bad = h.is in cc)
-last_of-cons x (y ∷ ys) h = refl
-
--- all but the last, and the last
-pub but_last-last_of : (parts : List (List ℕ)) → Begins parts → but_last parts ++ last_of parts ∷ [] ≡ parts
-but_last-last_of [] h = absurd (let bad = h.is in cc)
-but_last-last_of (x ∷ []) h = refl
-but_last-last_of (x ∷ y ∷ ys) h = ap (λ l. x ∷ l) (but_last-last_of (y ∷ ys) (record { first = y; others = ys; is = refl }))
+use Rattle.fics_words.specs.Pieces.{is_kept, pieces, but_last, last_of}
+use Rattle.cmd_lines.specs.Lines.{HasNoLineFeed, lines_of, last_line, whole_lines}
+use Rattle.fics_words.proofs.Pieces.{Begins, Begins-pieces, but_last-cons, last_of-cons, but_last-last_of}
 
 Begins-append : (xs ys : List (List ℕ)) → Begins ys → Begins (xs ++ ys)
 Begins-append [] ys h = h

@@ -1,5 +1,5 @@
 -- What was written, as bytes are sent behind it.
-use Rattle.std.proofs.Common.{◌≡◌, ℕ, ◌+◌, true, false, List, [], ◌++◌, length, take, refl, sym, ap, subst, ◌∙◌, append-nil, Ok, Err, inl, inr}
+use Rattle.std.proofs.Common.{◌≡◌, ℕ, zero, suc, ◌+◌, true, false, List, [], ◌∷◌, ◌++◌, length, take, refl, sym, ap, subst, ◌∙◌, append-nil, Ok, Err, inl, inr}
 use Rattle.std.specs.Prelude.{Bool, Option, Result}
 use Rattle.std.specs.Io.KnownBytes.{Appends}
 use Rattle.std.proofs.KnownBytes.{Appends-trans}
@@ -23,6 +23,15 @@ pub AppendsFront-all : (written now : Option (List ℕ)) (text : List ℕ) → A
 AppendsFront-all written now text p =
     let whole : text ≡ take (length text) text = sym (take-append_seam text []) ∙ ap (take (length text)) (append-nil text) in
     (length text, subst (Appends written now) whole p)
+
+-- a prefix of the first part is one of the whole
+take_less : (n : ℕ) (xs ys : List ℕ) → (k : ℕ) × (take k (xs ++ ys) ≡ take n xs)
+take_less zero xs ys = (0, refl)
+take_less (suc n) [] ys = (0, refl)
+take_less (suc n) (x ∷ xs) ys = let more = take_less n xs ys in (suc more.0, ap (λ (l : List ℕ). x ∷ l) more.1)
+
+pub AppendsFront-longer : (old new : Option (List ℕ)) (xs ys : List ℕ) → AppendsFront old new xs → AppendsFront old new (xs ++ ys)
+AppendsFront-longer old new xs ys p = let t = take_less p.0 xs ys in (t.0, subst (λ (bs : List ℕ). Appends old new bs) (sym t.1) p.1)
 
 module _ {S : Type 0} (feeding : Feeding S) where
   -- what was written, and nothing

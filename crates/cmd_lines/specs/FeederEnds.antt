@@ -1,7 +1,8 @@
 -- How the reading of the input of a feeder ends: what was read, where the feeder stands and what was written by then.
-use Rattle.std.specs.Prelude.{◌≡◌, ℕ, ◌^◌, ◌≤◌, Bool, true, false, List, [], ◌++◌, length, Option}
+use Rattle.std.specs.Prelude.{◌≡◌, ℕ, ◌≤◌, Bool, true, false, List, [], ◌++◌, length, Option}
 use Rattle.std.specs.Io.KnownBytes.{Appends}
 use Rattle.edge_traits.specs.Sink.{AppendsFront}
+use Rattle.edge_traits.specs.Source.{most_reads}
 use Rattle.cmd_lines.specs.Ends.{HasRead}
 use Rattle.cmd_lines.specs.Feeding.{Feeding, IsDueFor}
 use Rattle.cmd_lines.specs.declared.end.End.{End}
@@ -57,7 +58,7 @@ pub record IsCutOff {S : Type 0} (feeding : Feeding S) (left left' written writt
 -- at least 2^40 bytes came, and what is due for them was written
 pub record IsSpent {S : Type 0} (feeding : Feeding S) (left left' written written' : Option (List ℕ)) : Type 0 where
   pub begun : IsBegun feeding left left' written written'
-  pub many : 2 ^ 40 ≤ length begun.taken
+  pub many : most_reads ≤ length begun.taken
 
 -- how the reading of the input of a feeder ends
 abbrev pub FeederEnds : {S : Type 0} → Feeding S → Option (List ℕ) → Option (List ℕ) → Option (List ℕ)

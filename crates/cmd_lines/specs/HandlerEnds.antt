@@ -1,7 +1,8 @@
 -- How the reading of the lines of a command ends: what was read, where the handler stands and what was written by then.
-use Rattle.std.specs.Prelude.{◌≡◌, ℕ, ◌^◌, ◌≤◌, Bool, true, false, List, ◌++◌, length, Option}
+use Rattle.std.specs.Prelude.{◌≡◌, ℕ, ◌≤◌, Bool, true, false, List, ◌++◌, length, Option}
 use Rattle.std.specs.Io.KnownBytes.{Appends}
 use Rattle.edge_traits.specs.Sink.{AppendsFront}
+use Rattle.edge_traits.specs.Source.{most_reads}
 use Rattle.cmd_lines.specs.Handling.{Reaching, HasBadLine, IsDue}
 use Rattle.cmd_lines.specs.Lines.{lines_come}
 use Rattle.cmd_lines.specs.Ends.{HasRead}
@@ -56,7 +57,7 @@ pub record ArePartAnswered {S : Type 0} (reached : Reaching S) (ending : List �
 -- at least 2^40 bytes came, and their whole lines were answered
 pub record AreSpent {S : Type 0} (reached : Reaching S) (left left' written written' : Option (List ℕ)) : Type 0 where
   pub answers : AreAnswered reached left left' written written' false
-  pub many : 2 ^ 40 ≤ length answers.taken
+  pub many : most_reads ≤ length answers.taken
 
 -- how the reading of the lines of a command ends
 abbrev pub HandlerEnds : {S : Type 0} → Reaching S → (S → S → Type 0) → List ℕ → Option (List ℕ) → Option (List ℕ)

@@ -13,4 +13,5 @@ pub mod MachineFeeding
 pub mod PlayedLinesProof
 pub mod Progress
 pub mod Reading
+pub mod Words
 pub mod HandlerStanding

@@ -1,8 +1,9 @@
 -- How the reading of the lines of a command ends that answers each by a function: what was read and what was written by
 -- then.
-use Rattle.std.specs.Prelude.{◌≡◌, ℕ, ◌^◌, ◌≤◌, Bool, true, false, List, length, Option, Some, None}
+use Rattle.std.specs.Prelude.{◌≡◌, ℕ, ◌≤◌, Bool, true, false, List, length, Option, Some, None}
 use Rattle.std.specs.Io.KnownBytes.{Appends}
 use Rattle.edge_traits.specs.Sink.{AppendsFront}
+use Rattle.edge_traits.specs.Source.{most_reads}
 use Rattle.cmd_lines.specs.Ends.{HasRead}
 use Rattle.cmd_lines.specs.LineCommand.{LineCommand, text_of, bad_in}
 use Rattle.cmd_lines.specs.Lines.{lines_come}
@@ -38,7 +39,7 @@ pub record AnswersPart {S : Type 0} (command : LineCommand S)
 -- at least 2^40 bytes came, and the text of their whole lines was written
 pub record Spends {S : Type 0} (command : LineCommand S) (left left' written written' : Option (List ℕ)) : Type 0 where
   pub answers : Answers command left left' written written' false
-  pub many : 2 ^ 40 ≤ length answers.taken
+  pub many : most_reads ≤ length answers.taken
 
 -- how the reading of the lines of the command ends
 abbrev pub LineCommandEnds : {S : Type 0} → LineCommand S → Option (List ℕ) → Option (List ℕ) → Option (List ℕ)

@@ -12,11 +12,8 @@ ghost use Rattle.cmd_lines.specs.Reading.{AfterAnswer, AfterFinish, AfterSend, A
 use crate::end::End;
 use crate::feeder::Feeder;
 use crate::stop::Stop;
-use edge_traits::{Got, Sent, Sink, Source};
+use edge_traits::{Got, MOST_READS, Sent, Sink, Source};
 use std::alloc::Global;
-
-/// The most reads of one run: 2^40.
-const MOST_READS: u64 = 1_099_511_627_776;
 
 /// Reads the source to its end, feeds what it gives, and writes what is due for it: one write a read. At the end of the
 /// input the feeder is closed, and what it gives then is written.

@@ -23,6 +23,7 @@ mod laws;
 mod line_handler;
 mod machine;
 mod stop;
+mod words;
 
 pub use answering::{answer_pieces, send};
 pub use by_function::{LineAnswerer, answer_each, answer_from};
@@ -34,3 +35,4 @@ pub use laws::lines;
 pub use line_handler::LineHandler;
 pub use machine::refuse_line;
 pub use stop::Stop;
+pub use words::{cut, put_refusal};

@@ -1,5 +1,5 @@
 -- The games of a lobby that was loaded are those of the table.
-use Rattle.std.proofs.Common.{arith, ◌≡◌, ℕ, Bool, true, false, cond, List, [], ◌∷◌, Option, None, Some, refl, sym, ap, subst, ◌∙◌, inl, inr}
+use Rattle.std.proofs.Common.{arith, ◌≡◌, ℕ, true, false, cond, List, [], ◌∷◌, Option, None, Some, refl, sym, ap, subst, ◌∙◌, inl, inr}
 use Rattle.std.specs.Prelude.{◌⊎◌, All, Contains, IfSome}
 use Rattle.std.specs.List.{find}
 use Rattle.std.proofs.lemmas.Slice.Eq.{bytes_eq-Decides}
@@ -8,11 +8,10 @@ use Rattle.fics_words.specs.declared.account.Account.{Account}
 use Rattle.game_records.specs.Keys.{game_key}
 use Rattle.game_records.specs.Replays.{Replays}
 use Rattle.game_records.specs.Spelling.{IsSpelled, spelling}
-use Rattle.game_records.specs.declared.records.Record.{Record}
 use Rattle.game_records.specs.declared.records.Record.TheVariants as a
 use Rattle.game_records.specs.declared.stored_game.StoredGame.{StoredGame}
 use Rattle.game_records.proofs.KeysBack.{one_game}
-use Rattle.game_records.proofs.ReadBack.{one_spelled}
+use Rattle.game_records.proofs.ReadBack.{one_spelled, same_game}
 use Rattle.lobby_shelf.specs.declared.shelved.Shelved.{Shelved}
 use Rattle.lobby_shelf.specs.Numbers.{RiseAbove}
 use Rattle.lobby_shelf.specs.Wanted.{either_record, account_record, game_record, is_game_at, wanted}
@@ -74,14 +73,6 @@ found_is (first ∷ games) key row e =
     ] refl e
 
 -- ---- the games of a table
-
-game_of : Record → StoredGame → StoredGame
-game_of (a.Account account) game = game
-game_of (a.Game game) other = game
-
-same_game : (one other : StoredGame) → a.Game one ≡ a.Game other → one ≡ other
-unfolding game_of
-same_game one other e = ap (λ (r : Record). game_of r one) e
 
 same_row : (one other : Shelved) → one.number ≡ other.number → one.game ≡ other.game → one ≡ other
 same_row one other e f =

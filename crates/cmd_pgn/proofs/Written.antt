@@ -1,20 +1,18 @@
 -- Exports of games, one behind the other.
-use Rattle.std.proofs.Common.{arith, ◌≡◌, ℕ, zero, suc, ◌+◌, ◌<◌, List, [], ◌∷◌, ◌++◌, Option, Some, Err, length, take, drop, get_or, refl, sym, ap, subst, ◌∙◌, append-nil}
+use Rattle.std.proofs.Common.{◌≡◌, ℕ, ◌+◌, ◌<◌, List, [], ◌∷◌, ◌++◌, Option, Some, Err, length, take, drop, get_or, sym, ap, subst, ◌∙◌, append-nil}
 use Rattle.std.specs.Prelude.{IfSome}
 use Rattle.std.specs.Io.KnownBytes.{Appends}
 use Rattle.std.proofs.KnownBytes.{Appends-trans}
 use Rattle.std.proofs.lemmas.List.{take_more, take-append-drop}
 use Rattle.std.proofs.lemmas.List.Concat.{flat_map-append}
 use Rattle.chess_model.specs.declared.variant.Variant.{Variant}
-use Rattle.chess_model.specs.declared.variant.Variant.TheVariants.{Chess, Crazyhouse, Bughouse, Fischer}
 use Rattle.edge_traits.specs.Sink.{AppendsFront}
-use Rattle.game_records.specs.Replays.{Replays}
 use Rattle.game_records.specs.declared.stored_game.StoredGame.{StoredGame}
 use Rattle.lobby_shelf.specs.declared.shelved.Shelved.{Shelved}
 use Rattle.cmd_lines.specs.Reading.{AfterSend}
 use Rattle.cmd_lines.specs.declared.end.End.{End}
 use Rattle.cmd_lines.specs.declared.end.End.TheVariants.{Done, ReadFault, WriteFault, Memory, BadLine, Spent}
-use Rattle.cmd_lines.proofs.Sending.{AppendsFront-behind}
+use Rattle.cmd_lines.proofs.Sending.{AppendsFront-behind, AppendsFront-longer}
 use Rattle.pgn_book.specs.declared.game.PgnGame.{PgnGame}
 use Rattle.pgn_book.specs.Export.{export_text}
 use Rattle.pgn_book.specs.Stored.{IsStoredChess, stored_text}
@@ -32,21 +30,13 @@ pub exports_parted : (games : List Shelved) (k : ℕ) → exports games ≡ expo
 exports_parted games k =
     ap exports (sym (take-append-drop k games)) ∙ flat_map-append (λ (x : Shelved). game_export x.game) (take k games) (drop k games)
 
-take_less : (n : ℕ) (xs ys : List ℕ) → (k : ℕ) × (take k (xs ++ ys) ≡ take n xs)
-take_less zero xs ys = (0, refl)
-take_less (suc n) [] ys = (0, refl)
-take_less (suc n) (x ∷ xs) ys = let more = take_less n xs ys in (suc more.0, ap (λ (l : List ℕ). x ∷ l) more.1)
-
-front_longer : (old new : Option (List ℕ)) (xs ys : List ℕ) → AppendsFront old new xs → AppendsFront old new (xs ++ ys)
-front_longer old new xs ys p = let t = take_less p.0 xs ys in (t.0, subst (λ (bs : List ℕ). Appends old new bs) (sym t.1) p.1)
-
 -- the games so far were written, and of the next one a beginning
 module _ (old mid new : Option (List ℕ)) (games : List Shelved) (k : ℕ) (row : Shelved) (within : k < length games) (is : row ≡ get_or games k row)
     (so_far : Appends old mid (exports (take k games))) where
   front : AppendsFront mid new (game_export row.game) → AppendsFront old new (exports games)
   front p =
       subst (AppendsFront old new) (ap (λ (l : List ℕ). l ++ exports (drop (k + 1) games)) (sym (exports_more games k row within is)) ∙ sym (exports_parted games (k + 1)))
-      (front_longer old new (exports (take k games) ++ game_export row.game) (exports (drop (k + 1) games))
+      (AppendsFront-longer old new (exports (take k games) ++ game_export row.game) (exports (drop (k + 1) games))
       (AppendsFront-behind old mid new (exports (take k games)) (game_export row.game) so_far p))
 
   pub sent_part : (A B : Type 0) (end : End) → AfterSend {A = A} mid new (game_export row.game) (Err end) → AfterSend {A = B} old new (exports games) (Err end)
@@ -61,13 +51,6 @@ module _ (old mid new : Option (List ℕ)) (games : List Shelved) (k : ℕ) (row
   sent_next p = subst (Appends old new) (sym (exports_more games k row within is)) (Appends-trans old mid new (exports (take k games)) (game_export row.game) so_far p)
 
 -- ---- one game
-
--- a game that replays, but of which PGN text can't tell, isn't chess
-passed_over : (game : StoredGame) (v : Variant) → game.terms.variant ≡ v → Replays game → (IsStoredChess game → ⊥) → export_as v game ≡ []
-passed_over game Chess e replays none = absurd (none (record { variant = e; replays = replays }))
-passed_over game Crazyhouse e replays none = refl
-passed_over game Bughouse e replays none = refl
-passed_over game (Fischer number) e replays none = refl
 
 own_export : (game : StoredGame) (made : PgnGame) → made ≡ stored_text game → IsStoredChess game → export_text made ≡ game_export game
 own_export game made is chess = ap export_text is ∙ sym (ap (λ (v : Variant). export_as v game) chess.variant)

@@ -1,5 +1,5 @@
 -- Acts that seat the players of a seat line, one after another.
-use Rattle.std.proofs.Common.{◌≡◌, ℕ, List, [], ◌∷◌, ◌++◌, map, length, get_or, append_assoc, refl, sym, ap, ◌∙◌, arith, OnOk, Ok, Err, Result}
+use Rattle.std.proofs.Common.{◌≡◌, ℕ, List, [], ◌∷◌, ◌++◌, map, length, get_or, append_assoc, sym, ap, ◌∙◌, arith, OnOk, Ok, Err, Result}
 use Rattle.std.proofs.lemmas.List.{map-append}
 use Rattle.memory.specs.declared.NoMemory.{NoMemory}
 use Rattle.one_server.specs.declared.act.Timed.{Timed}

@@ -4,6 +4,7 @@ use Rattle.std.proofs.lemmas.Option.{same_Some}
 use Rattle.memory.specs.declared.NoMemory.{NoMemory}
 use Rattle.fics_words.specs.Line.{IsLine}
 use Rattle.histories.specs.History.{Legal}
+use Rattle.histories.proofs.Histories.{legal_back}
 use Rattle.cmd_lines.specs.Handling.{AfterAnswering, IsOutsideAt, Takes}
 use Rattle.one_server.specs.declared.part.Part.{Part}
 use Rattle.one_server.specs.House.{house}
@@ -19,7 +20,6 @@ use Rattle.session_core.specs.Memory.{MemoryState, newcomer}
 use Rattle.cmd_replay.specs.Evening.{EveningState, Does, HasDone, HasMade, AfterLeaving, AreMemories, IsClosed, IsNext, IsNoNext, IsOrdered, KeepsOrder, LeaveInOrder, MayFollow, Reached, Row, Seats, Comes, arrivals_of, history_of, is_written, final_moment, left_by, line_of, opening_parts, parts_after, quit_of, remembered, seated_by, seated_from, seating_acts}
 use Rattle.cmd_replay.specs.EveningLinesProof.{no_snoc, none_has, one_line_more}
 use Rattle.cmd_replay.specs.EveningsProof.{came-append, seated-push}
-use Rattle.cmd_replay.specs.FollowingProof.{legal_back}
 use Rattle.cmd_replay.proofs.Memories.{one_memory, seated_memories, new_memories}
 
 -- before its first line
@@ -96,7 +96,7 @@ server_more lines old due at entries new opening log =
 legal_more : (rows : List Row) (entries : Log) (new : ServerState) → new ≡ record { opening = opening_parts; log = history_of rows ++ entries }
     → Legal house new.opening new.log → Legal house (parts_after rows) entries
 legal_more rows entries new e legal =
-    legal_back opening_parts (history_of rows) entries (subst (λ (s : ServerState). Legal house s.opening s.log) e legal)
+    legal_back house opening_parts (history_of rows) entries (subst (λ (s : ServerState). Legal house s.opening s.log) e legal)
 
 -- the seat line is taken
 pub seats_taken : (old new : EveningState) (seat : SeatLine) (progress : Attendance) → old.order ≡ None → 0 < length (seat_text seat) → IsLine (seat_text seat)

@@ -1,7 +1,8 @@
 -- What is shown of a text, line by line.
 use Rattle.std.proofs.Common.{◌≡◌, ℕ, ◌==◌, false, List, [], length, ◌∷◌, ◌++◌, append_assoc, append-nil, refl, sym, ap, ◌∙◌}
 use Rattle.std.proofs.lemmas.List.Splits.{slice_split_none, slice_split_at}
-use Rattle.cmd_lines.specs.Lines.{HasNoLineFeed, pieces}
+use Rattle.fics_words.specs.Pieces.{pieces}
+use Rattle.cmd_lines.specs.Lines.{HasNoLineFeed}
 use Rattle.cmd_replay.specs.Tagged.{shown, tagged_line, tagged_lines}
 use Rattle.fics_words.proofs.Pieces.{Begins, Begins-pieces}
 

@@ -4,7 +4,7 @@ use Rattle.std.proofs.lemmas.Option.{same_Some}
 use Rattle.histories.specs.declared.entry.Entry.{Entry}
 use Rattle.histories.specs.Core.{reply, after}
 use Rattle.histories.specs.History.{state, Legal}
-use Rattle.histories.proofs.Histories.{legal_front}
+use Rattle.histories.proofs.Histories.{legal_front, legal_back}
 use Rattle.one_server.specs.declared.act.Timed.{Timed}
 use Rattle.one_server.specs.declared.part.Part.{Part}
 use Rattle.one_server.specs.declared.reply.Reply.{Reply}
@@ -76,11 +76,6 @@ one_asking parts (e ∷ made) (d ∷ other) h l m =
     let legal : Legal house (after house parts e.session e.act) other = subst (λ (x : Entry Timed Reply). Legal house (after house parts x.session x.act) other) (sym same) m.2 in
     ap (λ (x : Entry Timed Reply). x ∷ made) same ∙ ap (λ (xs : Log). d ∷ xs) (one_asking (after house parts e.session e.act) made other rest l.2 legal)
 
--- what comes at the end of a legal history is legal in the state before it
-pub legal_back : (parts : List Part) (es fs : Log) → Legal house parts (es ++ fs) → Legal house (state house parts es) fs
-legal_back parts [] fs l = l
-legal_back parts (e ∷ es) fs l = legal_back (after house parts e.session e.act) es fs l.2
-
 -- the entries of sessions that leave one after the other are the same in one state
 pub one_leaving : (remember : ℕ → MemoryState) (moment : ℕ) (sessions : List ℕ) (parts : List Part) (made other : Log)
     → LeaveInOrder remember moment sessions made → LeaveInOrder remember moment sessions other
@@ -91,6 +86,6 @@ one_leaving remember moment (session ∷ sessions) parts made other f g l m =
     let whole' : Legal house parts (g.0 ++ g.1) = subst (Legal house parts) g.3 m in
     let own : f.0 ≡ g.0 =
     (one_following (departing (remember session)) session moment parts f.0 g.0 [] [] f.2 g.2 f.4 g.4 (legal_front house parts f.0 f.1 whole) (legal_front house parts g.0 g.1 whole')).0 in
-    let later : Legal house (state house parts f.0) g.1 = subst (λ (h : Log). Legal house (state house parts h) g.1) (sym own) (legal_back parts g.0 g.1 whole') in
-    let others : f.1 ≡ g.1 = one_leaving remember moment sessions (state house parts f.0) f.1 g.1 f.5 g.5 (legal_back parts f.0 f.1 whole) later in
+    let later : Legal house (state house parts f.0) g.1 = subst (λ (h : Log). Legal house (state house parts h) g.1) (sym own) (legal_back house parts g.0 g.1 whole') in
+    let others : f.1 ≡ g.1 = one_leaving remember moment sessions (state house parts f.0) f.1 g.1 f.5 g.5 (legal_back house parts f.0 f.1 whole) later in
     f.3 ∙ ap (λ (h : Log). h ++ f.1) own ∙ ap (λ (h : Log). g.0 ++ h) others ∙ sym g.3

@@ -1,7 +1,8 @@
 -- How the reading of a script ends: what was read, which evening it was, and what was written by then.
-use Rattle.std.specs.Prelude.{◌≡◌, ℕ, ◌^◌, ◌≤◌, Bool, true, false, List, ◌++◌, length, filter, map, Option, codes}
+use Rattle.std.specs.Prelude.{◌≡◌, ℕ, ◌≤◌, Bool, true, false, List, ◌++◌, length, filter, map, Option, codes}
 use Rattle.std.specs.Io.KnownBytes.{Appends}
 use Rattle.histories.specs.History.{Legal}
+use Rattle.edge_traits.specs.Source.{most_reads}
 use Rattle.one_server.specs.House.{house}
 use Rattle.one_server.specs.Running.{Log}
 use Rattle.cmd_lines.specs.Ends.{HasRead}
@@ -41,7 +42,7 @@ pub record IsReplayed (left left' written written' : Option (List ℕ)) : Type 0
 -- at least 2^40 bytes came, and their whole lines were answered
 pub record AreReplayedLong (left left' written written' : Option (List ℕ)) : Type 0 where
   pub replayed : AreReplayed left left' written written' false
-  pub many : 2 ^ 40 ≤ length replayed.taken
+  pub many : most_reads ≤ length replayed.taken
 
 -- how the reading of a script ends. A line is outside the grammar where no evening has it behind the lines before it
 abbrev pub ReplayEnds : Option (List ℕ) → Option (List ℕ) → Option (List ℕ) → Option (List ℕ) → End → Type 0

@@ -8,6 +8,7 @@ ghost use Rattle.session_core.specs.Memory.{is_gone};
 ghost use Rattle.cmd_replay.specs.Evening.{HasAnswered, HasDone, HasGone, HasTaken, quit_of};
 
 use crate::tagged::put_tagged;
+use clock_ledger::Moment;
 use line_reader::Incoming;
 use memory::NoMemory;
 use one_server::OneServer;
@@ -92,7 +93,7 @@ fn take_input(
         wrote.bytes.items) }
     ensures quit { IfOk result (λ wrote. wrote.quit ≡ is_gone session.new) }
 {
-    session.take(&mut server.seat(number), moment, input)
+    session.take(&mut server.seat(number), Moment::new(moment), input)
 }
 
 /// Makes a session leave.
@@ -105,5 +106,5 @@ pub(crate) fn leave_server(
     requires { moment ≤ last_moment }
     ensures { OnOk result (HasGone session.old number moment server.old server.new session.new) }
 {
-    session.leave(&mut server.seat(number), moment)
+    session.leave(&mut server.seat(number), Moment::new(moment))
 }

@@ -1,7 +1,8 @@
 //! How a transcript shows what is written to a session.
 
 ghost use Rattle.std.specs.Prelude.{◌≡◌, ◌∷◌, ◌++◌, IfOk, IfNone, IfSome, OnOk, filter};
-ghost use Rattle.cmd_lines.specs.Lines.{HasNoLineFeed, is_kept, pieces};
+ghost use Rattle.fics_words.specs.Pieces.{is_kept, pieces};
+ghost use Rattle.cmd_lines.specs.Lines.{HasNoLineFeed};
 ghost use Rattle.cmd_replay.specs.Tagged.{shown, tagged, tagged_line, tagged_lines};
 
 use fics_words::write_number;

@@ -13,7 +13,7 @@ use Rattle.cmd_job.specs.declared.command_name.CommandName.TheVariants as name
 use Rattle.cmd_job.specs.declared.job.Job.{Job}
 use Rattle.cmd_job.specs.declared.job.JobFail.{JobFail}
 use Rattle.cmd_job.specs.declared.job.JobFail.TheVariants as fails
-use Rattle.cmd_run.specs.Words.{IsCommand, IsWithin, Names, command_of}
+use Rattle.cmd_run.specs.Words.{IsCommand, Names, command_of}
 use Rattle.cmd_run.specs.declared.command.RunCommand.{RunCommand}
 use Rattle.cmd_run.specs.declared.command.RunCommand.TheVariants.{Bot, Demo, Examine}
 
@@ -71,23 +71,3 @@ on_fail fails.Memory words none = tt
 
 pub refused : (fail : JobFail) (words : List (String Global)) → fail ≡ fails.Usage → OnUsage fail (IsCommand words → ⊥) → IsCommand words → ⊥
 refused fail words is none = subst (λ (f : JobFail). OnUsage f (IsCommand words → ⊥)) is none
-
--- a command that there is looks no further ahead than the bot does
-abbrev IsWithinOf : Option RunCommand → Type 0
-IsWithinOf None = Unit {0}
-IsWithinOf (Some command) = IsWithin command
-
-within_behind : (called : CommandName) (words : List (List ℕ)) (one : Job) → IsBehind called words one → IsWithinOf (command_of one)
-within_behind name.Board words one h = subst (λ (j : Job). IsWithinOf (command_of j)) (sym h.1) tt
-within_behind name.Replay words one h = subst (λ (j : Job). IsWithinOf (command_of j)) (sym h.1) tt
-within_behind name.Tourney words one h = subst (λ (j : Job). IsWithinOf (command_of j)) (sym h.1) tt
-within_behind name.Tidy words one h = subst (λ (j : Job). IsWithinOf (command_of j)) (sym h.1) tt
-within_behind name.Bot words one h = subst (λ (j : Job). IsWithinOf (command_of j)) (sym h.2) h.1.2.1
-within_behind name.Demo words one h = subst (λ (j : Job). IsWithinOf (command_of j)) (sym h.2) tt
-within_behind name.Check words one h = subst (λ (j : Job). IsWithinOf (command_of j)) (sym h.2) tt
-within_behind name.Pgn words one h = subst (λ (j : Job). IsWithinOf (command_of j)) (sym h.2) tt
-within_behind name.Examine words one h = subst (λ (j : Job). IsWithinOf (command_of j)) (sym h.3) tt
-within_behind name.Serve words one h = subst (λ (j : Job). IsWithinOf (command_of j)) (sym h.5) tt
-
-pub is_within : (words : List (String Global)) (one : Job) (command : RunCommand) → jobs.Names words one → command_of one ≡ Some command → IsWithin command
-is_within words one command n is = subst IsWithinOf is (within_behind n.0 n.1 one n.3)

@@ -1,9 +1,10 @@
 //! The top call.
 
-ghost use Rattle.std.specs.Prelude.{◌≡◌, ◌⊎◌, ◌<◌, ◌≤◌, ◌^◌, [], ◌∷◌, length, IfSome, Contains};
+ghost use Rattle.std.specs.Prelude.{◌≡◌, ◌⊎◌, ◌<◌, ◌≤◌, [], ◌∷◌, length, IfSome, Contains};
 ghost use Rattle.std.specs.Io.KnownBytes.{Appends, Keeps};
 ghost use Rattle.edge_traits.specs.Faults.{Rose};
 ghost use Rattle.edge_traits.specs.Keeper.{Stays};
+ghost use Rattle.edge_traits.specs.Source.{most_reads};
 ghost use Rattle.cmd_run.specs.RunEnds.{CommandEnds, IsGood, WritesPart};
 ghost use Rattle.cmd_job.specs.Usage.{usage_line};
 ghost use Rattle.cmd_examine.specs.ExamineEnds.{EndsBeforeInput};
@@ -69,7 +70,7 @@ pub fn run<S: Source, K: Sink, P: Keeper>(
     ensures complete { (command : RunCommand) → Names words.now command
         → ¬ (Rose (S.faults source.old) (S.faults source.new)) → ¬ (Rose (K.faults sink.old) (K.faults sink.new))
         → (IsOverStore command → ¬ (Rose (P.faults keeper.old) (P.faults keeper.new)))
-        → IfSome (S.left source.old) (λ text. length text < 2 ^ 40 → IsGood (P.table keeper.old) text command
+        → IfSome (S.left source.old) (λ text. length text < most_reads → IsGood (P.table keeper.old) text command
         → (result ≡ 0) ⊎ (result ≡ 6)) }
     ensures statuses { Contains (0 ∷ 1 ∷ 2 ∷ 3 ∷ 4 ∷ 5 ∷ 6 ∷ 7 ∷ 9 ∷ 10 ∷ []) result }
     ensures source_stays { ¬ (Does words.now ReadsInput) → source.new ≡ source.old }

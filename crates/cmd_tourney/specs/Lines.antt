@@ -1,15 +1,13 @@
 -- The lines of `tourney`: `start` and `table`; `join` and a handle; `round` and a decimal from 1 to 255; `result`, two
 -- handles, White's first, and the score. One blank stands between two words. This program's own.
-use Rattle.std.specs.Prelude.{ℕ, ◌==◌, Bool, if◌then◌else◌, bytes_eq, codes, decimal, List, Option, Some, None, option_map}
+use Rattle.std.specs.Prelude.{ℕ, if◌then◌else◌, bytes_eq, codes, decimal, List, Option, Some, None, option_map}
 use Rattle.std.specs.List.{after_first, before_first, find, range_with_len}
 use Rattle.fics_words.specs.HandleTest.{handle_of}
 use Rattle.tourney_desk.specs.declared.score.Score.{Score}
 use Rattle.tourney_desk.specs.declared.score.Score.TheVariants as score
+use Rattle.cmd_lines.specs.Words.{is_blank}
 use Rattle.cmd_tourney.specs.declared.line.TourneyLine.{TourneyLine}
 use Rattle.cmd_tourney.specs.declared.line.TourneyLine.TheVariants as line
-
-abbrev pub is_blank : ℕ → Bool
-is_blank byte = byte == 32
 
 -- the number from 1 to 255 of which the bytes are the decimal
 unfoldable pub round_of : List ℕ → Option ℕ

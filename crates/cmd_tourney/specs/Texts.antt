@@ -3,18 +3,14 @@ use Rattle.std.specs.Prelude.{ℕ, ◌+◌, List, [], ◌∷◌, ◌++◌, codes
 use Rattle.std.specs.List.{flat_map, slice_index_or}
 use Rattle.fics_words.specs.Effect.{Effect, answer_of, state_of}
 use Rattle.fics_words.specs.Handle.{key_of}
-use Rattle.fics_words.specs.Refusal.{name_of, number_of}
 use Rattle.fics_words.specs.declared.refusal.Refusal.{Refusal}
 use Rattle.cmd_lines.specs.LineCommand.{LineCommand}
+use Rattle.cmd_lines.specs.Words.{refusal_text}
 use Rattle.tourney_desk.specs.declared.score.ScoreRow.{ScoreRow}
 use Rattle.tourney_desk.specs.Tourney.{TourneyState, joining, no_tourney, pairs_told, reporting, starting, table_told}
 use Rattle.cmd_tourney.specs.Lines.{reading}
 use Rattle.cmd_tourney.specs.declared.line.TourneyLine.{TourneyLine}
 use Rattle.cmd_tourney.specs.declared.line.TourneyLine.TheVariants.{Join, Start, Round, Report, Table}
-
--- the line of a refusal: its number and its name
-abbrev pub refusal_text : Refusal → List ℕ
-refusal_text cause = codes "refused " ++ decimal (number_of cause) ++ codes " " ++ name_of cause ++ codes "\n"
 
 -- the line of what was done
 abbrev pub done_text : Unit {0} → List ℕ

@@ -13,8 +13,8 @@ ghost use Rattle.cmd_tourney.specs.TourneyEnds.{TourneyEnds};
 
 use crate::line::TourneyLine;
 use crate::reading::read_line;
-use crate::texts::{LINE_END, put_done, put_pairs, put_refusal, put_rounds, put_rows};
-use cmd_lines::{End, LineAnswerer, answer_each};
+use crate::texts::{LINE_END, put_done, put_pairs, put_rounds, put_rows};
+use cmd_lines::{End, LineAnswerer, answer_each, put_refusal};
 use edge_traits::{Sink, Source};
 use fics_words::{Fail, Handle};
 use memory::NoMemory;

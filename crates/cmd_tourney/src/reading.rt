@@ -1,11 +1,11 @@
 //! The reading of a line.
 
-ghost use Rattle.std.specs.Prelude.{◌≡◌, ◌<◌, IfSome, length};
-ghost use Rattle.std.specs.List.{after_first, before_first, position};
+ghost use Rattle.std.specs.Prelude.{◌≡◌};
 ghost use Rattle.fics_words.specs.HandleTest.{handle_of};
-ghost use Rattle.cmd_tourney.specs.Lines.{is_blank, reading, result_of, round_of, score_of, worded};
+ghost use Rattle.cmd_tourney.specs.Lines.{reading, result_of, round_of, score_of, worded};
 
 use crate::line::TourneyLine;
+use cmd_lines::cut;
 use fics_words::{Handle, read_number};
 use tourney_desk::Score;
 
@@ -52,25 +52,6 @@ fn read_result(rest: &[u8]) -> Option<TourneyLine>
     let black = read_handle(black)?;
     let score = read_score(score)?;
     Some(TourneyLine::Report(white, black, score))
-}
-
-/// The bytes before the first blank, and those behind it; all and none where there is no blank.
-fn cut(bytes: &[u8]) -> (&[u8], &[u8])
-    ensures word { result.0.now ≡ before_first is_blank bytes.now }
-    ensures rest { result.1.now ≡ after_first is_blank bytes.now }
-{
-    match first_blank(bytes) {
-        Some(place) => (&bytes[..place], &bytes[place + 1..]),
-        None => (bytes, &[]),
-    }
-}
-
-/// The place of the first blank.
-fn first_blank(bytes: &[u8]) -> Option<usize>
-    ensures place { result ≡ position is_blank bytes.now }
-    ensures within { IfSome result (λ place. place < length bytes.now) }
-{
-    bytes.iter().position(|byte| *byte == b' ')
 }
 
 /// The handle that the bytes spell.

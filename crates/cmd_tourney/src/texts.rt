@@ -3,26 +3,14 @@
 ghost use Rattle.std.specs.Prelude.{◌≡◌, ◌++◌, ◌<◌, ◌+◌, All, OnOk, codes, decimal, length};
 ghost use Rattle.std.specs.List.{flat_map};
 ghost use Rattle.tourney_desk.specs.Pairing.{IsOfPlayers};
-ghost use Rattle.cmd_tourney.specs.Texts.{name_at, pair_text, refusal_text, rounds_text, row_text, rows_text};
+ghost use Rattle.cmd_tourney.specs.Texts.{name_at, pair_text, rounds_text, row_text, rows_text};
 
-use fics_words::{Refusal, write_number};
+use fics_words::write_number;
 use memory::NoMemory;
 use tourney_desk::{ScoreRow, Tourney};
 
 /// The end of each line.
 pub(crate) const LINE_END: &[u8] = b"\n";
-
-/// Appends the line of a refusal: its number and its name.
-pub(crate) fn put_refusal(cause: Refusal, out: &mut Vec<u8>) -> Result<(), NoMemory>
-    ensures { OnOk result (out.new.items ≡ out.old.items ++ refusal_text cause) }
-{
-    out.extend_from_slice(b"refused ")?;
-    write_number(out, u64::from(cause.number()))?;
-    out.extend_from_slice(b" ")?;
-    out.extend_from_slice(cause.name().as_bytes())?;
-    out.extend_from_slice(LINE_END)?;
-    Ok(())
-}
 
 /// Appends the line that tells what was done.
 pub(crate) fn put_done(out: &mut Vec<u8>) -> Result<(), NoMemory>

@@ -1,5 +1,5 @@
 -- The boards of a game behind a half-move.
-use Rattle.std.proofs.Common.{◌≡◌, ◌≢◌, ℕ, ◌-◌, Bool, true, false, if◌then◌else◌, List, Option, Some, None, Result, Ok, refl, ap, ◌∙◌, arith}
+use Rattle.std.proofs.Common.{◌≡◌, ◌≢◌, ℕ, Bool, true, false, if◌then◌else◌, List, Option, Some, None, Result, Ok, refl, ap, ◌∙◌, arith}
 use Rattle.std.specs.Prelude.{◌&&◌, IfSome, slice_get}
 use Rattle.std.specs.Option.{option_map, option_zip}
 use Rattle.std.proofs.lemmas.Option.{slice_get_within}
@@ -13,7 +13,9 @@ use Rattle.game_board.specs.Play.{next_charge, play_after, with_half_move}
 use Rattle.histories.proofs.Parts.{get_set_else, get_set_same}
 use Rattle.style12_writer.specs.declared.item.Item.{Item}
 use Rattle.style12_writer.specs.declared.view.BoardView.{BoardView}
-use Rattle.desk_boards.specs.Boards.{boards_after, changed_at, other_place, reply_at, set_board, told_answer}
+use Rattle.desk_boards.specs.Boards.{boards_after, changed_at, reply_at, set_board, told_answer, other_number, place}
+use Rattle.desk_boards.specs.declared.board_number.BoardNumber.{BoardNumber}
+use Rattle.desk_boards.specs.declared.board_number.BoardNumber.TheVariants.{First, Second}
 use Rattle.linked_desk.specs.declared.ended.Ended.{Ended}
 use Rattle.linked_desk.specs.Desk.{GameState, moment_at}
 use Rattle.linked_desk.specs.Finish.{end_at, with_end}
@@ -35,17 +37,17 @@ same_with_end : (desk : ℕ) (g : GameState) (moment : ℕ) (end : Option Ended)
 same_with_end desk g moment None = refl
 same_with_end desk g moment (Some e) = refl
 
-pub boards_moved : (desk : ℕ) (g : GameState) (moment place : ℕ) (stamp : Option ℕ) (answer : Result Move Refusal) → (moved desk g moment place stamp answer).boards ≡ boards_after g.boards place (moment_at g moment) stamp answer
-boards_moved desk g moment place stamp answer =
-    let after : GameState = record g { boards = boards_after g.boards place (moment_at g moment) stamp answer; last = moment_at g moment } in
-    let shown : GameState = shown_moved desk g moment place stamp answer in
-    let held : GameState = held_moved desk g moment place stamp answer in
-    let man : Option Man = captured_by (reply_at (slice_get g.boards place) answer) in
-    let own : GameState = with_hands desk place man shown in
-    same_with_end desk held moment (end_at held place)
-    ∙ same_with_item own (partner_hands_at desk own place man)
-    ∙ same_with_item shown (hands_at desk shown place man)
-    ∙ same_with_view after (slice_get (views_of desk after) place)
+pub boards_moved : (desk : ℕ) (g : GameState) (moment : ℕ) (board : BoardNumber) (stamp : Option ℕ) (answer : Result Move Refusal) → (moved desk g moment board stamp answer).boards ≡ boards_after g.boards board (moment_at g moment) stamp answer
+boards_moved desk g moment board stamp answer =
+    let after : GameState = record g { boards = boards_after g.boards board (moment_at g moment) stamp answer; last = moment_at g moment } in
+    let shown : GameState = shown_moved desk g moment board stamp answer in
+    let held : GameState = held_moved desk g moment board stamp answer in
+    let man : Option Man = captured_by (reply_at (slice_get g.boards (place board)) answer) in
+    let own : GameState = with_hands desk board man shown in
+    same_with_end desk held moment (end_at held board)
+    ∙ same_with_item own (partner_hands_at desk own board man)
+    ∙ same_with_item shown (hands_at desk shown board man)
+    ∙ same_with_view after (slice_get (views_of desk after) (place board))
 
 -- ---- one board is changed
 
@@ -60,14 +62,15 @@ set_else boards k j (Some b) other = get_set_else boards k j b other
 changed_else : (boards : List Board) (k j : ℕ) (change : Board → Board) → j ≢ k → slice_get (changed_at boards k change) j ≡ slice_get boards j
 changed_else boards k j change other = set_else boards k j (option_map change (slice_get boards k)) other
 
-other_differs : (place : ℕ) → place ≢ other_place place
-other_differs place e = omega (arith, e)
+other_differs : (board : BoardNumber) → place board ≢ place (other_number board)
+other_differs First e = omega (arith, e)
+other_differs Second e = omega (arith, e)
 
 -- the board has the half-move
-pub board_after : (boards : List Board) (place moment : ℕ) (stamp : Option ℕ) (b : Board) (m : Move) → slice_get boards place ≡ Some b → slice_get (boards_after boards place moment stamp (Ok m)) place ≡ Some (with_half_move b m moment stamp)
-board_after boards place moment stamp b m e =
-    changed_else (changed_at boards place (λ x. play_after x moment stamp (Ok m))) (other_place place) place (λ x. told_answer x (Ok m)) (other_differs place)
-    ∙ changed_here boards place (λ x. play_after x moment stamp (Ok m)) b e
+pub board_after : (boards : List Board) (board : BoardNumber) (moment : ℕ) (stamp : Option ℕ) (b : Board) (m : Move) → slice_get boards (place board) ≡ Some b → slice_get (boards_after boards board moment stamp (Ok m)) (place board) ≡ Some (with_half_move b m moment stamp)
+board_after boards board moment stamp b m e =
+    changed_else (changed_at boards (place board) (λ x. play_after x moment stamp (Ok m))) (place (other_number board)) (place board) (λ x. told_answer x (Ok m)) (other_differs board)
+    ∙ changed_here boards (place board) (λ x. play_after x moment stamp (Ok m)) b e
 
 -- what it is charged
 abbrev IsCharged : Board → ℕ → Option Charge → Type 0

@@ -1,13 +1,10 @@
 -- A refused act changes nothing.
-use Rattle.std.proofs.Common.{◌≡◌, ℕ, Option, None, Some, Result, Ok, Err, refl, sym, subst}
+use Rattle.std.proofs.Common.{◌≡◌, Option, None, Some, Result, Err, refl, sym, subst}
 use Rattle.fics_words.specs.Effect.{answered, first_cause, unless}
 use Rattle.fics_words.specs.declared.refusal.Refusal.{Refusal}
 use Rattle.linked_desk.specs.Acts.{desk_effect}
-use Rattle.linked_desk.specs.Desk.{DeskState}
 use Rattle.lobby_state.specs.declared.acts.Plan.{Plan}
 use Rattle.lobby_state.specs.Acts.{lobby_effect}
-use Rattle.lobby_state.specs.Lobby.{LobbyState}
-use Rattle.one_server.specs.declared.part.Part.{Part}
 use Rattle.one_server.specs.House.{pair_desk, pair_lobby}
 use Rattle.desk_laws.specs.Refusals.{KeepsBoth, KeepsTheDesk, KeepsTheLobby}
 

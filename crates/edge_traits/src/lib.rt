@@ -19,4 +19,4 @@ pub use gate::{Gate, OpenGate};
 pub use keeper::{Keeper, KeeperFail, Kept, Pair};
 pub use link::{Heard, Link};
 pub use sink::{Sent, Sink};
-pub use source::{Got, Source};
+pub use source::{Got, MOST_READS, Source};

@@ -1,5 +1,8 @@
 //! Where bytes come from.
 
+/// The most reads of one run: 2^40.
+pub const MOST_READS: u64 = 1_099_511_627_776;
+
 /// What a read gave.
 #[derive(Clone, Copy, Debug, PartialEq, Eq)]
 pub enum Got {

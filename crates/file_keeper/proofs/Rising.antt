@@ -1,34 +1,15 @@
 -- Pairs whose keys rise from each to the next one.
-use Rattle.std.proofs.Common.{◌≡◌, ℕ, suc, ◌+◌, ◌-◌, ◌<◌, ◌≤◌, Bool, true, false, List, [], ◌∷◌, length, drop, get_or, refl, sym, ap, subst, ◌∙◌, arith}
+use Rattle.std.proofs.Common.{◌≡◌, ℕ, suc, ◌+◌, ◌-◌, ◌<◌, ◌≤◌, List, [], ◌∷◌, length, drop, get_or, refl, sym, ap, subst, ◌∙◌, arith}
 use Rattle.std.specs.Ordering.{is_lt}
-use Rattle.std.specs.declared.cmp.Ordering.{Ordering}
-use Rattle.std.specs.declared.cmp.Ordering.TheVariants.{Less, Equal, Greater}
-use Rattle.std.specs.Cmp.Lexicographic.{nat_list_cmp_total}
-use Rattle.std.specs.FinMap.Entries.{below_all}
+use Rattle.std.specs.declared.cmp.Ordering.TheVariants.{Less}
 use Rattle.std.proofs.Math.Seq.{drop-cons}
 use Rattle.std.proofs.lemmas.List.{length-drop}
 use Rattle.edge_traits.specs.Pairs.{Pairs, IsAscending, keys_order}
 use Rattle.std.proofs.lemmas.Bool.{and_from}
-use Rattle.std.specs.Cmp.{first_so, second_so}
-
--- the key stands below all of these
-IsBelow : List ℕ → Pairs → Type 0
-IsBelow key pairs = below_all keys_order key pairs ≡ true
-
-is_less : (o : Ordering) → is_lt o ≡ true → o ≡ Less
-is_less Less p = refl
-is_less Equal p = absurd (let bad : false ≡ true = p in cc)
-is_less Greater p = absurd (let bad : false ≡ true = p in cc)
-
-IsBelow-less : (key other : List ℕ) (pairs : Pairs) → keys_order key other ≡ Less → IsBelow other pairs → IsBelow key pairs
-unfolding IsBelow
-IsBelow-less key other [] p h = refl
-IsBelow-less key other (e ∷ es) p h =
-    let less = nat_list_cmp_total.trans key other e.0 p (is_less _ (first_so _ _ h)) in
-    and_from _ _ (ap is_lt less) (IsBelow-less key other es p (second_so _ _ h))
+use Rattle.std.specs.Cmp.{first_so}
+use Rattle.edge_traits.proofs.Rising.{IsBelow-less}
 
 IsAscending-cons : (x y : List ℕ × List ℕ) (es : Pairs) → keys_order x.0 y.0 ≡ Less → IsAscending (y ∷ es) → IsAscending (x ∷ y ∷ es)
-unfolding IsBelow
 IsAscending-cons x y es less h =
     and_from _ _ (and_from _ _ (ap is_lt less) (IsBelow-less x.0 y.0 es less (first_so _ _ h))) h
 

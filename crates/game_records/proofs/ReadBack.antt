@@ -131,6 +131,14 @@ read_back r bytes s = ap record_in s.text ∙ own r s.typed s.bounds
 pub one_spelled : (one other : Record) (bytes : List ℕ) → IsSpelled one bytes → IsSpelled other bytes → one ≡ other
 one_spelled one other bytes s t = sym (read_back one bytes s) ∙ read_back other bytes t
 
+game_or : Record → StoredGame → StoredGame
+game_or (a.Account account) game = game
+game_or (a.Game game) other = game
+
+pub same_game : (one other : StoredGame) → a.Game one ≡ a.Game other → one ≡ other
+unfolding game_or
+same_game one other e = ap (λ (r : Record). game_or r one) e
+
 -- where what stands at each place isn't a value of the types, the bytes are no record's
 pub untyped : (bytes : List ℕ) → (IsTyped (record_in bytes) → ⊥) → (r : Record) → IsSpelled r bytes → ⊥
 untyped bytes bad r s = bad (subst IsTyped (sym (read_back r bytes s)) s.typed)

@@ -8,10 +8,7 @@ use crate::charges::is_charge;
 use crate::codes::has_code;
 use crate::packed::PackedHalf;
 use crate::stored_game::{Half, StoredGame};
-use chess_model::{MOST_HALVES, MOST_TIME, Terms, Variant};
-
-/// How many arrays Fischer random has.
-const ARRAYS: u16 = 960;
+use chess_model::{ARRAYS, MOST_HALVES, MOST_TIME, Terms, Variant};
 
 /// How many players a game of the variant has.
 pub(crate) fn seats(variant: Variant) -> usize

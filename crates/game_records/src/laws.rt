@@ -16,6 +16,7 @@ pub fn one_record()
 {}
 
 /// The half-moves of a game that replays are played one after another: each may come after those before it.
+#[tactic(auto, using(crate::proofs::Played::by_steps))]
 pub fn played_by_steps()
     ensures { ArePlayedBySteps }
 {}

@@ -5,7 +5,7 @@ use Rattle.std.specs.List.{onto_first}
 use Rattle.std.proofs.lemmas.Bool.Decides.{nat_tests}
 use Rattle.line_reader.specs.declared.incoming.Incoming.{Incoming}
 use Rattle.line_reader.specs.declared.incoming.Incoming.TheVariants.{TooLong}
-use Rattle.line_reader.specs.Pieces.{pieces, IsUnbroken}
+use Rattle.fics_words.specs.Pieces.{pieces, IsUnbroken}
 use Rattle.line_reader.specs.Reading.{is_stamped, stamped_reading, plain_reading, reading, rest_reading}
 pub use Rattle.fics_words.proofs.Pieces.{Begins, Begins-pieces}
 

@@ -11,14 +11,14 @@ use Rattle.std.proofs.lemmas.Bool.Decides.{nat_tests}
 use Rattle.line_reader.specs.declared.telnet.Telnet.{Telnet}
 use Rattle.line_reader.specs.declared.telnet.Telnet.TheVariants.{Data, Command, Choice, Block, BlockCommand}
 use Rattle.line_reader.specs.declared.incoming.Incoming.{Incoming}
-use Rattle.line_reader.specs.Pieces.{is_kept, pieces, but_last, last_of, IsUnbroken}
+use Rattle.fics_words.specs.Pieces.{is_kept, pieces, but_last, last_of, IsUnbroken}
 use Rattle.line_reader.specs.Telnet.{after, is_data, data_from}
 use Rattle.line_reader.specs.Cutting.{Cutting, ends_line, grown, passed}
 use Rattle.line_reader.specs.Reading.{reading, rest_reading}
 use Rattle.line_reader.specs.Reader.{Reader, reading_on, kept_from, lines_of, rest_of, GiveSame, Gives, IsKept}
 use Rattle.line_reader.proofs.LongLines.{pieces_front, too_long, rest_too_long}
 use Rattle.line_reader.proofs.OpenLines.{take_short, full_stays}
-use Rattle.fics_words.proofs.Pieces.{Begins, Begins-pieces}
+use Rattle.fics_words.proofs.Pieces.{Begins-pieces, but_last-cons, last_of-cons}
 
 -- two texts with the same lines and the same rest
 abbrev SameText : List ℕ → List ℕ → Type 0
@@ -89,14 +89,6 @@ feed_data Command b bytes e = absurd (let parts = and_parts (b == 255) (b == 10)
 feed_data Choice b bytes e = absurd (let bad : false ≡ true = e in cc)
 feed_data Block b bytes e = absurd (let bad : false ≡ true = e in cc)
 feed_data BlockCommand b bytes e = absurd (let bad : false ≡ true = e in cc)
-
-but_last-cons : (x : List ℕ) (parts : List (List ℕ)) → Begins parts → but_last (x ∷ parts) ≡ x ∷ but_last parts
-but_last-cons x [] h = absurd (let bad = h.is in cc)
-but_last-cons x (y ∷ ys) h = refl
-
-last_of-cons : (x : List ℕ) (parts : List (List ℕ)) → Begins parts → last_of (x ∷ parts) ≡ last_of parts
-last_of-cons x [] h = absurd (let bad = h.is in cc)
-last_of-cons x (y ∷ ys) h = refl
 
 -- an LF gives the line
 pub end_gives : (telnet : Telnet) (line : List ℕ) (b : ℕ) (fed : List ℕ) → IsKept line → ends_line telnet b ≡ true

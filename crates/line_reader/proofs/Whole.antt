@@ -5,14 +5,14 @@ use Rattle.std.specs.List.{AllByRecursion, onto_first, join_with_byte}
 use Rattle.std.proofs.lemmas.List.Splits.{join_with_byte-slice_split}
 use Rattle.line_reader.specs.declared.incoming.Incoming.{Incoming}
 use Rattle.line_reader.specs.declared.telnet.Telnet.TheVariants.{Data}
-use Rattle.line_reader.specs.Pieces.{is_kept, pieces, but_last, last_of, IsUnbroken}
+use Rattle.fics_words.specs.Pieces.{is_kept, pieces, but_last, last_of, IsUnbroken}
 use Rattle.line_reader.specs.Telnet.{data_from}
 use Rattle.line_reader.specs.Reading.{reading, rest_reading}
 use Rattle.line_reader.specs.Reader.{fresh, lines_of, rest_of}
 use Rattle.line_reader.specs.Grammar.{AreLines}
 use Rattle.line_reader.proofs.LongLines.{pieces_front}
 use Rattle.line_reader.proofs.Units.{units_data, units_of}
-use Rattle.fics_words.proofs.Pieces.{Begins, Begins-pieces}
+use Rattle.fics_words.proofs.Pieces.{Begins, Begins-pieces, but_last-last_of}
 
 -- parts without line feeds are the pieces of their join
 parts_only : (whole : List (List ℕ)) (left : List ℕ) → AllByRecursion IsUnbroken (whole ++ left ∷ []) → pieces (join_with_byte 10 (whole ++ left ∷ [])) ≡ whole ++ left ∷ []
@@ -45,12 +45,6 @@ only_lines text lines rest h =
       h.rest_is ∙ ap rest_reading (sym (last_of-end h.whole h.left)) ∙ sym (ap (λ (l : List (List ℕ)). rest_reading (last_of l)) same),
     )
 
--- all but the last, and the last
-split_last : (parts : List (List ℕ)) → Begins parts → but_last parts ++ last_of parts ∷ [] ≡ parts
-split_last [] h = absurd (let bad = h.is in cc)
-split_last (x ∷ []) h = refl
-split_last (x ∷ y ∷ ys) h = ap (λ (l : List (List ℕ)). x ∷ l) (split_last (y ∷ ys) (record { first = y; others = ys; is = refl }))
-
 onto_unbroken : (b : ℕ) (parts : List (List ℕ)) → (b == 10) ≡ false → Begins parts → AllByRecursion IsUnbroken parts → AllByRecursion IsUnbroken (onto_first b parts)
 onto_unbroken b [] e h all = absurd (let bad = h.is in cc)
 onto_unbroken b (x ∷ xs) e h all = ((e, all.0), all.1)
@@ -67,7 +61,7 @@ pub are_lines : (text : List ℕ) → AreLines text (lines_of fresh text) (rest_
 are_lines text =
     let found = units_of text in
     let kept = filter is_kept (data_from Data text) in
-    let parts = split_last (pieces kept) (Begins-pieces kept) in
+    let parts = but_last-last_of (pieces kept) (Begins-pieces kept) in
     record {
       units = found.units;
       begun = found.begun;

@@ -1,7 +1,7 @@
 -- A line that has begun, and what one byte more makes of it.
 use Rattle.std.specs.Prelude.{ℕ, Bool, ◌&&◌, ◌==◌, if◌then◌else◌, List, [], ◌∷◌, ◌++◌, take}
 use Rattle.line_reader.specs.declared.telnet.Telnet.{Telnet}
-use Rattle.line_reader.specs.Pieces.{is_kept}
+use Rattle.fics_words.specs.Pieces.{is_kept}
 use Rattle.line_reader.specs.Telnet.{after, is_data}
 
 -- where the next byte stands, and what has come of the line

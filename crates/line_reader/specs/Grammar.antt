@@ -2,7 +2,7 @@
 use Rattle.std.specs.Prelude.{◌≡◌, ℕ, true, false, ◌==◌, if◌then◌else◌, List, [], ◌∷◌, ◌++◌, filter, map, Option}
 use Rattle.std.specs.List.{AllByRecursion, join_with_byte}
 use Rattle.line_reader.specs.declared.incoming.Incoming.{Incoming}
-use Rattle.line_reader.specs.Pieces.{is_kept, IsUnbroken}
+use Rattle.fics_words.specs.Pieces.{is_kept, IsUnbroken}
 use Rattle.line_reader.specs.Telnet.{is_choice}
 use Rattle.line_reader.specs.Reading.{reading, rest_reading}
 

@@ -1,5 +1,4 @@
 -- What the contracts of this crate cite.
-pub mod Pieces
 pub mod Telnet
 pub mod Cutting
 pub mod Reading

@@ -3,7 +3,7 @@ use Rattle.std.specs.Prelude.{◌≡◌, ℕ, ◌≤◌, List, [], ◌∷◌, �
 use Rattle.line_reader.specs.declared.telnet.Telnet.{Telnet}
 use Rattle.line_reader.specs.declared.telnet.Telnet.TheVariants.{Data}
 use Rattle.line_reader.specs.declared.incoming.Incoming.{Incoming}
-use Rattle.line_reader.specs.Pieces.{is_kept, pieces, but_last, last_of, IsUnbroken}
+use Rattle.fics_words.specs.Pieces.{is_kept, pieces, but_last, last_of, IsUnbroken}
 use Rattle.line_reader.specs.Cutting.{Cutting}
 use Rattle.line_reader.specs.Telnet.{data_from}
 use Rattle.line_reader.specs.Reading.{reading, rest_reading}

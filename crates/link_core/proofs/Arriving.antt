@@ -3,13 +3,13 @@ use Rattle.std.proofs.Common.{◌≡◌, ℕ, Bool, true, false, cond, List, [],
 use Rattle.std.specs.Prelude.{◌==◌}
 use Rattle.std.specs.List.{onto_first}
 use Rattle.std.proofs.Math.Seq.{drop-append_seam, drop-length}
-use Rattle.std.proofs.lemmas.List.{map-append}
+use Rattle.std.proofs.lemmas.List.{map-append, append_cancel_left}
 use Rattle.std.proofs.lemmas.List.Elements.{filter-append}
 use Rattle.edge_traits.specs.Link.{Sign, Byte, Pause}
 use Rattle.histories.specs.History.{IsPrefix}
 use Rattle.line_reader.specs.declared.incoming.Incoming.{Incoming}
 use Rattle.line_reader.specs.declared.telnet.Telnet.{Telnet}
-use Rattle.line_reader.specs.Pieces.{but_last, is_kept, last_of, pieces}
+use Rattle.fics_words.specs.Pieces.{but_last, is_kept, last_of, pieces}
 use Rattle.line_reader.specs.Reader.{Reader, fresh, kept_from, lines_of, rest_of}
 use Rattle.line_reader.specs.Reading.{reading, rest_reading}
 use Rattle.line_reader.specs.Telnet.{after, data_from, is_data}
@@ -64,12 +64,9 @@ behind_is a b =
 behind_none : (a : List ℕ) → lines_behind a [] ≡ []
 behind_none a = ap (λ (l : List ℕ). drop (length (lines_in a)) (lines_in l)) (append-nil a) ∙ drop-length (lines_in a)
 
-cancel : {T : Type 0} (xs ys zs : List T) → xs ++ ys ≡ xs ++ zs → ys ≡ zs
-cancel xs ys zs is = sym (drop-append_seam xs ys) ∙ ap (drop (length xs)) is ∙ drop-append_seam xs zs
-
 behind_byte : (a : List ℕ) (c : ℕ) (b : List ℕ) → lines_behind a (c ∷ b) ≡ lines_behind a (c ∷ []) ++ lines_behind (a ++ c ∷ []) b
 behind_byte a c b =
-    cancel (lines_in a) (lines_behind a (c ∷ b)) (lines_behind a (c ∷ []) ++ lines_behind (a ++ c ∷ []) b)
+    append_cancel_left (lines_in a) (lines_behind a (c ∷ b)) (lines_behind a (c ∷ []) ++ lines_behind (a ++ c ∷ []) b)
     (sym (behind_is a (c ∷ b))
     ∙ ap lines_in (sym (append_assoc a (c ∷ []) b))
     ∙ behind_is (a ++ c ∷ []) b
@@ -142,7 +139,7 @@ pub behind_reader : (front bytes : List ℕ) (given : List Incoming) (reader : R
     → lines_behind front bytes ≡ lines_of (record reader { fed = reader.fed ++ bytes }) []
 behind_reader front bytes given reader along drained =
     let before : lines_in front ≡ given = ap lines_in (sym (append-nil front)) ∙ along [] ∙ ap (λ (l : List Incoming). given ++ l) drained ∙ append-nil given in
-    cancel given (lines_behind front bytes) (lines_of (record reader { fed = reader.fed ++ bytes }) [])
+    append_cancel_left given (lines_behind front bytes) (lines_of (record reader { fed = reader.fed ++ bytes }) [])
     (ap (λ (l : List Incoming). l ++ lines_behind front bytes) (sym before)
     ∙ sym (behind_is front bytes)
     ∙ along bytes

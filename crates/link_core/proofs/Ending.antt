@@ -14,7 +14,8 @@ use Rattle.session_core.specs.Course.{Course, Done, Asks, Writes as Puts, Follow
 use Rattle.session_core.specs.Going.{Left, LeftInPart, departing}
 use Rattle.session_core.specs.Memory.{MemoryState, has_entered, is_gone, is_in, is_out}
 use Rattle.session_core.specs.Session.{leaving_course}
-use Rattle.session_core.proofs.Going.{made_then, same_mark, same_number}
+use Rattle.session_core.proofs.Going.{same_mark, same_number}
+use Rattle.one_server.proofs.Made.{made_then}
 use Rattle.link_core.specs.declared.link_end.LinkEnd.{LinkEnd}
 use Rattle.link_core.specs.declared.link_end.LinkEnd.TheVariants as end
 use Rattle.link_core.specs.Arrivals.{inputs_of}

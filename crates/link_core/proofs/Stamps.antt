@@ -9,7 +9,7 @@ use Rattle.std.proofs.lemmas.Bool.Decides.{nat_tests}
 use Rattle.clock_ledger.specs.Span.{IsStamp, stamp_cycle}
 use Rattle.line_reader.specs.declared.incoming.Incoming.{Incoming}
 use Rattle.line_reader.specs.declared.incoming.Incoming.TheVariants.{Plain, TooLong, BadByte}
-use Rattle.line_reader.specs.Pieces.{but_last, last_of}
+use Rattle.fics_words.specs.Pieces.{but_last, last_of}
 use Rattle.line_reader.specs.Reader.{Gives, Reader, lines_of, parts_of, rest_of}
 use Rattle.line_reader.specs.Reading.{is_stamped, plain_reading, reading, rest_reading, said, stamped_reading}
 use Rattle.session_core.specs.Inputs.{HasStamp}

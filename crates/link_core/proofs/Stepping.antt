@@ -19,7 +19,8 @@ use Rattle.session_core.specs.Inputs.{input_course}
 use Rattle.session_core.specs.Memory.{MemoryState, newcomer}
 use Rattle.session_core.specs.Session.{leaving_course}
 use Rattle.session_core.specs.Texts.{opening_text}
-use Rattle.session_core.proofs.Going.{made_none, made_then, same_mark, same_number}
+use Rattle.session_core.proofs.Going.{same_mark, same_number}
+use Rattle.one_server.proofs.Made.{made_none, made_then}
 use Rattle.link_core.specs.declared.link_end.LinkEnd.{LinkEnd}
 use Rattle.link_core.specs.declared.link_end.LinkEnd.TheVariants as end
 use Rattle.link_core.specs.Arrivals.{bytes_of, inputs_of, lines_behind}

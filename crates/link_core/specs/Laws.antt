@@ -1,8 +1,9 @@
 -- What follows for every link that was served, however that ended.
-use Rattle.std.specs.Prelude.{◌≡◌, ◌≢◌, ◌⊎◌, ℕ, ◌^◌, ◌<◌, Bool, true, List, [], ◌∷◌, ◌++◌, length, Some}
+use Rattle.std.specs.Prelude.{◌≡◌, ◌≢◌, ◌⊎◌, ℕ, ◌<◌, Bool, true, List, [], ◌∷◌, ◌++◌, length, Some}
 use Rattle.edge_traits.specs.Faults.{Rose}
 use Rattle.edge_traits.specs.Link.{Handed, Tale}
 use Rattle.histories.specs.History.{IsPrefix}
+use Rattle.edge_traits.specs.Source.{most_reads}
 use Rattle.one_server.specs.Running.{Log}
 use Rattle.session_core.specs.declared.input.Input.{Input}
 use Rattle.session_core.specs.Memory.{MemoryState, is_gone, newcomer}
@@ -67,4 +68,4 @@ abbrev pub AnswersEachLine : Type 0
 AnswersEachLine =
     (shows : ℕ → Bool) (mark : Bool) (session : ℕ) (end : LinkEnd) (entries : Log) (old new : Tale)
     (before now : ℕ) → WasServed shows mark session end entries (handed_over old before) (handed_over new now)
-    → end ≢ Memory → ¬ Rose before now → length old.left < 2 ^ 40 → AnswersAll shows session entries old new
+    → end ≢ Memory → ¬ Rose before now → length old.left < most_reads → AnswersAll shows session entries old new

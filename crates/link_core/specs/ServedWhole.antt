@@ -1,11 +1,12 @@
 -- What it is to serve a link whole by the entries of a session. Of its facts those that a link which was served in part
 -- shares are stated for every way to end. This server's own.
-use Rattle.std.specs.Prelude.{◌≡◌, ◌⊎◌, ℕ, ◌^◌, ◌≤◌, ⊤, Bool, true, false, ◌||◌, List, [], ◌∷◌, ◌++◌, length}
+use Rattle.std.specs.Prelude.{◌≡◌, ◌⊎◌, ℕ, ◌≤◌, ⊤, Bool, true, false, ◌||◌, List, [], ◌∷◌, ◌++◌, length}
 use Rattle.std.specs.declared.option.Option.{Option}
 use Rattle.edge_traits.specs.Faults.{Rose}
 use Rattle.edge_traits.specs.Link.{Extent, Handed, Sign, Tale}
 use Rattle.edge_traits.specs.WhereTold.{WhereTold}
 use Rattle.histories.specs.History.{IsPrefix}
+use Rattle.edge_traits.specs.Source.{most_reads}
 use Rattle.one_server.specs.Running.{Log}
 use Rattle.session_core.specs.declared.input.Input.{Input}
 use Rattle.session_core.specs.Course.{Follows}
@@ -145,7 +146,7 @@ HasEnded Quit talk before now = is_gone talk.memory ≡ true
 HasEnded End talk before now = talk.is_ended ≡ true
 HasEnded ReadFault talk before now = Rose before now
 HasEnded WriteFault talk before now = Rose before now
-HasEnded Spent talk before now = 2 ^ 40 ≤ length talk.taken
+HasEnded Spent talk before now = most_reads ≤ length talk.taken
 HasEnded Memory talk before now = ⊤
 
 -- these entries of a session served a link whole

@@ -1,9 +1,10 @@
 -- How far a link was served: on the way, and where the reading has ended.
-use Rattle.std.specs.Prelude.{◌≡◌, ◌⊎◌, ℕ, ◌^◌, ◌≤◌, Bool, true, false, ◌||◌, List, [], ◌∷◌, ◌++◌, length, map, Result, Ok, Err}
+use Rattle.std.specs.Prelude.{◌≡◌, ◌⊎◌, ℕ, ◌≤◌, Bool, true, false, ◌||◌, List, [], ◌∷◌, ◌++◌, length, map, Result, Ok, Err}
 use Rattle.std.specs.declared.option.Option.{Option}
 use Rattle.edge_traits.specs.Link.{Sign, Tale}
 use Rattle.edge_traits.specs.WhereTold.{WhereTold}
 use Rattle.histories.specs.History.{IsPrefix}
+use Rattle.edge_traits.specs.Source.{most_reads}
 use Rattle.line_reader.specs.declared.incoming.Incoming.{Incoming}
 use Rattle.line_reader.specs.Reader.{Reader, fresh, lines_of, rest_of}
 use Rattle.one_server.specs.Running.{Log, Made, RunnerState}
@@ -134,7 +135,7 @@ Behind _ shows mark session inputs come memory after begun = (begun ≡ []) × (
 abbrev pub EndsReading : LinkEnd → List Sign → Bool → MemoryState → Type 0
 EndsReading Quit taken is_ended memory = is_gone memory ≡ true
 EndsReading End taken is_ended memory = is_ended ≡ true
-EndsReading Spent taken is_ended memory = 2 ^ 40 ≤ length taken
+EndsReading Spent taken is_ended memory = most_reads ≤ length taken
 EndsReading _ taken is_ended memory = Unit {0}
 
 -- the reading has ended; the session has still to leave, and the link to be closed

@@ -10,15 +10,12 @@ ghost use Rattle.session_core.specs.declared.input.Input.TheVariants.{Line};
 
 use crate::answer::{answer, write};
 use crate::link_end::LinkEnd;
-use edge_traits::{Clock, Heard, Link};
+use edge_traits::{Clock, Heard, Link, MOST_READS};
 use line_reader::LineReader;
 use memory::NoMemory;
 use one_server::Runner;
 use session_core::{Input, Session};
 use std::alloc::Global;
-
-/// The most reads of a link: 2^40.
-const MOST_READS: u64 = 1_099_511_627_776;
 
 /// The most bytes that are read at once.
 const PIECE: usize = 1_024;

@@ -5,6 +5,7 @@ use crate::offer::Offer;
 use crate::offers::Offers;
 
 /// An offer that a seat makes stands for it, and takes effect exactly when the last seat agrees.
+#[tactic(auto, using(crate::proofs::Meaning::with_the_last))]
 pub fn offers_need_all(offers: &Offers, seat: u8, offer: Offer)
     ensures stands { Stands offers.now.standing seat offer }
     ensures last { TakesEffectWithTheLast offers.now seat offer }
@@ -16,6 +17,7 @@ pub fn cleared_offers_are_gone(offers: &Offers, offer: Offer)
 {}
 
 /// After a half-move no takeback stands and the opponent has no offer; every other offer stands as before.
+#[tactic(auto, using(crate::proofs::Meaning::clears_for_the_move))]
 pub fn half_moves_clear(offers: &Offers, seat: u8)
     ensures { ClearsForTheMove offers.now.standing seat }
 {}
@@ -28,6 +30,7 @@ pub fn takebacks_agree(offers: &Offers)
 }
 
 /// There is an earliest offer that a seat may accept exactly where `accept` doesn't refuse.
+#[tactic(auto, using(crate::proofs::Meaning::accepts_the_earliest))]
 pub fn the_earliest_is_accepted(offers: &Offers, seat: u8)
     ensures { AcceptsTheEarliest offers.now seat }
 {}

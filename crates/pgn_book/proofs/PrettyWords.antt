@@ -46,9 +46,6 @@ join xs ys m n h g = record {
   most = let both : length (xs ++ ys) ≡ length xs + length ys = length-append xs ys in let a = h.most in let b = g.most in omega arith;
 }
 
-none : IsPlain [] 0
-none = record { bytes = refl; most = omega arith }
-
 one : (b : ℕ) → is_plain b ≡ true → IsPlain (b ∷ []) 1
 one b h = record { bytes = ap (λ (t : Bool). t && true) h; most = omega arith }
 

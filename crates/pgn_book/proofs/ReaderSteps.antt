@@ -116,12 +116,6 @@ pub record HasPassed (old new : Reader) : Type 0 where
   pub goes_on : GoesOn old None new
   pub fewer : most_left new ≤ most_left old
 
-pub none_passed : (now : Reader) → HasPassed now now
-none_passed now = record {
-  goes_on = record { games = λ more. refl; read = λ more. refl; line = λ more. refl };
-  fewer = omega arith;
-}
-
 byte_at : (bytes : List ℕ) (i : ℕ) → i < length bytes → drop i bytes ≡ get_or bytes i 0 ∷ drop (i + 1) bytes
 byte_at bytes i within = drop-cons bytes i 0 within ∙ ap (λ (m : ℕ). get_or bytes i 0 ∷ drop m bytes) (sym (add-one i))
 

@@ -1,21 +1,17 @@
 -- Moves from words, in the position of a book.
-use Rattle.std.proofs.Common.{◌≡◌, ℕ, List, [], ◌∷◌, ◌++◌, map, Some, None, sym, ap, subst, ◌∙◌}
+use Rattle.std.proofs.Common.{◌≡◌, ℕ, List, map, Some, None, ap, ◌∙◌}
 use Rattle.std.specs.Prelude.{Result}
 use Rattle.std.specs.Result.{result_ok}
 use Rattle.chess_model.specs.declared.moves.Move.{Move}
 use Rattle.chess_model.specs.declared.moves.MoveWord.{MoveWord}
 use Rattle.chess_model.specs.declared.moves.Rejection.{Rejection}
 use Rattle.chess_model.specs.declared.variant.Variant.TheVariants.{Chess}
-use Rattle.chess_model.specs.MoveList.{HalfMove}
 use Rattle.chess_model.specs.Position.{Position, Stands}
-use Rattle.chess_model.specs.Allowed.{Allowed}
-use Rattle.chess_model.specs.Answer.{IsAnswer}
 use Rattle.chess_model.specs.WordAnswer.{word_answer}
 use Rattle.move_reader.specs.Reading.{reading}
 use Rattle.pgn_book.specs.Games.{on_board, position_of}
 use Rattle.pgn_book.specs.Reading.{from_word, move_read}
 use Rattle.pgn_book.proofs.Laying.{stands_at}
-use Rattle.std.proofs.lemmas.List.{map-append}
 
 pub at_moves : (p : Position) (kept moves : List Move) → p.variant ≡ Chess → Stands p (map on_board kept) 1 → kept ≡ moves → p ≡ position_of moves
 at_moves p kept moves chess stands e = stands_at p kept chess stands ∙ ap position_of e
@@ -29,11 +25,3 @@ word_read p q text word r e f g =
 pub no_word : (q : Position) (text : List ℕ) → None ≡ reading text → None ≡ move_read q text
 unfolding move_read
 no_word q text e = ap (from_word q) e
-
-pub answer_allowed : (p q : Position) (word : MoveWord) (m : Move) → IsAnswer p word m → p ≡ q → Allowed q m
-answer_allowed p q word m is g = subst (λ (x : Position). Allowed x m) g is.choice.allowed
-
-pub stands_on : (p q : Position) (moves : List Move) (m : Move)
-    → ((T : List HalfMove) (b : ℕ) → Stands p T b → Stands q (T ++ record { board = b; what = m } ∷ []) b)
-    → Stands p (map on_board moves) 1 → Stands q (map on_board (moves ++ m ∷ [])) 1
-stands_on p q moves m f s = subst (λ (l : List HalfMove). Stands q l 1) (sym (map-append on_board moves (m ∷ []))) (f (map on_board moves) 1 s)

@@ -5,7 +5,7 @@ use Rattle.std.specs.List.{AllByRecursion, list_all}
 use Rattle.chess_model.specs.Limits.{most_halves}
 use Rattle.chess_model.specs.declared.moves.Move.{Move}
 use Rattle.chess_model.specs.declared.variant.Variant.TheVariants.{Chess}
-use Rattle.chess_model.specs.MoveList.{HalfMove}
+pub use Rattle.chess_model.specs.MoveList.{on_board}
 use Rattle.chess_model.specs.Position.{Position, position_after}
 use Rattle.rules_reading.specs.ReadsBack.{IsReadAs}
 use Rattle.pgn_book.specs.declared.game.PgnResult.{PgnResult}
@@ -26,10 +26,6 @@ abbrev pub is_result : List ℕ → Bool
 is_result word =
     bytes_eq word (result_text White) || (bytes_eq word (result_text Black)
     || (bytes_eq word (result_text Draw) || bytes_eq word (result_text Open)))
-
--- the half-moves of a game on one board
-abbrev pub on_board : Move → HalfMove
-on_board m = record { board = 1; what = m }
 
 -- the position after these moves from the start of a game of chess
 abbrev pub position_of : List Move → Position

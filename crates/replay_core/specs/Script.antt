@@ -1,16 +1,13 @@
 -- The lines of a replay script, which say what comes from whom and when: this server's own grammar.
-use Rattle.std.specs.Prelude.{ℕ, ◌<◌, ◌≤◌, List, [], ◌∷◌, codes, decimal}
+use Rattle.std.specs.Prelude.{ℕ, ◌≤◌, List, [], ◌∷◌, codes, decimal}
 use Rattle.std.specs.List.{join_with_byte}
 use Rattle.clock_ledger.specs.Charges.{last_moment}
+use Rattle.clock_ledger.specs.Span.{IsStamp}
 use Rattle.fics_words.specs.Line.{IsLine}
 use Rattle.replay_core.specs.Words.{blank}
 use Rattle.replay_core.specs.declared.script.ScriptEvent.{ScriptEvent}
 use Rattle.replay_core.specs.declared.script.ScriptEvent.TheVariants.{Connect, Cut, Quiet, Plain, Stamped, Ack}
 use Rattle.replay_core.specs.declared.script.ScriptLine.{ScriptLine}
-
--- a client's clock in milliseconds, which starts again at 10,000,000
-abbrev pub IsStamp : ℕ → Type 0
-IsStamp stamp = stamp < 10000000
 
 -- what can come from a session
 abbrev pub IsScriptEvent : ScriptEvent → Type 0

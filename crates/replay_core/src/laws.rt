@@ -20,12 +20,14 @@ pub fn one_reading()
 
 /// What the order of a script's lines says of any two of them, the later one with all that comes before it: moments
 /// don't fall, and nothing comes from a session that has left, nor does it connect again.
+#[tactic(auto, using(crate::proofs::Orders::order_of_two))]
 pub fn order_of_two()
     ensures { (seats : ℕ) (before between after : List Arrival) (one other : Arrival) →
         IsInOrder seats (before ++ one ∷ (between ++ other ∷ after)) → KeepOrder one other }
 {}
 
 /// A script's lines stand in order where each of them may come after those before it.
+#[tactic(auto, using(crate::proofs::Orders::order_by_steps))]
 pub fn order_by_steps()
     ensures { (seats : ℕ) (lines : List Arrival) (next : Arrival) →
         IsInOrder seats (lines ++ next ∷ []) ↔ (IsInOrder seats lines × MayCome seats lines next.line) }

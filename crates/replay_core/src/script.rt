@@ -2,7 +2,8 @@
 
 ghost use Rattle.std.specs.Prelude.{◌≡◌, ◌≢◌, ◌∷◌, IfOk, IfSome, IfNone, SomeIff, ℕ, List, decimal};
 ghost use Rattle.fics_words.specs.Line.{IsLine};
-ghost use Rattle.replay_core.specs.Script.{IsScriptEvent, IsScriptLine, IsStamp, event_text, script_text};
+ghost use Rattle.clock_ledger.specs.Span.{IsStamp};
+ghost use Rattle.replay_core.specs.Script.{IsScriptEvent, IsScriptLine, event_text, script_text};
 ghost use Rattle.replay_core.specs.Words.{blank};
 ghost use Rattle.replay_core.specs.declared.script.ScriptEvent.{ScriptEvent};
 

@@ -11,6 +11,7 @@ use move_writer::pretty;
 use variant_rules::Position;
 
 /// After every legal list of half-moves the pretty text of an allowed move is read as that move.
+#[tactic(auto, using(crate::proofs::ReadBack::reads_back))]
 pub fn pretty_texts_read_back()
     ensures { ReadsBack }
 {}

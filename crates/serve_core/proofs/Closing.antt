@@ -22,7 +22,7 @@ use Rattle.steward_core.specs.Agreement.{IsNoOthers, NoOthersSave, StaysAgreed, 
 use Rattle.steward_core.specs.declared.turn.StewardEnd.{StewardEnd}
 use Rattle.steward_core.specs.declared.turn.StewardEnd.TheVariants as steward
 use Rattle.steward_core.proofs.AgreedStill.{agreed_then, agreed_unsaved}
-use Rattle.steward_core.proofs.DesksCleared.{made_then}
+use Rattle.one_server.proofs.Made.{made_then}
 use Rattle.session_laws.specs.WhoSaves.{OthersServe}
 use Rattle.session_laws.proofs.OfHistories.{others_never_save}
 use Rattle.serve_core.specs.declared.end.ServeEnd.{ServeEnd}

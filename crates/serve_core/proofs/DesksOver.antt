@@ -4,10 +4,9 @@ use Rattle.std.proofs.Common.{◌≡◌, ◌≢◌, ℕ, zero, suc, ◌-◌, ◌
 use Rattle.std.specs.Prelude.{◌&&◌, is_some, None, Option}
 use Rattle.std.specs.List.{Contains, slice_index_or}
 use Rattle.std.proofs.lemmas.Option.{slice_get_within}
-use Rattle.histories.specs.declared.entry.Entry.{Entry}
 use Rattle.histories.specs.Core.{after, reply}
 use Rattle.histories.specs.History.{Legal, state}
-use Rattle.histories.proofs.Histories.{legal_front, stays_whole, state-append}
+use Rattle.histories.proofs.Histories.{legal_front, stays_whole, state-append, legal_back}
 use Rattle.histories.proofs.Steps.{after_alone, after_together, reply_alone}
 use Rattle.turn_table.specs.Views.{In}
 use Rattle.linked_desk.specs.declared.ended.Ended.{Ended}
@@ -15,14 +14,13 @@ use Rattle.linked_desk.specs.Desk.{DeskState, GameState, end_of, serial_of, view
 use Rattle.lobby_shelf.specs.declared.order.Order.{Order}
 use Rattle.lobby_state.specs.declared.acts.LobbyAct.{LobbyAct}
 use Rattle.lobby_state.specs.declared.acts.LobbyAct.TheVariants.{InUse}
-use Rattle.lobby_state.specs.declared.acts.PairAct.{PairAct}
 use Rattle.lobby_state.specs.declared.acts.PairAct.TheVariants.{Accept, Clear, Play, Resume}
 use Rattle.lobby_state.specs.declared.desk_in_use.DeskInUse.{DeskInUse}
 use Rattle.lobby_state.specs.declared.game.ListedGame.{ListedGame}
 use Rattle.lobby_state.specs.Acts.{lobby_answer, lobby_after}
 use Rattle.lobby_state.specs.Desks.{IsDesk}
 use Rattle.lobby_state.specs.InUse.{IsInUse, desks_in_use}
-use Rattle.lobby_state.specs.Lobby.{LobbyState, game_at, game_in}
+use Rattle.lobby_state.specs.Lobby.{LobbyState, game_in}
 use Rattle.lobby_state.specs.Plans.{plan_of}
 use Rattle.lobby_state.proofs.RowsInUse.{are_desks_in_use}
 use Rattle.one_server.specs.declared.act.Act.{Act}
@@ -44,7 +42,6 @@ use Rattle.steward_core.specs.declared.clearing.ClearingEnd.TheVariants as clear
 use Rattle.steward_core.specs.declared.turn.StewardEnd.{StewardEnd}
 use Rattle.steward_core.specs.Clearing.{IsClearing, acts_of, asks_in_use, clears, rows_told}
 use Rattle.steward_core.specs.Turn.{IsStewardTurn}
-use Rattle.steward_core.proofs.AgreedStill.{legal_back}
 use Rattle.serve_core.specs.EndLaws.{IsLeftOver, NoneLeftOver}
 use Rattle.serve_core.specs.StewardLaws.{AreStewards, IsDone, IsStewards}
 use Rattle.serve_core.proofs.Turning.{asks_saving, cleared_whole}
@@ -244,5 +241,5 @@ turn_leaves_none end moment entries carried xs done w legal t =
     let front : Legal house xs t.first = legal_front house xs t.first t.rest both in
     let mid = state house xs t.first in
     let cleared : IsClearing clearing.Done moment t.first = subst (λ (c : ClearingEnd). IsClearing c moment t.first) (cleared_whole end t.cleared t.saved t.ends done) t.clearing in
-    let over = stewards_over t.rest mid (stays_whole house house_lawful xs t.first w front) (legal_back xs t.first t.rest both) (asks_saving moment t.saved t.rest carried t.saving).0 (clearing_over moment t.first xs w front cleared) in
+    let over = stewards_over t.rest mid (stays_whole house house_lawful xs t.first w front) (legal_back house xs t.first t.rest both) (asks_saving moment t.saved t.rest carried t.saving).0 (clearing_over moment t.first xs w front cleared) in
     subst NoneLeftOver (sym (ap (state house xs) t.all ∙ state-append house xs t.first t.rest)) over

@@ -1,32 +1,25 @@
 -- What follows of how serving ended.
-use Rattle.std.proofs.Common.{◌≡◌, ◌⊎◌, ℕ, ◌*◌, inl, inr, Bool, true, false, List, [], ◌++◌, refl, sym, ap, subst, ◌∙◌}
-use Rattle.std.specs.Prelude.{IfSome, Some, slice_get}
+use Rattle.std.proofs.Common.{◌≡◌, ◌⊎◌, ◌*◌, inl, inr, true, false, List, ◌++◌, sym, ap, subst, ◌∙◌}
+use Rattle.std.specs.Prelude.{IfSome, Some}
 use Rattle.std.specs.declared.option.Option.{Option}
 use Rattle.std.specs.declared.option.Option.TheVariants.{None}
 use Rattle.edge_traits.specs.Pairs.{Records}
 use Rattle.histories.specs.History.{Legal, state}
-use Rattle.histories.proofs.Histories.{legal_front, stays_whole, state-append}
+use Rattle.histories.proofs.Histories.{legal_front, stays_whole, state-append, legal_back}
 use Rattle.lobby_shelf.specs.declared.order.Order.{Order}
 use Rattle.lobby_shelf.specs.Wanted.{table_with}
-use Rattle.lobby_state.specs.Lobby.{LobbyState}
 use Rattle.lobby_store.specs.Carrying.{held}
 use Rattle.one_server.specs.declared.part.Part.{Part}
-use Rattle.one_server.specs.declared.part.Part.TheVariants.{Lobby as TheLobby}
 use Rattle.one_server.specs.House.{house}
 use Rattle.one_server.specs.LawfulProof.{house_lawful}
-use Rattle.one_server.specs.Whole.{IsWhole}
 use Rattle.hall_core.specs.Pass.{PassState}
 use Rattle.steward_core.specs.declared.turn.StewardEnd.{StewardEnd}
 use Rattle.steward_core.specs.declared.turn.StewardEnd.TheVariants as steward
 use Rattle.steward_core.specs.Saving.{most_answers}
-use Rattle.steward_core.proofs.AgreedStill.{legal_back}
-use Rattle.serve_core.specs.declared.end.ServeEnd.{ServeEnd}
 use Rattle.serve_core.specs.EndLaws.{GoodEndsHadEnough, HoldsAll, LeavesNoGame, NoneLeftOver, ShortEndsHadNot, StoresAll}
-use Rattle.serve_core.specs.Outside.{Sheet, Store}
-use Rattle.serve_core.specs.Serving.{AgreesIn, HasServedAll, RanShort, TellsAgreed}
+use Rattle.serve_core.specs.Serving.{AgreesIn, RanShort, TellsAgreed}
 use Rattle.serve_core.specs.StewardLaws.{IsDone}
 use Rattle.serve_core.specs.Stewarding.{LeavesNoOrders, NoOrders}
-use Rattle.serve_core.specs.Stopping.{IsClean}
 use Rattle.serve_core.proofs.DesksOver.{turn_leaves_none}
 use Rattle.serve_core.proofs.Ending.{clean_last, text_enough, text_last, text_short}
 
@@ -51,7 +44,7 @@ leaves_no_game shows opening end door before after old new pass p clean =
     let mid = state house pass.opening s.earlier in
     let over : NoneLeftOver (state house mid s.turn.entries) =
     turn_leaves_none s.turn.end s.turn.moment s.turn.entries s.turn.carried mid (subst IsDone (sym s.ended) done) (stays_whole house house_lawful pass.opening s.earlier p.hall.opens_whole front)
-    (legal_back pass.opening s.earlier s.turn.entries all) s.turn.turn in
+    (legal_back house pass.opening s.earlier s.turn.entries all) s.turn.turn in
     subst NoneLeftOver (sym (ap (state house pass.opening) s.stands_last ∙ state-append house pass.opening s.earlier s.turn.entries)) over
 
 -- what the last turn leaves

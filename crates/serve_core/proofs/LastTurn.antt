@@ -3,10 +3,11 @@ use Rattle.std.proofs.Common.{◌≡◌, ◌≢◌, ℕ, zero, suc, ◌<◌, Boo
 use Rattle.std.specs.Prelude.{nat_lt}
 use Rattle.std.proofs.lemmas.Bool.{ltb-false, ltb-true}
 use Rattle.std.specs.declared.option.Option.{Option}
+use Rattle.std.proofs.lemmas.List.{append_cancel_left}
 use Rattle.edge_traits.specs.Pairs.{Records}
 use Rattle.histories.specs.declared.entry.Entry.{Entry}
 use Rattle.histories.specs.History.{IsPrefix, Legal, calls_of, state}
-use Rattle.histories.proofs.Histories.{calls-append, prefix_trans, stays_whole, state-append}
+use Rattle.histories.proofs.Histories.{calls-append, prefix_trans, stays_whole, state-append, legal_back}
 use Rattle.turn_table.specs.declared.view.Joined.{Joined}
 use Rattle.turn_table.specs.Views.{In, joined_number}
 use Rattle.one_server.specs.declared.act.Timed.{Timed}
@@ -18,7 +19,6 @@ use Rattle.one_server.specs.Running.{Log}
 use Rattle.one_server.specs.Whole.{IsWhole}
 use Rattle.hall_core.specs.Passes.{EveryoneJoined, PassState}
 use Rattle.steward_core.specs.declared.turn.StewardEnd.{StewardEnd}
-use Rattle.steward_core.proofs.AgreedStill.{append_cancel, legal_back}
 use Rattle.serve_core.specs.declared.settle.Supply.{Supply}
 use Rattle.serve_core.specs.Stewarding.{LeavesNoOrders, StewardTurn}
 use Rattle.serve_core.specs.Turns.{TurnsLast}
@@ -29,7 +29,7 @@ use Rattle.serve_core.proofs.Turning.{turn_home, turn_is, turn_made, turn_number
 -- ---- entries of session 0 alone
 
 nothing_behind : {T : Type 0} (xs ys : List T) → xs ++ ys ≡ xs → ys ≡ []
-nothing_behind xs ys e = append_cancel xs ys [] (e ∙ sym (append-nil xs))
+nothing_behind xs ys e = append_cancel_left xs ys [] (e ∙ sym (append-nil xs))
 
 nothing_last : {T : Type 0} (xs ys : List T) → xs ++ ys ≡ [] → ys ≡ []
 nothing_last [] ys e = e
@@ -117,7 +117,7 @@ module _ (end : StewardEnd) (supply : Supply) (before after : Option Records) (o
     gained_is : gained.0 ≡ t.made.turn.entries
     gained_is =
         sym (all_own gained.0 none_else)
-        ∙ append_cancel t.first.made (calls_of 0 gained.0) t.made.turn.entries (ap (λ (l : Log). l ++ calls_of 0 gained.0) (sym own_first) ∙ calls_grow 0 ∙ own_last ∙ last_made)
+        ∙ append_cancel_left t.first.made (calls_of 0 gained.0) t.made.turn.entries (ap (λ (l : Log). l ++ calls_of 0 gained.0) (sym own_first) ∙ calls_grow 0 ∙ own_last ∙ last_made)
 
     pub last_seen : new.seen ≡ t.first.seen ++ t.made.turn.entries
     last_seen = sym gained.1 ∙ ap (λ (l : Log). t.first.seen ++ l) gained_is
@@ -133,4 +133,4 @@ module _ (end : StewardEnd) (supply : Supply) (before after : Option Records) (o
         let path : state house new.opening new.seen ≡ state house parts entries =
         ap (λ (xs : List Part). state house xs new.seen) last_opening ∙ ap (state house old.opening) last_seen ∙ state-append house old.opening t.first.seen entries in
         subst (LeavesNoOrders end) (sym path)
-        (leaves_none end parts t.made.moment entries t.made.turn.carried (stays_whole house house_lawful old.opening t.first.seen whole legal_first) (legal_back old.opening t.first.seen entries legal_all) t.made.turn.turn)
+        (leaves_none end parts t.made.moment entries t.made.turn.carried (stays_whole house house_lawful old.opening t.first.seen whole legal_first) (legal_back house old.opening t.first.seen entries legal_all) t.made.turn.turn)

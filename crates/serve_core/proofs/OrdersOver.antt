@@ -7,7 +7,7 @@ use Rattle.lobby_shelf.specs.Shelf.{saved}
 use Rattle.lobby_shelf.specs.declared.order.Order.{Order}
 use Rattle.histories.specs.Core.{after, reply}
 use Rattle.histories.specs.History.{Legal, state}
-use Rattle.histories.proofs.Histories.{legal_front, stays_whole, state-append}
+use Rattle.histories.proofs.Histories.{legal_front, stays_whole, state-append, legal_back}
 use Rattle.histories.proofs.Steps.{after_alone, reply_alone}
 use Rattle.lobby_state.specs.declared.acts.LobbyAct.TheVariants.{Orders as AskOrders}
 use Rattle.lobby_state.specs.Acts.{lobby_answer}
@@ -28,7 +28,7 @@ use Rattle.steward_core.specs.declared.turn.StewardEnd.TheVariants.{Done, Keeper
 use Rattle.steward_core.specs.Clearing.{acts_of}
 use Rattle.steward_core.specs.Saving.{EndsSaving, IsSaveRound, IsSaving, asks_orders, last_number, most_answers, orders_in, says_saved, tells_upto}
 use Rattle.steward_core.specs.Turn.{IsStewardTurn, end_of_turn}
-use Rattle.steward_core.proofs.AgreedStill.{kept_behind, legal_back}
+use Rattle.steward_core.proofs.AgreedStill.{kept_behind}
 use Rattle.steward_core.proofs.StatesLead.{one_lobby, put_lobby}
 use Rattle.serve_core.specs.Stewarding.{LeavesNoOrders, NoOrders}
 
@@ -117,7 +117,7 @@ behind xs count es fs all is w legal over =
     let both : Legal house xs (es ++ fs) = subst (Legal house xs) is legal in
     let path : state house xs all ≡ state house (state house xs es) fs = ap (state house xs) is ∙ state-append house xs es fs in
     subst (λ (parts : List Part). NoOrders parts ⊎ (count ≡ most_answers * 16)) (sym path)
-    (over (stays_whole house house_lawful xs es w (legal_front house xs es fs both)) (legal_back xs es fs both))
+    (over (stays_whole house house_lawful xs es w (legal_front house xs es fs both)) (legal_back house xs es fs both))
 
 saving_over : (xs : List Part) (moment count : ℕ) (entries : Log) (carried : List Order) → IsWhole xs → Legal house xs entries → IsSaving moment (Done count) entries carried → NoOrders (state house xs entries) ⊎ (count ≡ most_answers * 16)
 saving_over xs moment count entries carried w legal s =

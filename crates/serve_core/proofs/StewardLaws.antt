@@ -1,8 +1,7 @@
 -- What follows of the acts of session 0.
-use Rattle.std.proofs.Common.{◌≡◌, ℕ, suc, ◌+◌, ◌≤◌, Bool, true, false, List, sym, ◌∙◌, arith}
+use Rattle.std.proofs.Common.{◌≡◌, ℕ, suc, ◌+◌, ◌≤◌, true, false, List, sym, ◌∙◌, arith}
 use Rattle.std.specs.declared.option.Option.{Option}
 use Rattle.edge_traits.specs.Door.{DoorTale}
-use Rattle.edge_traits.specs.Faults.{Rose}
 use Rattle.histories.specs.History.{calls_of}
 use Rattle.one_server.specs.declared.part.Part.{Part}
 use Rattle.one_server.specs.Running.{Log}

@@ -14,7 +14,7 @@ use Rattle.link_core.specs.declared.link_end.LinkEnd.{LinkEnd}
 use Rattle.steward_core.specs.declared.turn.StewardEnd.{StewardEnd}
 use Rattle.steward_core.specs.declared.turn.StewardEnd.TheVariants as steward
 use Rattle.steward_core.proofs.AgreedStill.{agreed_then, agreed_unsaved}
-use Rattle.steward_core.proofs.DesksCleared.{made_none, made_then}
+use Rattle.one_server.proofs.Made.{made_none, made_then}
 use Rattle.serve_core.specs.declared.settle.Supply.{Supply}
 use Rattle.serve_core.specs.declared.settle.Supply.TheVariants.{Short}
 use Rattle.serve_core.specs.Keeping.{supply_after}

@@ -1,7 +1,8 @@
 -- What follows for each link that came, where memory was enough.
-use Rattle.std.specs.Prelude.{◌≡◌, ◌⊎◌, ℕ, ◌^◌, ◌<◌, ◌≤◌, Bool, true, false, ◌++◌, length, Some}
+use Rattle.std.specs.Prelude.{◌≡◌, ◌⊎◌, ℕ, ◌<◌, ◌≤◌, Bool, true, false, ◌++◌, length, Some}
 use Rattle.edge_traits.specs.Door.{DoorTale}
 use Rattle.edge_traits.specs.Link.{Tale}
+use Rattle.edge_traits.specs.Source.{most_reads}
 use Rattle.one_server.specs.Running.{Log}
 use Rattle.link_core.specs.Laws.{AnswersAll, WasGreeted, handed_over}
 use Rattle.serve_core.specs.Sessions.{CameAs, CameBack, HadSession}
@@ -16,7 +17,7 @@ pub record ComesBack (shows : ℕ → Bool) (door : DoorTale) (number : ℕ) (ca
   pub back : CameBack number (handed_over link faults) door
   pub signs : link.taken ++ link.left ≡ came.left
   pub greeted : WasGreeted came link ⊎ (1 ≤ faults)
-  pub answered : faults ≡ 0 → length came.left < 2 ^ 40 → AnswersAll shows number calls came link
+  pub answered : faults ≡ 0 → length came.left < most_reads → AnswersAll shows number calls came link
 
 -- where the pass tells that memory was enough, the link of each session came back so: none was hung up unserved, none was exchanged for
 -- another, and no line was left without its answer

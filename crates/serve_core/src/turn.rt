@@ -1,13 +1,12 @@
 //! A turn of the steward, with the hall's first pass.
 
 ghost use Rattle.std.specs.Prelude.{◌≡◌, ◌≤◌};
-ghost use Rattle.clock_ledger.specs.Charges.{last_moment};
 ghost use Rattle.edge_traits.specs.Faults.{Rose};
 ghost use Rattle.serve_core.specs.Turns.{MadeTurn, supply_in};
 
 use crate::settle::Supply;
 use crate::shared::Shared;
-use clock_ledger::LAST_MOMENT;
+use clock_ledger::{LAST_MOMENT, Moment};
 use edge_traits::{Clock, Gate, Keeper};
 use hall_core::HallPass;
 use std::sync::Wait;
@@ -44,9 +43,7 @@ fn supply_in(cleared: ClearingEnd, end: StewardEnd) -> Supply
     }
 }
 
-/// The present moment, at most 2^48.
-fn present<C: Clock>(clock: &C) -> u64
-    ensures { result ≤ last_moment }
-{
-    clock.now().min(LAST_MOMENT)
+/// The present moment, cut to 2^48.
+fn present<C: Clock>(clock: &C) -> Moment {
+    Moment::new(clock.now().min(LAST_MOMENT))
 }

@@ -9,7 +9,8 @@ use Rattle.session_core.specs.Memory.{MemoryState, is_gone}
 use Rattle.session_core.specs.Remembering.{Remembers}
 use Rattle.session_core.specs.Session.{leaving_course}
 use Rattle.session_core.specs.Stages.{Settles}
-use Rattle.session_core.proofs.Going.{answered_after, answered_left, broke_next, broke_unmade, made_none, on_begun}
+use Rattle.session_core.proofs.Going.{answered_after, answered_left, broke_next, broke_unmade, on_begun}
+use Rattle.one_server.proofs.Made.{made_none}
 
 module _ (moment : ℕ) where
   -- it began to answer and ran out of memory

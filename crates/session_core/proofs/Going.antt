@@ -12,11 +12,9 @@ use Rattle.session_core.specs.Memory.{MemoryState}
 use Rattle.session_core.specs.Remembering.{Remembers}
 use Rattle.session_core.specs.Stages.{Settles, onto, settled}
 use Rattle.session_core.proofs.Remembering.{remembers_none, remembers_then}
+use Rattle.one_server.proofs.Made.{made_none, made_then}
 
 -- ---- entries
-
-pub made_none : (old : RunnerState) → IsKnown old → Made old [] old
-made_none old known = record { same = refl; begins = ([], append-nil old.seen); known = known; more = sym (append-nil old.made); only = λ e. sym (append-nil old.seen) }
 
 -- what stays the same
 pub same_number : (old new : RunnerState) (entries : Log) → Made old entries new → new.number ≡ old.number
@@ -24,15 +22,6 @@ same_number old new entries m = ap (λ (s : RunnerState). s.number) m.same
 
 pub same_mark : (old new : RunnerState) (entries : Log) → Made old entries new → new.mark ≡ old.mark
 same_mark old new entries m = ap (λ (s : RunnerState). s.mark) m.same
-
-pub made_then : (old mid new : RunnerState) (one two : Log) → Made old one mid → Made mid two new → Made old (one ++ two) new
-made_then old mid new one two p q = record {
-  same = q.same ∙ ap (λ (s : RunnerState). record s { seen = new.seen; made = new.made }) p.same;
-  begins = (p.begins.0 ++ q.begins.0, sym (append_assoc old.seen p.begins.0 q.begins.0) ∙ ap (λ (l : Log). l ++ q.begins.0) p.begins.1 ∙ q.begins.1);
-  known = q.known;
-  more = q.more ∙ ap (λ (l : Log). l ++ two) p.more ∙ append_assoc old.made one two;
-  only = λ e. q.only (ap (λ (s : RunnerState). s.sole) p.same ∙ e) ∙ ap (λ (l : Log). l ++ two) (p.only e) ∙ append_assoc old.seen one two;
-}
 
 -- ---- courses
 

@@ -21,29 +21,25 @@ use Rattle.command_words.specs.Commands.{arguments_of, asked, command_after, com
 use Rattle.command_words.specs.Match.{challenge, challenge_of, two_twelve}
 use Rattle.chess_model.specs.VariantWord.{IsNumbered}
 use Rattle.command_words.specs.Observe.{observe_from}
-use Rattle.command_words.specs.Seek.{five_nothing, seeking}
+use Rattle.command_words.specs.Seek.{five_nothing}
 use Rattle.command_words.specs.Naming.{named_by}
-use Rattle.command_words.specs.Shapes.{by_text, channel_from, named_from, nothing, numbered_from, perhaps, perhaps_from, to_perhaps}
+use Rattle.command_words.specs.Shapes.{maybe_named, nothing, read_as}
 use Rattle.command_words.specs.declared.rows.Bare.{Bare}
-use Rattle.command_words.specs.declared.rows.ByName.{ByName}
+use Rattle.command_words.specs.declared.rows.Bare.TheVariants.{Quit}
 use Rattle.command_words.specs.declared.rows.ByName.TheVariants.{AddCensor}
-use Rattle.command_words.specs.declared.rows.ByNumber.{ByNumber}
 use Rattle.command_words.specs.declared.rows.ByNumber.TheVariants.{Play}
-use Rattle.command_words.specs.declared.rows.OnChannel.{OnChannel}
+use Rattle.command_words.specs.declared.rows.MaybeByName.{MaybeByName}
+use Rattle.command_words.specs.declared.rows.MaybeByName.TheVariants.{Accept, Decline}
 use Rattle.command_words.specs.declared.rows.OnChannel.TheVariants.{Ask}
-use Rattle.command_words.specs.declared.rows.Perhaps.{Perhaps}
-use Rattle.command_words.specs.declared.rows.Perhaps.TheVariants.{Accept}
-use Rattle.command_words.specs.declared.rows.Saying.{Saying}
-use Rattle.command_words.specs.declared.rows.Saying.TheVariants.{Register}
 use Rattle.command_words.specs.declared.rows.Takes.{Takes}
 use Rattle.command_words.specs.declared.rows.Takes.TheVariants as takes
-use Rattle.command_words.specs.declared.rows.Bare.TheVariants as empty
-use Rattle.command_words.specs.Numbers.{channel_number, is_no_channel, number_of}
+use Rattle.command_words.specs.declared.rows.WithText.TheVariants.{Register}
+use Rattle.command_words.specs.Numbers.{is_no_channel, number_of}
 use Rattle.command_words.specs.Set.{is_on, set_to, setting_of}
 use Rattle.command_words.specs.Tell.{tell_to, telling, telling_to}
 use Rattle.command_words.specs.Takeback.{takeback_from, takeback_of}
 use Rattle.command_words.specs.TermReading.{agreed, terms_of}
-use Rattle.command_words.specs.Unseek.{unseek_from, unseek_of}
+use Rattle.command_words.specs.Unseek.{unseek_of}
 use Rattle.command_words.specs.TermWords.{Spells, SpellsTime, UsualTime, time_of}
 use Rattle.fics_words.specs.HandleTest.{handle_of}
 use Rattle.command_words.specs.Texts.{is_text}
@@ -62,9 +58,30 @@ spelled_fits usual words terms few short (inr s) numbered = record {
   numbered = numbered;
 }
 
--- the way of a command fits
+-- the terms and the text of a command are within their bounds
 abbrev FitsCommand : Command → Type 0
-FitsCommand command = FitsWay (way_of command)
+FitsCommand (command.Match name terms) = AreTerms terms
+FitsCommand (command.Seek terms) = AreTerms terms
+FitsCommand (command.WithText which text) = length text ≤ 800
+FitsCommand (command.Tell name text) = length text ≤ 800
+FitsCommand (command.TellChannel channel text) = length text ≤ 800
+FitsCommand _ = Unit {0}
+
+-- so its way fits
+way_fits : (asked : Command) → FitsCommand asked → FitsWay (way_of asked)
+way_fits (command.Match name terms) fits = fits
+way_fits (command.Seek terms) fits = fits
+way_fits (command.Tell name text) fits = fits
+way_fits (command.TellChannel channel text) fits = fits
+way_fits (command.WithText Register text) fits = tt
+way_fits (command.WithText _ text) fits = fits
+way_fits (command.Bare Quit) fits = tt
+way_fits (command.ByName AddCensor name) fits = tt
+way_fits (command.MaybeByName Accept None) fits = tt
+way_fits (command.MaybeByName Decline None) fits = tt
+way_fits (command.ByNumber Play number) fits = tt
+way_fits (command.OnChannel Ask number) fits = tt
+way_fits _ fits = tt
 
 -- what the answer of a reader asks for
 abbrev FitsAnswer : Result Command Refusal → Type 0
@@ -82,23 +99,24 @@ challenge_of_fits : (words : Words) → FitsAnswer (challenge_of words)
 challenge_of_fits [] = tt
 challenge_of_fits (name ∷ words) = challenge_fits (handle_of name) words (terms_of two_twelve words) refl
 
-seeking_fits : (words : Words) (terms : Option Terms) → terms ≡ terms_of five_nothing words → FitsAnswer (seeking terms)
+either_fits : (is : Bool) (a b : Result Command Refusal) → FitsAnswer a → FitsAnswer b → FitsAnswer (if is then a else b)
+either_fits true a b p q = p
+either_fits false a b p q = q
+
+-- what is read fits, where it does whatever is read
+read_as_fits : {V : Type 0} (made : V → Command) (value : Option V) → ((v : V) → FitsCommand (made v)) → FitsAnswer (read_as made value)
+read_as_fits made None fits = tt
+read_as_fits made (Some value) fits = fits value
+
+seeking_fits : (words : Words) (terms : Option Terms) → terms ≡ terms_of five_nothing words → FitsAnswer (read_as command.Seek terms)
 seeking_fits words (Some terms) is =
     let s : Spells five_nothing words terms = (are_read_as_spelled five_nothing words terms).0 (sym is) in
     spelled_fits five_nothing s.time terms (search rules) (search rules) s.spells_time s.numbered
 seeking_fits words None is = tt
 
-either_fits : (is : Bool) (a b : Result Command Refusal) → FitsAnswer a → FitsAnswer b → FitsAnswer (if is then a else b)
-either_fits true a b p q = p
-either_fits false a b p q = q
-
-unseek_from_fits : (number : Option ℕ) → FitsAnswer (unseek_from number)
-unseek_from_fits None = tt
-unseek_from_fits (Some number) = tt
-
 unseek_fits : (rest : List ℕ) → FitsAnswer (unseek_of rest)
 unseek_fits [] = tt
-unseek_fits (b ∷ rest) = unseek_from_fits (number_of 65535 (b ∷ rest))
+unseek_fits (b ∷ rest) = read_as_fits _ (number_of 65535 (b ∷ rest)) (λ number. tt)
 
 takeback_from_fits : (number : Option ℕ) → FitsAnswer (takeback_from number)
 takeback_from_fits None = tt
@@ -130,8 +148,7 @@ telling_to_fits None word text = telling_fits (handle_of word) text
 telling_to_fits (Some channel) word text = text_fits (command.TellChannel channel) text (λ short. short)
 
 observe_fits : (number : Option ℕ) (handle : Option (List ℕ)) → FitsAnswer (observe_from number handle)
-observe_fits None None = tt
-observe_fits None (Some handle) = tt
+observe_fits None handle = read_as_fits command.ObservePlayer handle (λ handle. tt)
 observe_fits (Some number) handle = tt
 
 tell_fits : (word text : List ℕ) → FitsAnswer (tell_to word text)
@@ -148,50 +165,22 @@ setting_fits (name ∷ value ∷ []) = set_to_fits name (is_on value)
 setting_fits _ = tt
 
 nothing_fits : (which : Bare) (rest : List ℕ) → FitsAnswer (nothing which rest)
+nothing_fits which [] = tt
 nothing_fits which (b ∷ rest) = tt
-nothing_fits empty.Abort [] = tt
-nothing_fits _ [] = tt
 
-named_fits : (which : ByName) (name : Option (List ℕ)) → FitsAnswer (named_from which name)
-named_fits which None = tt
-named_fits AddCensor (Some name) = tt
-named_fits _ (Some name) = tt
-
-to_perhaps_fits : (which : Perhaps) (name : Option (List ℕ)) → FitsCommand (to_perhaps which name)
-to_perhaps_fits Accept None = tt
-to_perhaps_fits _ None = tt
-to_perhaps_fits Accept (Some name) = tt
-to_perhaps_fits _ (Some name) = tt
-
-perhaps_from_fits : (which : Perhaps) (name : Option (List ℕ)) → FitsAnswer (perhaps_from which name)
-perhaps_from_fits which None = tt
-perhaps_from_fits which (Some name) = to_perhaps_fits which (Some name)
-
-perhaps_fits : (which : Perhaps) (rest : List ℕ) → FitsAnswer (perhaps which rest)
-perhaps_fits which [] = to_perhaps_fits which None
-perhaps_fits which (b ∷ rest) = perhaps_from_fits which (handle_of (b ∷ rest))
-
-by_text_fits : (which : Saying) (text : List ℕ) → length text ≤ 800 → FitsCommand (by_text which text)
-by_text_fits Register text short = tt
-by_text_fits _ text short = short
-
-numbered_fits : (which : ByNumber) (number : Option ℕ) → FitsAnswer (numbered_from which number)
-numbered_fits which None = tt
-numbered_fits Play (Some number) = tt
-numbered_fits _ (Some number) = tt
-
-channel_fits : (which : OnChannel) (asked : Result ℕ Refusal) → FitsAnswer (channel_from which asked)
-channel_fits Ask (Ok number) = tt
-channel_fits _ (Ok number) = tt
-channel_fits which (Err cause) = tt
+maybe_named_fits : (which : MaybeByName) (rest : List ℕ) → FitsAnswer (maybe_named which rest)
+maybe_named_fits which [] = tt
+maybe_named_fits which (b ∷ rest) = read_as_fits _ (handle_of (b ∷ rest)) (λ name. tt)
 
 arguments_fit : (found : Takes) (rest : List ℕ) → FitsAnswer (arguments_of found rest)
 arguments_fit (takes.Nothing which) rest = nothing_fits which rest
-arguments_fit (takes.Name which) rest = named_fits which (handle_of rest)
-arguments_fit (takes.MaybeName which) rest = perhaps_fits which rest
-arguments_fit (takes.Text which) rest = text_fits (by_text which) rest (by_text_fits which rest)
-arguments_fit (takes.Number which) rest = numbered_fits which (number_of 65535 rest)
-arguments_fit (takes.Channel which) rest = channel_fits which (channel_number rest)
+arguments_fit (takes.Name which) rest = read_as_fits (command.ByName which) (handle_of rest) (λ name. tt)
+arguments_fit (takes.MaybeName which) rest = maybe_named_fits which rest
+arguments_fit (takes.Text which) rest = text_fits (command.WithText which) rest (λ short. short)
+arguments_fit (takes.Number which) rest = read_as_fits (command.ByNumber which) (number_of 65535 rest) (λ number. tt)
+arguments_fit (takes.Channel which) rest =
+    either_fits (is_no_channel (first_word rest)) (Err BadChannel) _ tt
+    (read_as_fits (command.OnChannel which) (number_of 255 rest) (λ number. tt))
 arguments_fit takes.Alias rest =
     either_fits (is_alias_name (first_word rest) && is_text (rest_of rest)) (Ok (command.Alias (first_word rest) (rest_of rest))) (Err BadArguments) tt tt
 arguments_fit takes.Challenge rest = challenge_of_fits (words_of rest)
@@ -228,4 +217,4 @@ read_fits : (aliases : List Alias) (line : List ℕ) → FitsAnswer (command_in 
 read_fits aliases line = after_fits (alias_of aliases (first_word (trimmed line))) (trimmed line)
 
 pub command_read : (aliases : List Alias) (line : List ℕ) (asked : Command) → command_in aliases line ≡ Ok asked → FitsWay (way_of asked)
-command_read aliases line asked is = subst FitsAnswer is (read_fits aliases line)
+command_read aliases line asked is = way_fits asked (subst FitsAnswer is (read_fits aliases line))

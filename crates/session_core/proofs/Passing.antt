@@ -13,7 +13,8 @@ use Rattle.one_server.specs.Running.{IsKnown, Log, Made, Ran, RunnerState}
 use Rattle.session_core.specs.Course.{Course, Done, Asks, MayPass, Passes, TakesMemory, nothing_told, timed}
 use Rattle.session_core.specs.Going.{LeftInPart, Passed}
 use Rattle.session_core.specs.Memory.{MemoryState}
-use Rattle.session_core.proofs.Going.{made_none, made_then, same_mark, same_number}
+use Rattle.session_core.proofs.Going.{same_mark, same_number}
+use Rattle.one_server.proofs.Made.{made_none, made_then}
 
 taking : (act : Act) → (NeedsNoMemory act → ⊥) → TakesMemory act
 taking (Lobby act) h = of act h

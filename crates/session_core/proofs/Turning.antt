@@ -7,6 +7,7 @@ use Rattle.command_words.specs.Commands.{command_in}
 use Rattle.fics_words.specs.HandleTest.{handle_of}
 use Rattle.command_words.specs.declared.command.Command.{Command}
 use Rattle.command_words.specs.declared.command.Command.TheVariants as command
+use Rattle.command_words.specs.declared.rows.Bare.TheVariants.{Quit}
 use Rattle.fics_words.specs.declared.refusal.Refusal.{Refusal}
 use Rattle.fics_words.specs.declared.refusal.Refusal.TheVariants as refusal
 use Rattle.histories.specs.declared.entry.Entry.{Entry}
@@ -209,7 +210,7 @@ module _ (before : MemoryState) where
 
   fits_asked : (asked : Result Command Refusal) (stamp : Option ℕ) (memory : MemoryState) → memory.places ≡ before.places → Same before memory
       → Fits (asked_course asked stamp memory)
-  fits_asked (Ok command.Quit) stamp memory known s = inr (still_leaving memory)
+  fits_asked (Ok (command.Bare Quit)) stamp memory known s = inr (still_leaving memory)
   fits_asked (Ok asked) stamp memory known s = inl (by_asked before (Ok asked) stamp memory before.places [] known s refl)
   fits_asked (Err cause) stamp memory known s = inl (by_asked before (Err cause) stamp memory before.places [] known s refl)
 

@@ -91,8 +91,3 @@ module _ (moment : ℕ) (one : Course) (visit : Visit) (over : Bool) (rest : Cou
   broke_given_up (Ok u) more = tt
   broke_given_up (Err e) more =
       broke_after moment one (given_up visit over rest) (given_up visit true rest) old before out mid there out' new there w (ap (λ (b : Bool). given_up visit b rest) is) more
-
--- what holds of running out of memory
-pub out_of_memory : {T : Type 0} (result : Result T NoMemory) (P : Type 0) → P → OnErr result P
-out_of_memory (Ok value) P p = tt
-out_of_memory (Err e) P p = p

@@ -2,6 +2,12 @@
 use Rattle.std.proofs.Common.{◌≡◌, Bool, true, false, None, Ok, refl}
 use Rattle.command_words.specs.declared.command.Command.{Command}
 use Rattle.command_words.specs.declared.command.Command.TheVariants as command
+use Rattle.command_words.specs.declared.rows.Bare.TheVariants.{Quit}
+use Rattle.command_words.specs.declared.rows.ByName.TheVariants.{AddCensor}
+use Rattle.command_words.specs.declared.rows.ByNumber.TheVariants.{Play}
+use Rattle.command_words.specs.declared.rows.MaybeByName.TheVariants.{Accept, Decline}
+use Rattle.command_words.specs.declared.rows.OnChannel.TheVariants.{Ask}
+use Rattle.command_words.specs.declared.rows.WithText.TheVariants.{Kibitz}
 use Rattle.one_server.specs.declared.act.Act.TheVariants.{Desk}
 use Rattle.session_core.specs.declared.way.Way.{Way}
 use Rattle.session_core.specs.declared.way.Way.TheVariants as way
@@ -27,6 +33,11 @@ pub record IsUsual (asked : Command) (way : Way) : Type 0 where
   pub leaves : is_leaving way ≡ is_quit (Ok asked)
 
 pub goes_as_usual : (asked : Command) → IsUsual asked (way_of asked)
-goes_as_usual (command.Accept None) = record { asks = refl; still = refl; leaves = refl }
-goes_as_usual (command.Decline None) = record { asks = refl; still = refl; leaves = refl }
+goes_as_usual (command.Bare Quit) = record { asks = refl; still = refl; leaves = refl }
+goes_as_usual (command.ByName AddCensor name) = record { asks = refl; still = refl; leaves = refl }
+goes_as_usual (command.MaybeByName Accept None) = record { asks = refl; still = refl; leaves = refl }
+goes_as_usual (command.MaybeByName Decline None) = record { asks = refl; still = refl; leaves = refl }
+goes_as_usual (command.WithText Kibitz text) = record { asks = refl; still = refl; leaves = refl }
+goes_as_usual (command.ByNumber Play number) = record { asks = refl; still = refl; leaves = refl }
+goes_as_usual (command.OnChannel Ask number) = record { asks = refl; still = refl; leaves = refl }
 goes_as_usual _ = record { asks = refl; still = refl; leaves = refl }

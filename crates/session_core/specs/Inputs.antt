@@ -6,6 +6,7 @@ use Rattle.clock_ledger.specs.Span.{IsStamp}
 use Rattle.command_words.specs.declared.aliases.Alias.{Alias}
 use Rattle.command_words.specs.declared.command.Command.{Command}
 use Rattle.command_words.specs.declared.command.Command.TheVariants as command
+use Rattle.command_words.specs.declared.rows.Bare.TheVariants.{Quit}
 use Rattle.command_words.specs.Commands.{command_in}
 use Rattle.fics_words.specs.declared.refusal.Refusal.{Refusal}
 use Rattle.fics_words.specs.declared.refusal.Refusal.TheVariants as refusal
@@ -113,7 +114,7 @@ answer_text input before after text = framed (framing_of input before) after.sta
 
 -- what is read of a line asks to quit
 abbrev pub is_quit : Result Command Refusal → Bool
-is_quit (Ok command.Quit) = true
+is_quit (Ok (command.Bare Quit)) = true
 is_quit _ = false
 
 abbrev pub text_quits : List ℕ → Standing → List Alias → Bool

@@ -7,6 +7,7 @@ use Rattle.lobby_state.specs.declared.acts.LobbyAct.TheVariants as lobby_act
 use Rattle.lobby_state.specs.Acts.{FitsLobby}
 use Rattle.lobby_state.specs.Desks.{IsDesk}
 use Rattle.memory.specs.declared.NoMemory.{NoMemory}
+use Rattle.fics_words.specs.Line.{most_text_bytes}
 use Rattle.one_server.specs.declared.act.Act.{Act}
 use Rattle.one_server.specs.declared.act.Act.TheVariants.{Lobby}
 use Rattle.one_server.specs.declared.reply.Reply.{Reply}
@@ -137,7 +138,7 @@ abbrev pub FitsWay : Way → Type 0
 FitsWay (way.Server act) = FitsAct act
 FitsWay (way.Desk act) = FitsDeskAct act
 FitsWay (way.Observe act) = FitsLobby act
-FitsWay (way.Remark text) = length text ≤ 800
+FitsWay (way.Remark text) = length text ≤ most_text_bytes
 FitsWay _ = Unit {0}
 
 -- the act of a way asks the lobby for the places of its player

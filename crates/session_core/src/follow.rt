@@ -1,6 +1,5 @@
 //! The loop that makes a session's acts.
 ghost use Rattle.std.specs.Prelude.{◌≡◌, ◌≤◌, ◌<◌, IfOk, OnOk, OnErr};
-ghost use Rattle.clock_ledger.specs.Charges.{last_moment};
 ghost use Rattle.one_server.specs.Acts.{FitsAct};
 ghost use Rattle.session_core.specs.Course.{Asks};
 ghost use Rattle.session_core.specs.Going.{Answered, BrokeOff, WentOn};
@@ -10,6 +9,7 @@ use crate::next::Next;
 use crate::session_memory::SessionMemory;
 use crate::stage::Stage;
 use crate::visiting::visit_all;
+use clock_ledger::Moment;
 use memory::NoMemory;
 use one_server::{Act, Runner};
 use std::alloc::Global;
@@ -20,12 +20,11 @@ use std::alloc::Global;
 pub(crate) fn follow<R: Runner>(
     alloc: Global,
     r: &mut R,
-    moment: u64,
+    moment: Moment,
     memory: &mut SessionMemory,
     first: Next,
     out: &mut Vec<u8>,
 ) -> Result<(), NoMemory>
-    requires moment { moment ≤ last_moment }
     requires ready { IsPosed memory.old first }
     ensures home { R.home r.new ≡ R.home r.old }
     ensures followed { OnOk result (Answered (course_of first memory.old) (λ text. text) moment
@@ -49,13 +48,12 @@ pub(crate) fn follow<R: Runner>(
 fn ask<R: Runner>(
     alloc: Global,
     r: &mut R,
-    moment: u64,
+    moment: Moment,
     memory: &mut SessionMemory,
     act: Act,
     stage: Stage,
     out: &mut Vec<u8>,
 ) -> Result<Next, NoMemory>
-    requires moment { moment ≤ last_moment }
     requires fits { FitsAct act }
     requires set { IsSet memory.old stage }
     requires suits { Suits act stage }

@@ -1,6 +1,5 @@
 //! What a session does when it leaves.
 ghost use Rattle.std.specs.Prelude.{◌≡◌, ◌≤◌, ◌<◌, [], true, OnOk};
-ghost use Rattle.clock_ledger.specs.Charges.{last_moment};
 ghost use Rattle.one_server.specs.Acts.{FitsAct};
 ghost use Rattle.session_core.specs.Course.{Asks, nothing_told};
 ghost use Rattle.session_core.specs.Going.{Left, LeftInPart, Passed, Went};
@@ -11,6 +10,7 @@ ghost use Rattle.session_core.specs.Stages.{leaves, leaving_of};
 
 use crate::leaving_stage::{LeavingNext, LeavingStage, ask_going};
 use crate::session_memory::SessionMemory;
+use clock_ledger::Moment;
 use lobby_state::LobbyReply;
 use memory::NoMemory;
 use one_server::{Act, Reply, Runner};
@@ -24,10 +24,9 @@ use std::alloc::Global;
 pub(crate) fn leave<R: Runner>(
     alloc: Global,
     r: &mut R,
-    moment: u64,
+    moment: Moment,
     memory: &mut SessionMemory,
 ) -> Result<(), NoMemory>
-    requires { moment ≤ last_moment }
     ensures home { R.home r.new ≡ R.home r.old }
     ensures left { OnOk result (Left (leaving_course memory.old) moment (R.state r.old) (R.state r.new) memory.new) }
     ensures part { LeftInPart (leaving_course memory.old) moment (R.state r.old) (R.state r.new) }
@@ -53,12 +52,11 @@ pub(crate) fn leave<R: Runner>(
 fn ask_or_pass<R: Runner>(
     alloc: Global,
     r: &mut R,
-    moment: u64,
+    moment: Moment,
     memory: &mut SessionMemory,
     act: Act,
     stage: LeavingStage,
 ) -> (Result<(), NoMemory>, LeavingNext)
-    requires moment { moment ≤ last_moment }
     requires fits { FitsAct act }
     requires desk { LeavesDesk stage }
     ensures home { R.home r.new ≡ R.home r.old }

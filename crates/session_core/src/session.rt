@@ -1,6 +1,5 @@
 //! A session from its opening to its end.
 ghost use Rattle.std.specs.Prelude.{◌≡◌};
-ghost use Rattle.clock_ledger.specs.Charges.{last_moment};
 
 use crate::framing::{framed, framing_of};
 use crate::input::{Input, Wrote};
@@ -8,6 +7,7 @@ use crate::leaving::leave;
 use crate::session_memory::SessionMemory;
 use crate::standing::Standing;
 use crate::taking::take;
+use clock_ledger::Moment;
 use fics_words::Handle;
 use memory::NoMemory;
 use one_server::Runner;
@@ -33,7 +33,7 @@ impl Model for Session {
 }
 
 impl Session {
-    ghost use Rattle.std.specs.Prelude.{◌≡◌, ◌≤◌, [], false, IfOk, OnOk, OnErr};
+    ghost use Rattle.std.specs.Prelude.{◌≡◌, [], false, IfOk, OnOk, OnErr};
     ghost use Rattle.session_core.specs.Going.{Answered, Broke, Left, LeftInPart, departing};
     ghost use Rattle.session_core.specs.Inputs.{FitsInput, answer_text, input_course};
     ghost use Rattle.session_core.specs.Memory.{has_entered, is_gone, newcomer, seated};
@@ -75,10 +75,9 @@ impl Session {
     pub fn take<R: Runner>(
         &mut self,
         r: &mut R,
-        moment: u64,
+        moment: Moment,
         input: Input,
     ) -> Result<Wrote, NoMemory>
-        requires moment { moment ≤ last_moment }
         requires fits { FitsInput input }
         ensures home { R.home r.new ≡ R.home r.old }
         ensures answered { IfOk result (λ wrote. Answered (input_course input self.old)
@@ -103,8 +102,7 @@ impl Session {
     /// and at most 2^48. An act that runs out of memory is passed over, the others are made, and then the answer is
     /// running out of memory. Where Going is passed over, the places are those that the session remembers. Where the
     /// runner's mark is true, nothing but the giving up of a place can be passed over.
-    pub fn leave<R: Runner>(&mut self, r: &mut R, moment: u64) -> Result<(), NoMemory>
-        requires { moment ≤ last_moment }
+    pub fn leave<R: Runner>(&mut self, r: &mut R, moment: Moment) -> Result<(), NoMemory>
         ensures home { R.home r.new ≡ R.home r.old }
         ensures left { OnOk result
             (Left (departing self.old) moment (R.state r.old) (R.state r.new) self.new) }

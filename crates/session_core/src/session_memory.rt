@@ -231,7 +231,7 @@ impl SessionMemory {
     pub(crate) fn unobserve(&mut self, desk: u8)
         ensures { self.new ≡ without_observed desk self.old }
     {
-        self.observed = self.observed.without(desk);
+        self.observed.leave(desk);
     }
 
     /// Where the session looks on at the game of this desk, if it does.

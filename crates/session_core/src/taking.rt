@@ -1,6 +1,5 @@
 //! What a session does for an input.
-ghost use Rattle.std.specs.Prelude.{◌≡◌, ◌≤◌, OnOk};
-ghost use Rattle.clock_ledger.specs.Charges.{last_moment};
+ghost use Rattle.std.specs.Prelude.{◌≡◌, OnOk};
 ghost use Rattle.session_core.specs.Going.{Answered, Broke};
 ghost use Rattle.session_core.specs.Inputs.{FitsInput, input_course};
 
@@ -10,6 +9,7 @@ use crate::follow::follow;
 use crate::input::Input;
 use crate::leaving::leave;
 use crate::session_memory::SessionMemory;
+use clock_ledger::Moment;
 use memory::NoMemory;
 use one_server::Runner;
 use std::alloc::Global;
@@ -18,12 +18,11 @@ use std::alloc::Global;
 pub(crate) fn take<R: Runner>(
     alloc: Global,
     r: &mut R,
-    moment: u64,
+    moment: Moment,
     memory: &mut SessionMemory,
     input: Input,
     out: &mut Vec<u8>,
 ) -> Result<(), NoMemory>
-    requires moment { moment ≤ last_moment }
     requires fits { FitsInput input }
     ensures home { R.home r.new ≡ R.home r.old }
     ensures answered { OnOk result (Answered (input_course input memory.old) (λ text. text) moment

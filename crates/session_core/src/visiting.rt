@@ -1,6 +1,5 @@
 //! The visits of a round: each game of the session is asked for its news.
-ghost use Rattle.std.specs.Prelude.{◌≡◌, ◌≤◌, ◌++◌, ℕ, List, ◌∷◌, IfOk, OnErr, OnOk, true};
-ghost use Rattle.clock_ledger.specs.Charges.{last_moment};
+ghost use Rattle.std.specs.Prelude.{◌≡◌, ◌++◌, ℕ, List, ◌∷◌, IfOk, OnErr, OnOk, true};
 ghost use Rattle.lobby_state.specs.Desks.{IsDesk};
 ghost use Rattle.one_server.specs.Replies.{IsReply};
 ghost use Rattle.session_core.specs.Course.{Course};
@@ -14,6 +13,7 @@ ghost use Rattle.session_core.specs.declared.visit.Visit.{Visit};
 use crate::session_memory::SessionMemory;
 use crate::texts::put_news;
 use crate::visit::{Visit, at_game, clear_at};
+use clock_ledger::Moment;
 use linked_desk::{DeskAct, DeskReply};
 use memory::NoMemory;
 use one_server::{Reply, Runner};
@@ -24,11 +24,10 @@ use std::alloc::Global;
 pub(crate) fn visit_all<R: Runner>(
     alloc: Global,
     r: &mut R,
-    moment: u64,
+    moment: Moment,
     memory: &mut SessionMemory,
     out: &mut Vec<u8>,
 ) -> Result<(), NoMemory>
-    requires moment { moment ≤ last_moment }
     requires inside { has_entered memory.old ≡ true }
     ensures home { R.home r.new ≡ R.home r.old }
     ensures followed { OnOk result (Answered (rounding memory.old) (λ text. text) moment
@@ -48,12 +47,11 @@ pub(crate) fn visit_all<R: Runner>(
 fn visit_game<R: Runner>(
     alloc: Global,
     r: &mut R,
-    moment: u64,
+    moment: Moment,
     memory: &mut SessionMemory,
     visit: &Visit,
     out: &mut Vec<u8>,
 ) -> Result<(), NoMemory>
-    requires moment { moment ≤ last_moment }
     requires inside { has_entered memory.old ≡ true }
     requires desk { IsDesk visit.now.desk }
     ensures home { R.home r.new ≡ R.home r.old }
@@ -75,12 +73,11 @@ fn visit_game<R: Runner>(
 fn ask_news<R: Runner>(
     alloc: Global,
     r: &mut R,
-    moment: u64,
+    moment: Moment,
     memory: &mut SessionMemory,
     visit: &Visit,
     out: &mut Vec<u8>,
 ) -> Result<bool, NoMemory>
-    requires moment { moment ≤ last_moment }
     requires inside { has_entered memory.old ≡ true }
     requires desk { IsDesk visit.now.desk }
     ensures home { R.home r.new ≡ R.home r.old }
@@ -96,8 +93,12 @@ fn ask_news<R: Runner>(
 }
 
 /// Gives up a game from which nothing more will come.
-fn give_up<R: Runner>(alloc: Global, r: &mut R, moment: u64, visit: &Visit) -> Result<(), NoMemory>
-    requires moment { moment ≤ last_moment }
+fn give_up<R: Runner>(
+    alloc: Global,
+    r: &mut R,
+    moment: Moment,
+    visit: &Visit,
+) -> Result<(), NoMemory>
     requires desk { IsDesk visit.now.desk }
     ensures home { R.home r.new ≡ R.home r.old }
     ensures went { (rest : Course) (memory : MemoryState) (out : List ℕ) → has_entered memory ≡ true → OnOk result

@@ -1,5 +1,6 @@
 //! How a session begins to look on at a game, ceases to, and says something about one.
 ghost use Rattle.std.specs.Prelude.{◌≡◌, ◌≤◌, IfOk, false, length, true};
+ghost use Rattle.fics_words.specs.Line.{most_text_bytes};
 ghost use Rattle.lobby_state.specs.Acts.{FitsLobby};
 ghost use Rattle.lobby_state.specs.Desks.{IsDesk};
 ghost use Rattle.one_server.specs.Replies.{IsReply};
@@ -70,7 +71,7 @@ pub(crate) fn remark(
     text: &Line,
     out: &mut Vec<u8>,
 ) -> Result<First, NoMemory>
-    requires text { length text.now ≤ 800 }
+    requires text { length text.now ≤ most_text_bytes }
     requires inside { has_entered memory.now ≡ true }
     ensures settles { IfOk result (λ first. Settles (to_remark (remark_of text.now memory.now) memory.now)
         (first_course first memory.now) out.old.items out.new.items) }
@@ -84,7 +85,7 @@ pub(crate) fn remark(
 
 /// The line of a remark: the session's own name, and what it says.
 fn remark_line(memory: &SessionMemory, text: &Line, out: &Vec<u8>) -> Result<Line, NoMemory>
-    requires { length text.now ≤ 800 }
+    requires { length text.now ≤ most_text_bytes }
     ensures { IfOk result (λ line. line ≡ remark_text memory.now.standing text.now) }
 {
     let alloc = *out.allocator();

@@ -5,7 +5,7 @@ ghost use Rattle.session_core.specs.Ways.{way_of};
 use crate::own_commands::OwnCommand;
 use crate::reaction::Reaction;
 use chess_model::MoveWord;
-use command_words::Command;
+use command_words::{Bare, ByName, ByNumber, Command, MaybeByName, OnChannel, WithText};
 use fics_words::{Handle, HandleKey, Line};
 use linked_desk::{DeskAct, Offer};
 use lobby_state::{LobbyAct, PairAct, Var, WhichList};
@@ -47,77 +47,89 @@ pub(crate) fn way_of(command: Command) -> Way
     match command {
         Command::Nothing => Way::Round,
         Command::Move(word) => Way::Move(word),
-        Command::Match(name, terms) => Way::Server(Act::Lobby(LobbyAct::Match {
+        Command::Bare(which) => bare(which),
+        Command::ByName(which, name) => by_name(which, name),
+        Command::MaybeByName(which, name) => maybe_by_name(which, name),
+        Command::WithText(which, text) => with_text(which, text),
+        Command::ByNumber(which, number) => by_number(which, number),
+        Command::OnChannel(which, channel) => on_channel(which, channel),
+        Command::Alias { name, text } => Way::Own(OwnCommand::Alias { name, text }),
+        Command::Match(name, terms) => lobby(LobbyAct::Match {
             to: name.key(),
             terms,
-        })),
-        Command::Seek(terms) => Way::Server(Act::Lobby(LobbyAct::Post { terms })),
-        Command::Unseek(number) => Way::Server(Act::Lobby(LobbyAct::Unpost { number })),
-        Command::Sought => Way::Server(Act::Lobby(LobbyAct::Sought)),
-        Command::Play(number) => Way::Server(Act::Pair(PairAct::Play(number))),
-        Command::Who => Way::Server(Act::Lobby(LobbyAct::Who)),
-        Command::Accept(name) => accepting(name),
-        Command::Decline(name) => declining(name),
-        Command::Pending => Way::Server(Act::Lobby(LobbyAct::Pending)),
-        Command::Games => Way::Server(Act::Lobby(LobbyAct::Games)),
-        Command::Withdraw(name) => Way::Server(Act::Lobby(LobbyAct::Withdraw {
-            name: name.map(|name| name.key()),
-        })),
-        Command::Partner(name) => Way::Server(Act::Lobby(LobbyAct::Partner {
-            name: name.map(|name| name.key()),
-        })),
-        Command::Ptell(text) => Way::Server(Act::Lobby(LobbyAct::Ptell { text })),
-        Command::Tell(to, text) => Way::Server(Act::Lobby(LobbyAct::Tell { to: to.key(), text })),
-        Command::TellChannel(channel, text) => {
-            Way::Server(Act::Lobby(LobbyAct::TellChannel { channel, text }))
-        }
-        Command::InChannel(channel) => Way::Server(Act::Lobby(LobbyAct::InChannel { channel })),
-        Command::Channel { number, on } => Way::Server(Act::Lobby(LobbyAct::Channel {
-            channel: number,
-            on,
-        })),
-        Command::Censor { name, on } => Way::Server(list(WhichList::Censor, name.key(), on)),
-        Command::Noplay { name, on } => Way::Server(list(WhichList::Noplay, name.key(), on)),
-        Command::Shout(text) => Way::Server(Act::Lobby(LobbyAct::Shout { text })),
-        Command::SetOpen(on) => Way::Server(set(Var::Open, on)),
-        Command::SetShout(on) => Way::Server(set(Var::Shout, on)),
-        Command::SetSeek(on) => Way::Server(set(Var::Seek, on)),
-        Command::Draw => Way::Desk(DeskAct::Make { offer: Offer::Draw }),
-        Command::Abort => Way::Desk(DeskAct::Make {
-            offer: Offer::Abort,
         }),
-        Command::Adjourn => Way::Desk(DeskAct::Make {
-            offer: Offer::Adjourn,
-        }),
-        Command::Takeback(number) => Way::Desk(DeskAct::Make {
-            offer: Offer::Takeback(number),
-        }),
-        Command::Resign => Way::Desk(DeskAct::Resign),
-        Command::Flag => Way::Desk(DeskAct::Flag),
-        Command::Refresh => Way::Desk(DeskAct::Show),
-        Command::Kibitz(text) => Way::Remark(text),
         Command::ObserveGame(number) => Way::Observe(LobbyAct::FindGame { number }),
         Command::ObservePlayer(name) => Way::Observe(LobbyAct::Find { name: name.key() }),
-        Command::Unobserve(number) => Way::Unobserve(number),
-        Command::SimOpen => Way::Server(Act::Lobby(LobbyAct::SimOpen)),
-        Command::SimNext => Way::Server(Act::Lobby(LobbyAct::SimNext)),
-        Command::SimPrev => Way::Server(Act::Lobby(LobbyAct::SimPrev)),
-        Command::GoBoard(name) => Way::Server(Act::Lobby(LobbyAct::GoBoard { name: name.key() })),
-        Command::Stored => Way::Server(Act::Lobby(LobbyAct::Stored)),
-        Command::Resume(name) => Way::Server(Act::Pair(PairAct::Resume(name.key()))),
+        Command::Seek(terms) => lobby(LobbyAct::Post { terms }),
+        Command::SetOpen(on) => set(Var::Open, on),
+        Command::SetSeek(on) => set(Var::Seek, on),
+        Command::SetShout(on) => set(Var::Shout, on),
         Command::Style(style) => Way::Own(OwnCommand::Style(style)),
-        Command::Register(password) => Way::Server(Act::Lobby(LobbyAct::Register {
-            digest: digest_of(password.bytes()),
-        })),
-        Command::Alias { name, text } => Way::Own(OwnCommand::Alias { name, text }),
+        Command::Takeback(number) => offering(Offer::Takeback(number)),
+        Command::Tell(to, text) => lobby(LobbyAct::Tell { to: to.key(), text }),
+        Command::TellChannel(channel, text) => lobby(LobbyAct::TellChannel { channel, text }),
         Command::Unalias(name) => Way::Own(OwnCommand::Unalias(name)),
-        Command::Quit => Way::Leave,
+        Command::Unseek(number) => lobby(LobbyAct::Unpost { number }),
+    }
+}
+
+/// The way of a command that takes nothing.
+fn bare(which: Bare) -> Way
+    ensures { result ≡ way_of (Command.Bare which) }
+{
+    match which {
+        Bare::Abort => offering(Offer::Abort),
+        Bare::Adjourn => offering(Offer::Adjourn),
+        Bare::Draw => offering(Offer::Draw),
+        Bare::Flag => Way::Desk(DeskAct::Flag),
+        Bare::Games => lobby(LobbyAct::Games),
+        Bare::Pending => lobby(LobbyAct::Pending),
+        Bare::Quit => Way::Leave,
+        Bare::Refresh => Way::Desk(DeskAct::Show),
+        Bare::Resign => Way::Desk(DeskAct::Resign),
+        Bare::SimNext => lobby(LobbyAct::SimNext),
+        Bare::SimOpen => lobby(LobbyAct::SimOpen),
+        Bare::SimPrev => lobby(LobbyAct::SimPrev),
+        Bare::Sought => lobby(LobbyAct::Sought),
+        Bare::Stored => lobby(LobbyAct::Stored),
+        Bare::Who => lobby(LobbyAct::Who),
+    }
+}
+
+/// The way of a command that takes a handle.
+fn by_name(which: ByName, name: Handle) -> Way
+    ensures { result ≡ way_of (Command.ByName which name) }
+{
+    let name = name.key();
+    match which {
+        ByName::AddCensor => list(WhichList::Censor, name, true),
+        ByName::AddNoplay => list(WhichList::Noplay, name, true),
+        ByName::DropCensor => list(WhichList::Censor, name, false),
+        ByName::DropNoplay => list(WhichList::Noplay, name, false),
+        ByName::GoBoard => lobby(LobbyAct::GoBoard { name }),
+        ByName::Resume => Way::Server(Act::Pair(PairAct::Resume(name))),
+    }
+}
+
+/// The way of a command that takes a handle or nothing.
+fn maybe_by_name(which: MaybeByName, name: Option<Handle>) -> Way
+    ensures { result ≡ way_of (Command.MaybeByName which name) }
+{
+    match which {
+        MaybeByName::Accept => accepting(name),
+        MaybeByName::Decline => declining(name),
+        MaybeByName::Partner => lobby(LobbyAct::Partner {
+            name: name.map(|name| name.key()),
+        }),
+        MaybeByName::Withdraw => lobby(LobbyAct::Withdraw {
+            name: name.map(|name| name.key()),
+        }),
     }
 }
 
 /// The way of who accepts an offer.
 fn accepting(name: Option<Handle>) -> Way
-    ensures { result ≡ way_of (Command.Accept name) }
+    ensures { result ≡ way_of (Command.MaybeByName MaybeByName.Accept name) }
 {
     match name {
         None => Way::React(Reaction::Accepting),
@@ -127,27 +139,76 @@ fn accepting(name: Option<Handle>) -> Way
 
 /// The way of who declines an offer.
 fn declining(name: Option<Handle>) -> Way
-    ensures { result ≡ way_of (Command.Decline name) }
+    ensures { result ≡ way_of (Command.MaybeByName MaybeByName.Decline name) }
 {
     match name {
         None => Way::React(Reaction::Declining),
         Some(name) => {
             let name = Some(name.key());
-            Way::Server(Act::Lobby(LobbyAct::Decline { name }))
+            lobby(LobbyAct::Decline { name })
         }
     }
 }
 
-/// The setting of a variable.
-fn set(which: Var, on: bool) -> Act
-    ensures { result ≡ Act.Lobby (LobbyAct.Var which on) }
+/// The way of a command that takes a text.
+fn with_text(which: WithText, text: Line) -> Way
+    ensures { result ≡ way_of (Command.WithText which text) }
 {
-    Act::Lobby(LobbyAct::Var { which, on })
+    match which {
+        WithText::Kibitz => Way::Remark(text),
+        WithText::Ptell => lobby(LobbyAct::Ptell { text }),
+        WithText::Register => lobby(LobbyAct::Register {
+            digest: digest_of(text.bytes()),
+        }),
+        WithText::Shout => lobby(LobbyAct::Shout { text }),
+    }
+}
+
+/// The way of a command that takes a number.
+fn by_number(which: ByNumber, number: u16) -> Way
+    ensures { result ≡ way_of (Command.ByNumber which number) }
+{
+    match which {
+        ByNumber::Play => Way::Server(Act::Pair(PairAct::Play(number))),
+        ByNumber::Unobserve => Way::Unobserve(number),
+    }
+}
+
+/// The way of a command that takes a channel.
+fn on_channel(which: OnChannel, channel: u8) -> Way
+    ensures { result ≡ way_of (Command.OnChannel which channel) }
+{
+    match which {
+        OnChannel::Ask => lobby(LobbyAct::InChannel { channel }),
+        OnChannel::Join => lobby(LobbyAct::Channel { channel, on: true }),
+        OnChannel::Leave => lobby(LobbyAct::Channel { channel, on: false }),
+    }
+}
+
+/// The setting of a variable.
+fn set(which: Var, on: bool) -> Way
+    ensures { result ≡ Way.Server (Act.Lobby (LobbyAct.Var which on)) }
+{
+    lobby(LobbyAct::Var { which, on })
 }
 
 /// The change of a list.
-fn list(which: WhichList, name: HandleKey, on: bool) -> Act
-    ensures { result ≡ Act.Lobby (LobbyAct.List which name on) }
+fn list(which: WhichList, name: HandleKey, on: bool) -> Way
+    ensures { result ≡ Way.Server (Act.Lobby (LobbyAct.List which name on)) }
 {
-    Act::Lobby(LobbyAct::List { which, name, on })
+    lobby(LobbyAct::List { which, name, on })
+}
+
+/// An offer at the present place.
+fn offering(offer: Offer) -> Way
+    ensures { result ≡ Way.Desk (DeskAct.Make offer) }
+{
+    Way::Desk(DeskAct::Make { offer })
+}
+
+/// An act of the lobby.
+fn lobby(act: LobbyAct) -> Way
+    ensures { result ≡ Way.Server (Act.Lobby act) }
+{
+    Way::Server(Act::Lobby(act))
 }

@@ -5,6 +5,12 @@ use Rattle.std.specs.declared.option.Option.TheVariants.{None, Some}
 use Rattle.chess_model.specs.declared.moves.MoveWord.{MoveWord}
 use Rattle.command_words.specs.declared.command.Command.{Command}
 use Rattle.command_words.specs.declared.command.Command.TheVariants as command
+use Rattle.command_words.specs.declared.rows.Bare.TheVariants.{Quit}
+use Rattle.command_words.specs.declared.rows.ByName.TheVariants.{AddCensor}
+use Rattle.command_words.specs.declared.rows.ByNumber.TheVariants.{Play}
+use Rattle.command_words.specs.declared.rows.MaybeByName.TheVariants.{Accept, Decline}
+use Rattle.command_words.specs.declared.rows.OnChannel.TheVariants.{Ask}
+use Rattle.command_words.specs.declared.rows.WithText.TheVariants.{Kibitz}
 use Rattle.fics_words.specs.declared.refusal.Refusal.TheVariants as refusal
 use Rattle.linked_desk.specs.declared.acts.DeskAct.{DeskAct}
 use Rattle.lobby_state.specs.FindGame.{desk_of_game}
@@ -140,8 +146,13 @@ never_way (way.Own own) stamp memory other = never_round (own_answer own memory)
 never_way way.Leave stamp memory other = never_leaving memory
 
 saves_by_none : (asked : Command) → SavesBy (way_of asked) → ⊥
-saves_by_none (command.Accept None) is = is
-saves_by_none (command.Decline None) is = is
+saves_by_none (command.Bare Quit) is = is
+saves_by_none (command.ByName AddCensor name) is = is
+saves_by_none (command.MaybeByName Accept None) is = is
+saves_by_none (command.MaybeByName Decline None) is = is
+saves_by_none (command.WithText Kibitz text) is = is
+saves_by_none (command.ByNumber Play number) is = is
+saves_by_none (command.OnChannel Ask number) is = is
 saves_by_none _ is = is
 
 pub never_command : (asked : Command) (stamp : Option ℕ) (memory : MemoryState)

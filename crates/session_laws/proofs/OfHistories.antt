@@ -1,9 +1,10 @@
 -- Where no session but 0 tells save orders as saved among its own entries, the history has none of another's, in any
 -- part of it.
-use Rattle.std.proofs.Common.{◌≡◌, ◌≢◌, ℕ, ◌<◌, ◌≤◌, ◌==◌, ◌⊎◌, Bool, true, false, cond, List, [], ◌∷◌, ◌++◌, refl, sym}
+use Rattle.std.proofs.Common.{◌≡◌, ◌≢◌, ℕ, ◌<◌, ◌≤◌, ◌==◌, ◌⊎◌, Bool, true, false, cond, [], ◌∷◌, ◌++◌, refl, sym}
 use Rattle.std.proofs.Common.{subst, inl, inr, arith, eq-eqb}
 use Rattle.std.specs.List.{AllByRecursion}
 use Rattle.std.proofs.lemmas.Bool.{cases_lt}
+use Rattle.fics_words.proofs.Each.{each-back, each-front}
 use Rattle.histories.specs.declared.entry.Entry.{Entry}
 use Rattle.histories.specs.History.{calls_of}
 use Rattle.one_server.specs.declared.act.Timed.{Timed}
@@ -13,18 +14,7 @@ use Rattle.session_laws.proofs.OfLinks.{links_never_save}
 use Rattle.session_laws.specs.WhoSaves.{NoneSaves, OnlyTheStewardSaves, OthersServe}
 use Rattle.steward_core.specs.Agreement.{IsNoOthers, SaysSaved}
 
--- 1. Parts of a list.
-pub each_front : {T : Type 0} (P : T → Type 0) (front more : List T) → AllByRecursion P (front ++ more)
-    → AllByRecursion P front
-each_front P [] more all = tt
-each_front P (x ∷ front) more all = (all.0, each_front P front more all.1)
-
-pub each_behind : {T : Type 0} (P : T → Type 0) (front more : List T) → AllByRecursion P (front ++ more)
-    → AllByRecursion P more
-each_behind P [] more all = all
-each_behind P (x ∷ front) more all = each_behind P front more all.1
-
--- 2. From the entries of each session to the history.
+-- ---- From the entries of each session to the history.
 none_behind : (own : Bool) (e : Entry Timed Reply) (calls : Log) → NoneSaves (cond own (e ∷ calls) calls)
     → NoneSaves calls
 none_behind true e calls none = none.1
@@ -45,7 +35,7 @@ others_none number (e ∷ es) each = (
   others_none number es (λ k other. none_behind (e.session == k) e (calls_of k es) (each k other)),
 )
 
--- 3. A session serves a link, or it makes nothing.
+-- ---- A session serves a link, or it makes nothing.
 none_of : (last k : ℕ) (history : Log) → OthersServe last history → k ≢ 0 → (last < k) ⊎ (k ≤ last)
     → NoneSaves (calls_of k history)
 none_of last k history serve other (inl after) = subst NoneSaves (sym (serve.none_after k after)) tt
@@ -59,4 +49,4 @@ others_never_save last history serve =
 pub only_the_steward_saves : OnlyTheStewardSaves
 only_the_steward_saves last front part back serve =
     let all = others_never_save last (front ++ part ++ back) serve in
-    each_behind (IsNoOthers 0) front part (each_front (IsNoOthers 0) (front ++ part) back all)
+    each-back (IsNoOthers 0) front part (each-front (IsNoOthers 0) (front ++ part) back all)

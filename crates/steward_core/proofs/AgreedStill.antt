@@ -1,18 +1,19 @@
 -- A table that agrees with what a session has seen still agrees once the session has made acts.
-use Rattle.std.proofs.Common.{◌≡◌, ℕ, ◌+◌, ◌<◌, ◌≤◌, ◌==◌, Bool, true, false, cond, List, [], ◌∷◌, ◌++◌, Option, None, Some, filter, map, inl, inr, set, slice_get, refl, sym, ap, subst, ◌∙◌, append_assoc, arith}
+use Rattle.std.proofs.Common.{◌≡◌, ℕ, ◌+◌, ◌<◌, ◌≤◌, ◌==◌, true, false, cond, List, [], ◌∷◌, ◌++◌, Option, None, Some, filter, map, inl, inr, set, slice_get, refl, sym, ap, subst, ◌∙◌, append_assoc, arith}
 use Rattle.std.specs.Prelude.{nat_lt}
 use Rattle.std.specs.List.{AllByRecursion}
 use Rattle.std.proofs.lemmas.Bool.{eqb-false, lt-ltb, le-ltb}
+use Rattle.std.proofs.lemmas.List.{append_cancel_left}
 use Rattle.edge_traits.specs.Pairs.{Records}
 use Rattle.lobby_shelf.specs.Facts.{IsShelf, OrdersRise}
 use Rattle.lobby_shelf.specs.Shelf.{saved}
-use Rattle.lobby_shelf.specs.Wanted.{StoreMap as Records, table_with}
+use Rattle.lobby_shelf.specs.Wanted.{StoreMap, table_with}
 use Rattle.lobby_shelf.specs.declared.order.Order.{Order}
 use Rattle.lobby_shelf.proofs.Leading.{orders-lead}
 use Rattle.histories.specs.declared.entry.Entry.{Entry}
 use Rattle.histories.specs.Core.{after}
 use Rattle.histories.specs.History.{IsPrefix, Legal, calls_of, entry, state}
-use Rattle.histories.proofs.Histories.{calls-append, calls_own, legal_front, state-append, stays_whole, steps_once}
+use Rattle.histories.proofs.Histories.{calls-append, calls_own, legal_front, state-append, stays_whole, steps_once, legal_back}
 use Rattle.histories.proofs.Steps.{after_alone}
 use Rattle.lobby_state.specs.Lobby.{LobbyState}
 use Rattle.lobby_store.specs.Agreeing.{AgreesWith}
@@ -45,11 +46,6 @@ behind_first : {X : Type 0} → List X → List X
 behind_first [] = []
 behind_first (x ∷ xs) = xs
 
-pub append_cancel : {X : Type 0} (xs ys zs : List X) → xs ++ ys ≡ xs ++ zs → ys ≡ zs
-unfolding behind_first
-append_cancel [] ys zs e = e
-append_cancel (x ∷ xs) ys zs e = append_cancel xs ys zs (ap behind_first e)
-
 no_more : {X : Type 0} (xs : List X) (y : X) → xs ++ y ∷ [] ≡ y ∷ [] → xs ≡ []
 unfolding behind_first
 no_more [] y e = refl
@@ -79,10 +75,6 @@ not_saved k (e ∷ log) own others =
       | false ↦ λ is mine. (others.0 (eqb-false e.session k is), not_saved k log mine others.1)
     ] refl own
 
-pub legal_back : (xs : List Part) (es fs : Log) → Legal house xs (es ++ fs) → Legal house (state house xs es) fs
-legal_back xs [] fs legal = legal
-legal_back xs (e ∷ es) fs legal = legal_back (after house xs e.session e.act) es fs legal.2
-
 module _ (old new : RunnerState) (entries : Log) (made : Made old entries new) where
   same_number : new.number ≡ old.number
   same_number = ap (λ (s : RunnerState). s.number) made.same
@@ -92,7 +84,7 @@ module _ (old new : RunnerState) (entries : Log) (made : Made old entries new) w
 
   calls_gained : IsKnown old → (gained : Log) → new.seen ≡ old.seen ++ gained → calls_of old.number gained ≡ entries
   calls_gained known gained is =
-      append_cancel old.made (calls_of old.number gained) entries
+      append_cancel_left old.made (calls_of old.number gained) entries
       (ap (λ (l : Log). l ++ calls_of old.number gained) known.own
       ∙ sym (calls-append old.number old.seen gained)
       ∙ ap (λ (l : Log). calls_of old.number l) (sym is)
@@ -102,7 +94,7 @@ module _ (old new : RunnerState) (entries : Log) (made : Made old entries new) w
 
   legal_gained : (gained : Log) → new.seen ≡ old.seen ++ gained → Legal house (state_seen old) gained
   legal_gained gained is =
-      legal_back old.opening old.seen gained
+      legal_back house old.opening old.seen gained
       (subst (λ (log : Log). Legal house old.opening log) is (subst (λ (parts : List Part). Legal house parts new.seen) same_opening made.known.legal))
 
   state_gained : (gained : Log) → new.seen ≡ old.seen ++ gained → state_seen new ≡ state house (state_seen old) gained
@@ -132,7 +124,7 @@ agreed_unsaved (Some table) old new entries known made unsaved = λ whole none a
 split_none : (old mid new : RunnerState) → mid.number ≡ old.number → IsPrefix old.seen mid.seen → IsPrefix mid.seen new.seen → NoOthersSave old new
     → NoOthersSave old mid × NoOthersSave mid new
 split_none old mid new same p q none =
-    let both : none.gained ≡ p.0 ++ q.0 = append_cancel old.seen none.gained (p.0 ++ q.0)
+    let both : none.gained ≡ p.0 ++ q.0 = append_cancel_left old.seen none.gained (p.0 ++ q.0)
     (sym none.is ∙ sym q.1 ∙ ap (λ (l : Log). l ++ q.0) (sym p.1) ∙ append_assoc old.seen p.0 q.0) in
     let all = subst (AllByRecursion (IsNoOthers old.number)) both none.none in (
       record { gained = p.0; is = sym p.1; none = all_front (IsNoOthers old.number) p.0 q.0 all },
@@ -151,7 +143,7 @@ agreed_then (Some t0) (Some t1) (Some t2) s0 s1 s2 one two m n p q = λ whole no
 -- ---- orders that were carried out and told as saved
 
 -- carried out once, and to be carried out again, leads to the same
-put_prefix : (t0 t1 : Records) (lobby : LobbyState) (first rest : List Order) → lobby.shelf.orders ≡ first ++ rest → ((key : List ℕ) → t1 key ≡ table_with t0 first key)
+put_prefix : (t0 t1 : StoreMap) (lobby : LobbyState) (first rest : List Order) → lobby.shelf.orders ≡ first ++ rest → ((key : List ℕ) → t1 key ≡ table_with t0 first key)
     → AgreesWith t0 lobby → AgreesWith t1 lobby
 put_prefix t0 t1 lobby first rest is holds agreed key =
     ap (λ (orders : List Order). table_with t1 orders key) is
@@ -186,14 +178,14 @@ kept_behind low made upto (order ∷ (more ∷ first)) rest rise last =
     ap (λ t. cond t (order ∷ left) left) (le-ltb upto order.number (omega (arith, later)))
     ∙ kept_behind order.number made upto (more ∷ first) rest rise.1 last
 
-saved_prefix : (t0 t1 : Records) (lobby : LobbyState) (first rest : List Order) (upto : ℕ) → IsShelf lobby.shelf → lobby.shelf.orders ≡ first ++ rest → last_number first ≡ Some upto
+saved_prefix : (t0 t1 : StoreMap) (lobby : LobbyState) (first rest : List Order) (upto : ℕ) → IsShelf lobby.shelf → lobby.shelf.orders ≡ first ++ rest → last_number first ≡ Some upto
     → ((key : List ℕ) → t1 key ≡ table_with t0 first key) → AgreesWith t0 lobby → AgreesWith t1 (record lobby { shelf = saved lobby.shelf upto })
 saved_prefix t0 t1 lobby first rest upto shelf is last holds agreed key =
     let rise = subst (λ (orders : List Order). OrdersRise 0 lobby.shelf.made orders) is shelf.orders in
     ap (λ (orders : List Order). table_with t1 (filter (λ (o : Order). nat_lt upto o.number) orders) key) is
     ∙ ap (λ (orders : List Order). table_with t1 orders key) (kept_behind 0 lobby.shelf.made upto first rest rise last)
     ∙ same_table t1 (table_with t0 first) rest key (holds key)
-    ∙ ap (λ (t : Records). t key) (sym (table_with-append t0 first rest))
+    ∙ ap (λ (t : StoreMap). t key) (sym (table_with-append t0 first rest))
     ∙ ap (λ (orders : List Order). table_with t0 orders key) (sym is)
     ∙ agreed key
 
@@ -215,7 +207,7 @@ module _ (moment : ℕ) (orders carried left : List Order) (before after_all : R
       let a = says_saved moment upto in
       let e : Entry Timed Reply = entry old.number a answer in
       let others = ran.others in
-      let gained : none.gained ≡ others ++ e ∷ [] = append_cancel old.seen none.gained (others ++ e ∷ []) (sym none.is ∙ ran.ends ∙ append_assoc old.seen others (e ∷ [])) in
+      let gained : none.gained ≡ others ++ e ∷ [] = append_cancel_left old.seen none.gained (others ++ e ∷ []) (sym none.is ∙ ran.ends ∙ append_assoc old.seen others (e ∷ [])) in
       let is : new.seen ≡ old.seen ++ (others ++ e ∷ []) = ran.ends ∙ append_assoc old.seen others (e ∷ []) in
       let mine = calls_gained old new (e ∷ []) ran.grew known (others ++ e ∷ []) is in
       let nobody = no_more (calls_of old.number others) e (sym (calls_own old.number others e refl) ∙ mine) in

@@ -1,5 +1,5 @@
 -- One Clear after another.
-use Rattle.std.proofs.Common.{◌≡◌, ℕ, inl, inr, List, [], ◌∷◌, ◌++◌, map, refl, sym, ap, subst, ◌∙◌, append_assoc, append-nil}
+use Rattle.std.proofs.Common.{◌≡◌, ℕ, inl, inr, List, [], ◌∷◌, ◌++◌, map, refl, sym, ap, subst, ◌∙◌, append-nil}
 use Rattle.std.proofs.lemmas.List.{map-append}
 use Rattle.histories.specs.declared.entry.Entry.{Entry}
 use Rattle.histories.specs.History.{entry}
@@ -10,18 +10,7 @@ use Rattle.one_server.specs.Running.{IsKnown, Log, Made, Ran, RunnerState}
 use Rattle.steward_core.specs.declared.clearing.ClearingEnd.{ClearingEnd}
 use Rattle.steward_core.specs.declared.clearing.ClearingEnd.TheVariants.{Done, Memory}
 use Rattle.steward_core.specs.Clearing.{AreClears, AsksAndClears, Cleared, ClearsOne, IsPartOf, TakesClearing, acts_of, asks_in_use, clears, end_of_both, rows_told}
-
-pub made_none : (old : RunnerState) → IsKnown old → Made old [] old
-made_none old known = record { same = refl; begins = ([], append-nil old.seen); known = known; more = sym (append-nil old.made); only = λ e. sym (append-nil old.seen) }
-
-pub made_then : (old mid new : RunnerState) (one two : Log) → Made old one mid → Made mid two new → Made old (one ++ two) new
-made_then old mid new one two p q = record {
-  same = q.same ∙ ap (λ (s : RunnerState). record s { seen = new.seen; made = new.made }) p.same;
-  begins = (p.begins.0 ++ q.begins.0, sym (append_assoc old.seen p.begins.0 q.begins.0) ∙ ap (λ (l : Log). l ++ q.begins.0) p.begins.1 ∙ q.begins.1);
-  known = q.known;
-  more = q.more ∙ ap (λ (l : Log). l ++ two) p.more ∙ append_assoc old.made one two;
-  only = λ e. q.only (ap (λ (s : RunnerState). s.sole) p.same ∙ e) ∙ ap (λ (l : Log). l ++ two) (p.only e) ∙ append_assoc old.seen one two;
-}
+use Rattle.one_server.proofs.Made.{made_none, made_then}
 
 pub part_of_itself : {T : Type 0} (xs : List T) → IsPartOf xs xs
 part_of_itself [] = tt

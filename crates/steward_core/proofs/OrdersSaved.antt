@@ -1,5 +1,5 @@
 -- Rounds of save orders, one after another.
-use Rattle.std.proofs.Common.{◌≡◌, ℕ, ◌+◌, ◌*◌, ◌<◌, ◌≤◌, zero, suc, inl, inr, Bool, true, false, cond, List, [], ◌∷◌, ◌++◌, Option, None, Some, length, refl, sym, ap, subst, ◌∙◌, append-nil, length-append, arith, ◌⊎◌, ◌==◌, ◌^◌, ◌-◌}
+use Rattle.std.proofs.Common.{◌≡◌, ℕ, ◌+◌, ◌*◌, ◌<◌, ◌≤◌, suc, inl, inr, Bool, true, false, cond, List, [], ◌∷◌, ◌++◌, Option, None, Some, length, refl, sym, ap, subst, ◌∙◌, append-nil, length-append, arith, ◌⊎◌, ◌==◌, ◌^◌, ◌-◌}
 use Rattle.std.proofs.lemmas.Bool.{eqb-true, eqb-false}
 use Rattle.edge_traits.specs.Pairs.{Records}
 use Rattle.edge_traits.specs.declared.keeper.Kept.{Kept}
@@ -20,7 +20,7 @@ use Rattle.steward_core.specs.declared.saving.SavedTold.{SavedTold}
 use Rattle.steward_core.specs.declared.saving.SavedTold.TheVariants as told
 use Rattle.steward_core.specs.declared.turn.StewardEnd.{StewardEnd}
 use Rattle.steward_core.specs.declared.turn.StewardEnd.TheVariants.{Done, KeeperFault, Memory}
-use Rattle.steward_core.proofs.DesksCleared.{made_none, made_then}
+use Rattle.one_server.proofs.Made.{made_none, made_then}
 
 -- so many full rounds were run
 pub record HasSaved (moment rounds : ℕ) (before after : Option Records) (old new : RunnerState) : Type 0 where

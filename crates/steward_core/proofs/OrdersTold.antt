@@ -23,6 +23,7 @@ use Rattle.steward_core.specs.Agreement.{state_seen}
 use Rattle.steward_core.specs.Saving.{Tells, TellsUpTo, asks_orders, last_number, orders_in, says_saved}
 use Rattle.steward_core.specs.declared.saving.SavedTold.{SavedTold}
 use Rattle.steward_core.specs.declared.saving.SavedTold.TheVariants as told
+use Rattle.steward_core.proofs.StatesLead.{lobby_in}
 
 -- the orders are at most 16, and the first that stand in the lobby of the state
 pub record StandFirst (orders : List Order) (parts : List Part) : Type 0 where
@@ -37,13 +38,8 @@ legal_last xs (f ∷ es) e legal = legal_last (after house xs f.session f.act) e
 few_told : (orders : List Order) → length (take 16 orders) ≤ 16
 few_told orders = let long = length-take 16 orders in omega (arith, long)
 
-lobby_in : LobbyState → Option Part → LobbyState
-lobby_in other (Some (TheLobby lobby)) = lobby
-lobby_in other _ = other
-
 told_in : (xs : List Part) (k moment : ℕ) (answer : Reply) (part : Option Part) → slice_get xs 0 ≡ part → reply house xs k (asks_orders moment) ≡ Some answer
     → StandFirst (orders_in answer) (after house xs k (asks_orders moment))
-unfolding lobby_in
 told_in xs k moment answer None there told =
     let a = asks_orders moment in
     let bad : Some answer ≡ None = sym told ∙ ap (λ (part : Option Part). option_map (λ (p : Part). house.answer p (other_of house xs k a) k a) part) there in

@@ -1,5 +1,5 @@
 -- Acts that tell no orders as saved lead a store along, from state to state of the server.
-use Rattle.std.proofs.Common.{◌≡◌, ℕ, Bool, true, false, cond, List, [], ◌∷◌, ◌++◌, Option, None, Some, set, slice_get, refl, sym, ap, subst, ◌∙◌, arith}
+use Rattle.std.proofs.Common.{◌≡◌, ℕ, true, false, cond, List, [], ◌∷◌, Option, None, Some, set, slice_get, refl, sym, ap, subst, ◌∙◌, arith}
 use Rattle.std.specs.Prelude.{IfSome, Result, Ok, Err}
 use Rattle.std.specs.List.{AllByRecursion}
 use Rattle.fics_words.specs.declared.refusal.Refusal.{Refusal}
@@ -46,13 +46,12 @@ pub record LeadsParts (xs ys : List Part) : Type 0 where
   pub there_now : slice_get ys 0 ≡ Some (TheLobby new)
   pub leads : LeadsAlong old new
 
-pub lobby_in : LobbyState → Option Part → LobbyState
+abbrev pub lobby_in : LobbyState → Option Part → LobbyState
 lobby_in other (Some (TheLobby lobby)) = lobby
 lobby_in other _ = other
 
 -- the lobby of a state is one
 pub one_lobby : (xs : List Part) (one other : LobbyState) → slice_get xs 0 ≡ Some (TheLobby one) → slice_get xs 0 ≡ Some (TheLobby other) → one ≡ other
-unfolding lobby_in
 one_lobby xs one other p q = ap (lobby_in one) (sym p ∙ q)
 
 parts_then : (xs ys zs : List Part) → LeadsParts xs ys → LeadsParts ys zs → LeadsParts xs zs

@@ -1,10 +1,11 @@
 -- The acts by which a steward has save orders carried out. This server's own.
-use Rattle.std.specs.Prelude.{◌≡◌, ℕ, ◌+◌, ◌-◌, ◌*◌, ◌<◌, ◌^◌, ◌==◌, ◌⊎◌, Bool, if◌then◌else◌, List, [], ◌∷◌, ◌++◌, Option, None, Some, length, zero, suc}
+use Rattle.std.specs.Prelude.{◌≡◌, ℕ, ◌+◌, ◌-◌, ◌*◌, ◌<◌, ◌^◌, ◌==◌, ◌⊎◌, if◌then◌else◌, List, [], ◌∷◌, ◌++◌, Option, None, Some, length, zero, suc}
 use Rattle.edge_traits.specs.Pairs.{Records}
 use Rattle.edge_traits.specs.declared.keeper.Kept.{Kept}
 use Rattle.edge_traits.specs.declared.keeper.Kept.TheVariants as kept
 use Rattle.lobby_shelf.specs.declared.order.Order.{Order}
 use Rattle.histories.specs.declared.entry.Entry.{Entry}
+use Rattle.lobby_shelf.specs.Shelf.{orders_at_once}
 use Rattle.lobby_state.specs.declared.acts.LobbyAct.TheVariants.{Orders as AskOrders, Saved}
 use Rattle.lobby_state.specs.declared.acts.LobbyReply.TheVariants.{Orders}
 use Rattle.lobby_store.specs.Carrying.{Carries}
@@ -76,7 +77,7 @@ abbrev pub AreFullRounds : ℕ → ℕ → Log → List Order → Type 0
 AreFullRounds moment zero entries orders = (entries ≡ []) × (orders ≡ [])
 AreFullRounds moment (suc n) entries orders =
     (before : Log) × (after : Log) × (first : List Order) × (last : List Order) × AreFullRounds moment n before first
-    × IsSaveRound moment after last × (length last ≡ 16) × (entries ≡ before ++ after) × (orders ≡ first ++ last)
+    × IsSaveRound moment after last × (length last ≡ orders_at_once) × (entries ≡ before ++ after) × (orders ≡ first ++ last)
 
 -- how many answers a turn asks for at most
 abbrev pub most_answers : ℕ
@@ -86,8 +87,8 @@ most_answers = 2 ^ 28 - 1
 -- were the most answers; or a round was cut short; or the question ran out of memory
 abbrev pub EndsSaving : ℕ → StewardEnd → ℕ → Log → List Order → Type 0
 EndsSaving moment (Done count) rounds entries orders =
-    (IsSaveRound moment entries orders × (length orders < 16) × (count ≡ rounds * 16 + length orders))
-    ⊎ ((rounds ≡ most_answers) × (entries ≡ []) × (orders ≡ []) × (count ≡ rounds * 16))
+    (IsSaveRound moment entries orders × (length orders < orders_at_once) × (count ≡ rounds * orders_at_once + length orders))
+    ⊎ ((rounds ≡ most_answers) × (entries ≡ []) × (orders ≡ []) × (count ≡ rounds * orders_at_once))
 EndsSaving moment KeeperFault rounds entries orders = IsCutShort moment entries orders
 EndsSaving moment Memory rounds entries orders = IsCutShort moment entries orders ⊎ ((entries ≡ []) × (orders ≡ []))
 
@@ -134,7 +135,7 @@ abbrev pub round_of : Kept → SavedTold → ℕ → SaveRound
 round_of kept.Failed end count = round.KeeperFault
 round_of kept.Memory end count = round.Memory
 round_of kept.Done told.Memory count = round.Memory
-round_of kept.Done told.Done count = if count == 16 then round.Full else round.Last count
+round_of kept.Done told.Done count = if count == orders_at_once then round.Full else round.Last count
 
 -- the orders that were told were handed to a keeper: some were carried out, from the first one on, all exactly where
 -- that ended well, and then told as saved
@@ -153,9 +154,9 @@ pub record SavesTold (moment : ℕ) (end : SaveRound) (orders : List Order) (bef
 
 -- what a round carried out, by how it ended
 abbrev pub EndsRound : ℕ → SaveRound → Log → List Order → Type 0
-EndsRound moment round.Full entries orders = IsSaveRound moment entries orders × (length orders ≡ 16)
+EndsRound moment round.Full entries orders = IsSaveRound moment entries orders × (length orders ≡ orders_at_once)
 EndsRound moment (round.Last count) entries orders =
-    IsSaveRound moment entries orders × (length orders < 16) × (count ≡ length orders)
+    IsSaveRound moment entries orders × (length orders < orders_at_once) × (count ≡ length orders)
 EndsRound moment round.KeeperFault entries orders =
     IsCutShort moment entries orders × (length orders < length (orders_told entries))
 EndsRound moment round.Memory entries orders = IsCutShort moment entries orders ⊎ ((entries ≡ []) × (orders ≡ []))

@@ -1,10 +1,10 @@
 //! The first half of a turn of the steward: the desks whose players are gone are freed.
-ghost use Rattle.std.specs.Prelude.{◌≡◌, ◌≤◌, All};
-ghost use Rattle.clock_ledger.specs.Charges.{last_moment};
+ghost use Rattle.std.specs.Prelude.{◌≡◌, All};
 ghost use Rattle.lobby_state.specs.Desks.{IsDesk};
 ghost use Rattle.one_server.specs.Running.{IsKnown};
 ghost use Rattle.steward_core.specs.Clearing.{Cleared, ClearsOne, TakesClearing, end_of_both};
 
+use clock_ledger::Moment;
 use lobby_state::{DeskInUse, LobbyAct, LobbyReply, PairAct};
 use memory::NoMemory;
 use one_server::{Act, Reply, Runner};
@@ -22,8 +22,7 @@ pub enum ClearingEnd {
 /// Clears desks, all at `moment`, in milliseconds and at most 2^48: it asks which desks are in use, and
 /// makes a Clear for each of them. An act that runs out of memory is passed over, and then the answer is `Memory`. It
 /// waits where the runner does.
-pub fn clearing_turn<R: Runner>(alloc: Global, runner: &mut R, moment: u64) -> ClearingEnd
-    requires { moment ≤ last_moment }
+pub fn clearing_turn<R: Runner>(alloc: Global, runner: &mut R, moment: Moment) -> ClearingEnd
     ensures home { R.home runner.new ≡ R.home runner.old }
     ensures cleared { TakesClearing moment result (R.state runner.old) (R.state runner.new) }
 {
@@ -42,10 +41,9 @@ pub fn clearing_turn<R: Runner>(alloc: Global, runner: &mut R, moment: u64) -> C
 fn clear_each<R: Runner>(
     alloc: Global,
     runner: &mut R,
-    moment: u64,
+    moment: Moment,
     rows: &[DeskInUse],
 ) -> ClearingEnd
-    requires moment { moment ≤ last_moment }
     requires desks { All (λ row. IsDesk row.desk) rows.now }
     requires known { IsKnown (R.state runner.old) }
     ensures home { R.home runner.new ≡ R.home runner.old }
@@ -60,8 +58,12 @@ fn clear_each<R: Runner>(
 }
 
 /// Makes a Clear for a desk, or passes over it.
-fn clear_one<R: Runner>(alloc: Global, runner: &mut R, moment: u64, row: &DeskInUse) -> ClearingEnd
-    requires moment { moment ≤ last_moment }
+fn clear_one<R: Runner>(
+    alloc: Global,
+    runner: &mut R,
+    moment: Moment,
+    row: &DeskInUse,
+) -> ClearingEnd
     requires desk { IsDesk row.now.desk }
     ensures home { R.home runner.new ≡ R.home runner.old }
     ensures cleared { ClearsOne moment result row.now (R.state runner.old) (R.state runner.new) }

@@ -1,6 +1,5 @@
 //! The second half of a turn of the steward: save orders are carried out and told as saved.
 ghost use Rattle.std.specs.Prelude.{◌≡◌, ◌≤◌, length};
-ghost use Rattle.clock_ledger.specs.Charges.{last_moment};
 ghost use Rattle.edge_traits.specs.Faults.{Rose};
 ghost use Rattle.one_server.specs.Running.{IsKnown};
 ghost use Rattle.steward_core.specs.Agreement.{StaysAgreed};
@@ -9,9 +8,10 @@ ghost use Rattle.steward_core.specs.declared.saving.SaveRound.{SaveRound};
 ghost use Rattle.steward_core.specs.declared.turn.StewardEnd.{StewardEnd};
 
 use crate::turn::StewardEnd;
+use clock_ledger::Moment;
 use collections::Listed;
 use edge_traits::{Keeper, Kept};
-use lobby_shelf::Order;
+use lobby_shelf::{ORDERS_AT_ONCE, Order};
 use lobby_state::{LobbyAct, LobbyReply};
 use lobby_store::carry_out;
 use memory::NoMemory;
@@ -20,9 +20,6 @@ use std::alloc::Global;
 
 /// How many answers a turn asks for at most, so that what it counts stays below 2^32.
 const MOST_ANSWERS: u32 = (1 << 28) - 1;
-
-/// How many orders an answer tells where there are so many.
-const ORDERS_AT_ONCE: usize = 16;
 
 /// How a round of saving ended.
 #[derive(Clone, Copy)]
@@ -50,9 +47,8 @@ pub(crate) fn save_orders<R: Runner, P: Keeper>(
     alloc: Global,
     runner: &mut R,
     keeper: &mut P,
-    moment: u64,
+    moment: Moment,
 ) -> StewardEnd
-    requires { moment ≤ last_moment }
     ensures home { R.home runner.new ≡ R.home runner.old }
     ensures saving { TakesSaving moment result (P.table keeper.old) (P.table keeper.new) (R.state runner.old)
         (R.state runner.new) }
@@ -79,9 +75,8 @@ fn save_round<R: Runner, P: Keeper>(
     alloc: Global,
     runner: &mut R,
     keeper: &mut P,
-    moment: u64,
+    moment: Moment,
 ) -> SaveRound
-    requires moment { moment ≤ last_moment }
     requires known { IsKnown (R.state runner.old) }
     ensures home { R.home runner.new ≡ R.home runner.old }
     ensures round { RunsRound moment result (P.table keeper.old) (P.table keeper.new) (R.state runner.old)
@@ -113,10 +108,9 @@ fn save_told<R: Runner, P: Keeper>(
     alloc: Global,
     runner: &mut R,
     keeper: &mut P,
-    moment: u64,
+    moment: Moment,
     orders: &[Order],
 ) -> SaveRound
-    requires moment { moment ≤ last_moment }
     requires known { IsKnown (R.state runner.old) }
     requires few { length orders.now ≤ 16 }
     ensures home { R.home runner.new ≡ R.home runner.old }
@@ -149,8 +143,12 @@ fn round_of(end: Kept, told: SavedTold, count: usize) -> SaveRound
 }
 
 /// Tells these orders as saved: those up to the last of them. Nothing is told where there are none.
-fn tell_saved<R: Runner>(alloc: Global, runner: &mut R, moment: u64, orders: &[Order]) -> SavedTold
-    requires moment { moment ≤ last_moment }
+fn tell_saved<R: Runner>(
+    alloc: Global,
+    runner: &mut R,
+    moment: Moment,
+    orders: &[Order],
+) -> SavedTold
     ensures home { R.home runner.new ≡ R.home runner.old }
     ensures told { Tells moment orders.now result (R.state runner.old) (R.state runner.new) }
 {

@@ -1,6 +1,5 @@
 //! A whole turn of the steward.
 ghost use Rattle.std.specs.Prelude.{◌≡◌, ◌≤◌};
-ghost use Rattle.clock_ledger.specs.Charges.{last_moment};
 ghost use Rattle.edge_traits.specs.Faults.{Rose};
 ghost use Rattle.steward_core.specs.Agreement.{StaysAgreed};
 ghost use Rattle.steward_core.specs.Turn.{TakesTurn, end_of_turn};
@@ -8,6 +7,7 @@ ghost use Rattle.steward_core.specs.declared.turn.StewardEnd.{StewardEnd};
 
 use crate::clearing::{ClearingEnd, clearing_turn};
 use crate::saving::save_orders;
+use clock_ledger::Moment;
 use edge_traits::Keeper;
 use one_server::Runner;
 use std::alloc::Global;
@@ -32,9 +32,8 @@ pub fn steward_turn<R: Runner, P: Keeper>(
     alloc: Global,
     runner: &mut R,
     keeper: &mut P,
-    moment: u64,
+    moment: Moment,
 ) -> StewardEnd
-    requires { moment ≤ last_moment }
     ensures home { R.home runner.new ≡ R.home runner.old }
     ensures turn { TakesTurn moment result (P.table keeper.old) (P.table keeper.new) (R.state runner.old)
         (R.state runner.new) }
@@ -52,9 +51,8 @@ pub fn turn_by_halves<R: Runner, P: Keeper>(
     alloc: Global,
     runner: &mut R,
     keeper: &mut P,
-    moment: u64,
+    moment: Moment,
 ) -> (ClearingEnd, StewardEnd)
-    requires { moment ≤ last_moment }
     ensures home { R.home runner.new ≡ R.home runner.old }
     ensures turn { (turn : TakesTurn moment (end_of_turn result.0 result.1) (P.table keeper.old) (P.table keeper.new)
         (R.state runner.old) (R.state runner.new)) × (turn.turn.cleared ≡ result.0) }

@@ -4,9 +4,7 @@ use Rattle.std.specs.Prelude.{All}
 use Rattle.std.specs.Fmt.{digits, digits_onto, digit_glyph, signed_decimal}
 use Rattle.std.proofs.lemmas.Bool.{cond_both, cond_below}
 use Rattle.std.proofs.lemmas.List.Elements.{All-nil, All-cons, All-weaker}
-
-abbrev pub IsDigit : ℕ → Type 0
-IsDigit byte = (48 ≤ byte) × (byte ≤ 57)
+use Rattle.fics_words.proofs.Digits.{IsDigit}
 
 -- a digit, or a minus
 abbrev pub IsDigitOrMinus : ℕ → Type 0

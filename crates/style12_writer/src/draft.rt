@@ -2,6 +2,7 @@
 ghost use Rattle.std.specs.Prelude.{◌≡◌, ◌+◌, ◌≤◌, [], ◌∷◌, ◌++◌, IfOk, IsTrue, decimal, length};
 ghost use Rattle.std.specs.Fmt.{signed_decimal};
 ghost use Rattle.std.specs.List.{list_all};
+ghost use Rattle.fics_words.specs.Handle.{most_handle_letters};
 ghost use Rattle.chess_model.specs.MoveText.{is_printable};
 ghost use Rattle.style12_writer.specs.Room.{HasRoom};
 
@@ -68,9 +69,9 @@ impl Draft {
 
     /// Appends a player's name.
     pub(crate) fn name(&mut self, handle: &Handle)
-        requires room { HasRoom 17 self.old }
+        requires room { HasRoom most_handle_letters self.old }
         ensures text { self.new ≡ self.old ++ handle.now }
-        ensures most { length self.new ≤ length self.old + 17 }
+        ensures most { length self.new ≤ length self.old + most_handle_letters }
     {
         self.text(handle.letters());
     }

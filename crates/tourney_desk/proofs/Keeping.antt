@@ -1,5 +1,5 @@
 -- What the calls keep of a tourney.
-use Rattle.std.proofs.Common.{◌≡◌, ℕ, ◌+◌, ◌-◌, ◌<◌, ◌≤◌, Bool, true, false, List, [], ◌∷◌, ◌++◌, length, get_or, sym, ap, ◌∙◌, arith, max}
+use Rattle.std.proofs.Common.{◌≡◌, ℕ, ◌+◌, ◌-◌, ◌<◌, ◌≤◌, Bool, true, false, List, [], ◌∷◌, ◌++◌, length, get_or, sym, ap, ◌∙◌, arith}
 use Rattle.std.specs.Prelude.{All, AllPairs, count_by, ◌==◌, ◌&&◌}
 use Rattle.std.specs.List.{list_any}
 use Rattle.std.proofs.lemmas.Bool.{and_from, and_parts, eq-eqb, eqb-true, false_from_ne_true, or_from, or_parts, both_ways}
@@ -88,17 +88,6 @@ module _ (t : TourneyState) (space : ℕ) (h : IsTourney t space) (started : t.s
         apart = added_apart;
         room = λ e. let all : 4096 ≤ length t.results + space = h.room started in omega (arith, all, more, place);
       }
-
--- the start
-pub kept_start : (t : TourneyState) (space : ℕ) → IsTourney t space → 2 ≤ length t.players → IsTourney (record t { started = true }) (max space 4096)
-kept_start t space h two = record {
-  few = h.few;
-  enough = λ e. two;
-  waits = λ e. absurd (let no : true ≡ false = e in cc);
-  games = h.games;
-  apart = h.apart;
-  room = λ e. omega arith;
-}
 
 -- after the start nobody has more than 64 results
 pub games_few : (t : TourneyState) (space : ℕ) → IsTourney t space → t.started ≡ true → (player : ℕ) → count_by (has_player player) t.results ≤ 64

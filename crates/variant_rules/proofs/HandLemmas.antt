@@ -1,9 +1,7 @@
 -- The counts of a hand.
-use Rattle.std.proofs.Common.{arith, ◌≡◌, ◌≢◌, ◌≤◌, sym, ◌∙◌}
+use Rattle.std.proofs.Common.{arith, ◌≤◌}
 use Rattle.chess_model.specs.declared.man.Kind.{Kind}
 use Rattle.chess_model.specs.declared.man.Kind.TheVariants.{Pawn, Knight, Bishop, Rook, Queen, King}
-use Rattle.chess_model.specs.declared.variant.Variant.{Variant}
-use Rattle.chess_model.specs.declared.variant.Variant.TheVariants.{Crazyhouse, Bughouse}
 use Rattle.chess_model.specs.declared.hand.Hand.{Hand}
 use Rattle.chess_model.specs.Holdings.{count_in}
 use Rattle.chess_model.specs.Census.{men_in}
@@ -15,9 +13,3 @@ count_in-le h Bishop = omega arith
 count_in-le h Rook = omega arith
 count_in-le h Queen = omega arith
 count_in-le h King = omega arith
-
-differ : Crazyhouse ≢ Bughouse
-differ e = cc
-
-pub one_variant : (v : Variant) → v ≡ Crazyhouse → v ≢ Bughouse
-one_variant v crazy bug = differ (sym crazy ∙ bug)

@@ -1,5 +1,5 @@
 -- What a pawn reaches by taking in passing.
-use Rattle.std.proofs.Common.{arith, ◌≡◌, ◌↔◌, ℕ, ◌⊎◌, inl, inr, sym, ap, Option, Some, None}
+use Rattle.std.proofs.Common.{◌≡◌, ◌↔◌, ℕ, ◌⊎◌, inl, inr, sym, ap, Option, Some, None}
 use Rattle.chess_model.specs.declared.man.Colour.{Colour}
 use Rattle.chess_model.specs.declared.man.Kind.TheVariants.{Pawn}
 use Rattle.chess_model.specs.Placement.{Placement}

@@ -1,6 +1,6 @@
 use Rattle.std.proofs.Common.{◌≡◌, take}
 use Rattle.std.specs.Prelude.{filter}
-use Rattle.cmd_lines.specs.Lines.{is_kept}
+use Rattle.fics_words.specs.Pieces.{is_kept}
 use Rattle.cmd_replay.proofs.tagged.kept_of.Given as goal
 
 abbrev pub invariant-loop-byte : goal.invariant-loop-byte

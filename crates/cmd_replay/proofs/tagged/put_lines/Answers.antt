@@ -1,6 +1,7 @@
 use Rattle.std.proofs.Common.{◌≡◌, ◌∷◌, ◌++◌, ℕ, List, sym, ap, ◌∙◌}
 use Rattle.std.proofs.lemmas.Result.{on_ok_weaker}
-use Rattle.cmd_lines.specs.Lines.{HasNoLineFeed, pieces}
+use Rattle.fics_words.specs.Pieces.{pieces}
+use Rattle.cmd_lines.specs.Lines.{HasNoLineFeed}
 use Rattle.cmd_replay.specs.Tagged.{shown, tagged_line, tagged_lines}
 use Rattle.cmd_replay.proofs.Showing.{one_line_shown, last_shown}
 use Rattle.cmd_replay.proofs.tagged.put_lines.Goals as goal

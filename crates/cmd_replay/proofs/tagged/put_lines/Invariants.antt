@@ -1,5 +1,5 @@
 use Rattle.std.proofs.Common.{◌≡◌, ◌++◌, length}
-use Rattle.cmd_lines.specs.Lines.{pieces}
+use Rattle.fics_words.specs.Pieces.{pieces}
 use Rattle.cmd_replay.specs.Tagged.{shown, tagged_lines}
 use Rattle.cmd_replay.proofs.tagged.put_lines.Given as goal
 

@@ -16,8 +16,9 @@ use Rattle.serve_core.proofs.Ending.{LastEnds, closes_by, closes_unready, comes,
 use Rattle.serve_core.proofs.Keeping.{kept_first}
 use Rattle.serve_core.proofs.Tending.{tended_same}
 use Rattle.serve_core.proofs.Turning.{turns_counted}
-use Rattle.serve_core.proofs.Writing.{front_of_half, wrote_front, wrote_whole}
+use Rattle.serve_core.proofs.Writing.{wrote_front, wrote_whole}
 use Rattle.serve_core.proofs.serving.serve_hall.Goals as goal
+use Rattle.cmd_lines.proofs.Sending.{AppendsFront-longer}
 
 pub returns-in-All-clause-served : goal.returns-in-All-clause-served
 returns-in-All-clause-served g c =
@@ -75,7 +76,7 @@ returns-in-Failed-clause-served g c =
     rw (c.noted-in-Failed.ensures) all
 
 pub returns-in-Failed-clause-text_part : goal.returns-in-Failed-clause-text_part
-returns-in-Failed-clause-text_part g c = front_of_half (g.K.Sink.written c.args.sink.now) (g.K.Sink.written c.say_ready.new.sink) ready_text closed_text c.in-Failed.ensures.wrote
+returns-in-Failed-clause-text_part g c = AppendsFront-longer (g.K.Sink.written c.args.sink.now) (g.K.Sink.written c.say_ready.new.sink) ready_text closed_text c.in-Failed.ensures.wrote
 
 pub returns-in-Memory-clause-served : goal.returns-in-Memory-clause-served
 returns-in-Memory-clause-served g c =
@@ -96,7 +97,7 @@ returns-in-Memory-clause-served g c =
     rw (c.noted-in-Memory.ensures, c.end_of-end-in-Memory.ensures) all
 
 pub returns-in-Memory-clause-text_part : goal.returns-in-Memory-clause-text_part
-returns-in-Memory-clause-text_part g c = front_of_half (g.K.Sink.written c.args.sink.now) (g.K.Sink.written c.say_ready.new.sink) ready_text closed_text c.in-Memory.ensures.wrote
+returns-in-Memory-clause-text_part g c = AppendsFront-longer (g.K.Sink.written c.args.sink.now) (g.K.Sink.written c.say_ready.new.sink) ready_text closed_text c.in-Memory.ensures.wrote
 
 pub returns-in-All-clause-write_told : goal.returns-in-All-clause-write_told
 returns-in-All-clause-write_told g c =

@@ -24,8 +24,8 @@ returns-in-End-clause-so_far g c =
     broke_there c.args.moment (course_of c.args.first c.args.memory.now) (course_of c.loop-next.next c.loop-next.memory)
     (g.R.Runner.state c.args.r.now) c.args.memory.now c.args.out.now.items (g.R.Runner.state c.loop-next.r) c.loop-next.memory c.loop-next.out.items c.loop-next.invariant.went
 
-pub visit_all-requires-clause-inside : goal.visit_all-requires-clause-inside
-visit_all-requires-clause-inside g c = subst (IsPosed c.loop-next.memory) c.in-Visits.is c.loop-next.invariant.ready
+pub visit_all-requires : goal.visit_all-requires
+visit_all-requires g c = record { inside = subst (IsPosed c.loop-next.memory) c.in-Visits.is c.loop-next.invariant.ready }
 
 pub returns-in-Visits-clause-followed : goal.returns-in-Visits-clause-followed
 returns-in-Visits-clause-followed g c =

@@ -1,4 +1,4 @@
-use Rattle.std.proofs.Common.{ℕ, ◌+◌, suc, sym, subst, ◌∙◌, refl, arith, add-one}
+use Rattle.std.proofs.Common.{◌+◌, sym, subst, ◌∙◌, refl, arith, add-one}
 use Rattle.steward_core.specs.Saving.{RunsRound, TakesSaving}
 use Rattle.steward_core.specs.declared.saving.SaveRound.{SaveRound}
 use Rattle.steward_core.specs.declared.turn.StewardEnd.TheVariants.{Done}

@@ -1,4 +1,4 @@
-use Rattle.std.proofs.Common.{Option, Some, sym, ap, ◌∙◌}
+use Rattle.std.proofs.Common.{sym, ap, ◌∙◌}
 use Rattle.std.specs.Option.{option_copied}
 use Rattle.steward_core.proofs.OrdersTold.{says_last, tells_done, tells_short}
 use Rattle.steward_core.proofs.saving.tell_saved.Goals.{in-Ok, in-Err}

@@ -1,6 +1,6 @@
 use Rattle.std.proofs.Common.{◌++◌, refl}
 use Rattle.steward_core.proofs.AgreedStill.{agreed_then, agreed_unsaved, clearing_unsaved}
-use Rattle.steward_core.proofs.DesksCleared.{made_then}
+use Rattle.one_server.proofs.Made.{made_then}
 use Rattle.steward_core.proofs.turn.turn_by_halves.Goals as goal
 
 pub returns-clause-turn : goal.returns-clause-turn

@@ -3,7 +3,8 @@ use Rattle.chess_model.specs.declared.moves.Move.{Move}
 use Rattle.chess_model.specs.Allowed.{Allowed}
 use Rattle.chess_model.specs.Position.{Position, Stands}
 use Rattle.cmd_bot.specs.Game.{on_board}
-use Rattle.cmd_bot.proofs.Games.{stands_at, stands_on}
+use Rattle.cmd_bot.proofs.Games.{stands_at}
+use Rattle.chess_model.proofs.StandsAfter.{stands_on}
 use Rattle.cmd_bot.proofs.game.Game.make.Goals as goal
 
 pub make-requires : goal.make-requires

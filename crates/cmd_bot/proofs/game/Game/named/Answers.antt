@@ -1,7 +1,8 @@
 use Rattle.std.proofs.Common.{sym, ◌∙◌}
 use Rattle.std.specs.Prelude.{Ok, Err}
 use Rattle.cmd_bot.specs.Game.{position_of}
-use Rattle.cmd_bot.proofs.Games.{answer_allowed, no_word, stands_at, word_answered, word_over}
+use Rattle.cmd_bot.proofs.Games.{no_word, stands_at, word_answered, word_over}
+use Rattle.chess_model.proofs.StandsAfter.{answer_allowed}
 use Rattle.cmd_bot.proofs.game.Game.named.Goals as goal
 
 pub returns-in_default-clause-value : goal.returns-in_default-clause-value

@@ -1,7 +1,7 @@
 use Rattle.std.proofs.Common.{◌≡◌, ◌++◌, ℕ, true, false, inl, inr, arith}
 use Rattle.std.specs.Prelude.{◌==◌, ◌⊎◌}
 use Rattle.std.proofs.lemmas.Bool.Decides.{nat_tests}
-use Rattle.cmd_lines.specs.Lines.{is_kept}
+use Rattle.fics_words.specs.Pieces.{is_kept}
 use Rattle.cmd_lines.proofs.Feeding.{AfterFeed-line, Progress-dropped, Progress-pushed}
 use Rattle.cmd_lines.proofs.machine.Machine.feed_byte.Goals as goal
 

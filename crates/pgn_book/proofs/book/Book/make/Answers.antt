@@ -4,7 +4,8 @@ use Rattle.chess_model.specs.Allowed.{Allowed}
 use Rattle.chess_model.specs.Position.{Position, Stands}
 use Rattle.pgn_book.specs.Games.{on_board}
 use Rattle.pgn_book.specs.Reading.{Book}
-use Rattle.pgn_book.proofs.Resolving.{at_moves, stands_on}
+use Rattle.pgn_book.proofs.Resolving.{at_moves}
+use Rattle.chess_model.proofs.StandsAfter.{stands_on}
 use Rattle.pgn_book.proofs.book.Book.make.Goals as goal
 
 pub make-requires : goal.make-requires

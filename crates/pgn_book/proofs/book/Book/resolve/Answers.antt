@@ -2,7 +2,8 @@ use Rattle.std.proofs.Common.{ap}
 use Rattle.std.specs.Prelude.{Ok, Err}
 use Rattle.pgn_book.specs.Reading.{Book}
 use Rattle.pgn_book.specs.Games.{position_of}
-use Rattle.pgn_book.proofs.Resolving.{at_moves, word_read, no_word, answer_allowed}
+use Rattle.pgn_book.proofs.Resolving.{at_moves, word_read, no_word}
+use Rattle.chess_model.proofs.StandsAfter.{answer_allowed}
 use Rattle.pgn_book.proofs.book.Book.resolve.Goals as goal
 
 pub returns-in-Ok-clause-value : goal.returns-in-Ok-clause-value

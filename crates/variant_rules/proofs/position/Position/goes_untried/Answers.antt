@@ -1,4 +1,4 @@
-use Rattle.std.proofs.Common.{◌≢◌, ◌<◌, true, rules, sym, ap, ◌∙◌, None}
+use Rattle.std.proofs.Common.{◌≢◌, ◌<◌, rules, sym, ap, ◌∙◌, None}
 use Rattle.std.proofs.lemmas.Bool.{true≢false, ltb-true}
 use Rattle.chess_model.specs.declared.man.Kind.TheVariants.{Pawn}
 use Rattle.chess_model.specs.MoveList.{is_pawn_kind}

@@ -1,8 +1,7 @@
 use Rattle.std.proofs.Common.{take, sym, ap, ◌∙◌}
-use Rattle.fics_words.proofs.Positions.{place-found, place-missing}
-use Rattle.cmd_tourney.specs.Lines.{is_blank}
-use Rattle.cmd_lines.proofs.Cuts.{after_is, after_none, before_none}
-use Rattle.cmd_tourney.proofs.reading.cut.Goals as goal
+use Rattle.cmd_lines.proofs.Cuts.{after_is, after_none, before_none, place-found, place-missing}
+use Rattle.cmd_lines.specs.Words.{is_blank}
+use Rattle.cmd_lines.proofs.words.cut.Goals as goal
 
 pub returns-in-Some-clause-word : goal.returns-in-Some-clause-word
 returns-in-Some-clause-word c =
