@@ -1,5 +1,6 @@
 #!/usr/bin/env python3
-"""Acts answered a second over the server of one thread and over the hall, by `pace_hall`.
+"""Acts answered a second over the server of one thread and over the hall, and what a member does in a full hall, by
+`pace_hall`.
 
 Usage: bench.py [PROGRAM]
 """
@@ -16,6 +17,8 @@ PROGRAM = os.path.join(TOP, "crates", "pace_hall", "out", "pace_hall")
 THREADS = [1, 2, 4, 8]
 LOOK_ROUNDS = 50_000
 MOVE_ROUNDS = 600
+# what a member does in a full hall, and how often
+DEEDS = {"enter": 2_000, "match": 2_000, "start": 2_000, "post": 2_000, "partner": 2_000, "join": 2_000, "tell": 2_000}
 RUNS = 5
 
 
@@ -26,7 +29,7 @@ def run(program, words):
     said = process.stdout.read()
     _, status, used = os.wait4(process.pid, 0)
     seconds = time.perf_counter() - start
-    if status != 0 or not said.endswith("acts\n"):
+    if status != 0 or not said.endswith(("acts\n", "rounds\n")):
         sys.exit(f"bench: {' '.join(map(str, words))}: status {status}, {said!r}")
     return seconds, used.ru_utime + used.ru_stime, int(said.split()[0])
 
@@ -56,6 +59,15 @@ def cases():
         yield f"moves: hall, {threads} apart", "apart", "moves", threads, 128 // threads, MOVE_ROUNDS
 
 
+def full_hall(program):
+    """Prints what each deed takes in a full hall, beyond what it takes to fill the hall."""
+    print(f"{'in a full hall':<28}{'rounds':>10}{'us of processor a round':>26}")
+    _, filled, _ = least(program, ["full", "enter", 0])
+    for deed, rounds in DEEDS.items():
+        _, busy, _ = least(program, ["full", deed, rounds])
+        print(f"{deed:<28}{rounds:>10}{1e6 * (busy - filled) / rounds:>26.2f}", flush=True)
+
+
 def main():
     program = os.path.abspath(sys.argv[1]) if len(sys.argv) > 1 else PROGRAM
     if not os.access(program, os.X_OK):
@@ -71,6 +83,7 @@ def main():
             f"{1e6 * busy / acts:>17.2f}{busy / acts / first[1]:>8.2f}",
             flush=True,
         )
+    full_hall(program)
 
 
 if __name__ == "__main__":

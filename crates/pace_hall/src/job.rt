@@ -2,6 +2,8 @@
 
 ghost use Rattle.std.specs.Prelude.{◌≤◌};
 
+use crate::deeds::{Deed, deed_of};
+
 /// Where the acts are made.
 #[derive(Clone, Copy, Debug, PartialEq, Eq)]
 pub enum Place {
@@ -57,6 +59,16 @@ pub fn job_of(words: &[String]) -> Option<Job> {
         tables: words[3].as_str().parse::<u8>().ok()?,
         rounds: words[4].as_str().parse::<u32>().ok()?,
     })
+}
+
+/// The deed in a full hall of these words, and how often it is done, if they name one.
+pub fn full_job_of(words: &[String]) -> Option<(Deed, u32)> {
+    if words.len() != 3 || words[0].as_str() != "full" {
+        return None;
+    }
+    let deed = deed_of(words[1].as_str())?;
+    let rounds = words[2].as_str().parse::<u32>().ok()?;
+    Some((deed, rounds))
 }
 
 fn place_of(word: &str) -> Option<Place> {

@@ -6,6 +6,7 @@ ghost use Rattle.lobby_state.specs.Desks.{IsDesk};
 use crate::job::What;
 use crate::table::Table;
 use chess_model::{Colour, MoveWord, Square, Terms, Variant};
+use clock_ledger::Moment;
 use fics_words::{Fail, Handle, Refusal};
 use linked_desk::DeskAct;
 use lobby_state::{LobbyAct, PairAct};
@@ -33,9 +34,9 @@ pub fn sit_down<T: Table>(alloc: Global, table: &mut T, number: u8) -> Result<()
     };
     let to = black.key();
     let act = Act::Lobby(LobbyAct::Match { to, terms });
-    let _done = table.run(alloc, Colour::White, 0, act)?;
+    let _done = table.run(alloc, Colour::White, Moment::new(0), act)?;
     let act = Act::Pair(PairAct::Accept(None));
-    let _started = table.run(alloc, Colour::Black, 0, act)?;
+    let _started = table.run(alloc, Colour::Black, Moment::new(0), act)?;
     Ok(())
 }
 
@@ -44,7 +45,7 @@ fn enter<T: Table>(alloc: Global, table: &mut T, colour: Colour, name: Handle) -
         name: Some(name),
         digest: None,
     });
-    let _entered = table.run(alloc, colour, 0, act)?;
+    let _entered = table.run(alloc, colour, Moment::new(0), act)?;
     Ok(())
 }
 
@@ -144,7 +145,7 @@ fn at_desk<T: Table>(
         serial: u64::from(desk),
         act,
     };
-    let _reply = table.run(alloc, colour, u64::from(number), act)?;
+    let _reply = table.run(alloc, colour, Moment::new(u64::from(number)), act)?;
     Ok(())
 }
 

@@ -1,6 +1,7 @@
 //! Tables: two players who make their acts somewhere.
 
 use chess_model::Colour;
+use clock_ledger::Moment;
 use hall_core::HallSeat;
 use memory::NoMemory;
 use one_server::{Act, OneServer, Reply, Runner};
@@ -10,17 +11,17 @@ use turn_chain::OpenGate;
 
 /// Two players who make their acts somewhere.
 pub trait Table {
-    ghost use Rattle.one_server.specs.Acts.{IsEvent};
+    ghost use Rattle.one_server.specs.Acts.{FitsAct};
 
     /// Makes an act of the player with this colour.
     fn run(
         &mut self,
         alloc: Global,
         colour: Colour,
-        moment: u64,
+        moment: Moment,
         act: Act,
     ) -> Result<Reply, NoMemory>
-        requires { IsEvent (record { moment = moment; act = act }) };
+        requires { FitsAct act };
 }
 
 /// Two players at the server of one thread.
@@ -38,14 +39,14 @@ impl Table for ServerTable<'_> {
         &mut self,
         _alloc: Global,
         colour: Colour,
-        moment: u64,
+        moment: Moment,
         act: Act,
     ) -> Result<Reply, NoMemory> {
         let session = match colour {
             Colour::White => self.white,
             Colour::Black => self.black,
         };
-        self.server.run(session, moment, act)
+        self.server.run(session, moment.millis(), act)
     }
 }
 
@@ -61,7 +62,7 @@ impl<R: Wait> Table for HallTable<'_, R> {
         &mut self,
         alloc: Global,
         colour: Colour,
-        moment: u64,
+        moment: Moment,
         act: Act,
     ) -> Result<Reply, NoMemory> {
         match colour {

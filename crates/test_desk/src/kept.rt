@@ -4,6 +4,7 @@ ghost use Rattle.linked_desk.specs.Seating.{AllDiffer, HasPairsFor, names_of, se
 ghost use Rattle.linked_desk.specs.Shelve.{names_in};
 
 use crate::table::SERIAL;
+use clock_ledger::Moment;
 use collections::Listed;
 use fics_words::{Handle, Opponents, Seats};
 use game_records::StoredGame;
@@ -25,7 +26,7 @@ pub fn restores(
     requires names { AllDiffer (names_of seats.now) }
     requires players { names_in seats.now ≡ game.now.names }
 {
-    desk.restore(alloc, SERIAL, game, seats, u64::from(moment))
+    desk.restore(alloc, SERIAL, game, seats, Moment::new(u64::from(moment)))
 }
 
 /// The players' names in the order of their seats.

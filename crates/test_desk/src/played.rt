@@ -5,7 +5,7 @@ use crate::table::Given::Refused;
 use crate::table::{ANN, BEN, Does, Given, Opening, STRANGER, Step};
 use chess_model::Colour;
 use fics_words::Refusal;
-use linked_desk::{Ended, Why};
+use linked_desk::{BoardNumber, Ended, Why};
 use std::test::Fail;
 
 const RESIGNATION: &[Step] = &[
@@ -24,14 +24,14 @@ const FAREWELLS: &[Step] = &[
 /// White has left board 1, so that Black has won.
 const LEFT: Option<Ended> = Some(Ended {
     why: Why::Left,
-    board: 1,
+    board: BoardNumber::First,
     winner: Some(Colour::Black),
 });
 
 /// White's flag has fallen at board 1.
 const FLAGGED: Option<Ended> = Some(Ended {
     why: Why::Flag,
-    board: 1,
+    board: BoardNumber::First,
     winner: Some(Colour::Black),
 });
 

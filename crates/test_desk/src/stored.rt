@@ -8,9 +8,9 @@ use crate::stages::{Stage, first_wrong_at};
 use crate::table::Given::Refused;
 use crate::table::{ANN, BEN, Does, Opening, Sitting, Step, who_sits};
 use chess_model::Colour;
-use fics_words::Refusal;
+use fics_words::{DeskNumber, Refusal};
 use game_records::StoredGame;
-use linked_desk::{Desk, Ended, Why};
+use linked_desk::{BoardNumber, Desk, Ended, Why};
 use memory::NoMemory;
 use std::alloc::Global;
 use std::process::Abort;
@@ -75,19 +75,19 @@ const OVER: &[Step] = &[
 
 const LOST: Option<Ended> = Some(Ended {
     why: Why::Mate,
-    board: 1,
+    board: BoardNumber::First,
     winner: Some(Colour::Black),
 });
 
 const WON: Option<Ended> = Some(Ended {
     why: Why::Mate,
-    board: 1,
+    board: BoardNumber::First,
     winner: Some(Colour::White),
 });
 
 const DRAWN: Option<Ended> = Some(Ended {
     why: Why::Stalemate,
-    board: 1,
+    board: BoardNumber::First,
     winner: None,
 });
 
@@ -228,7 +228,7 @@ fn is_so(alloc: Global, desk: &mut Desk, comes: Comes, replays: bool) -> Result<
 /// The same of a case at a desk of its own.
 fn holds(rt: &impl Abort, alloc: Global, case: &Case) -> Result<bool, NoMemory> {
     let sitting = who_sits(rt, case.opening);
-    let mut desk = Desk::vacant(1);
+    let mut desk = Desk::vacant(DeskNumber::new(1));
     comes_so(alloc, &mut desk, &sitting, case)
 }
 

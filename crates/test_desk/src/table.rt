@@ -6,8 +6,8 @@ ghost use Rattle.linked_desk.specs.Seating.{AllDiffer, HasPairsFor, names_of, se
 
 use crate::four::four;
 use chess_model::{MoveWord, Square, Terms, Variant};
-use clock_ledger::STAMP_CYCLE;
-use fics_words::{Fail, Handle, Opponents, Player, Refusal, Seats};
+use clock_ledger::{Moment, STAMP_CYCLE};
+use fics_words::{DeskNumber, Fail, Handle, Opponents, Player, Refusal, Seats};
 use linked_desk::{Desk, DeskAct, DeskReply, Ended};
 use std::alloc::Global;
 use std::process::Abort;
@@ -95,8 +95,8 @@ pub fn desk_with(rt: &impl Abort, alloc: Global, sitting: &Sitting) -> Desk
     requires sessions { AllDiffer (sessions_of sitting.now.seats) }
     requires names { AllDiffer (names_of sitting.now.seats) }
 {
-    let mut desk = Desk::vacant(1);
-    let started = desk.start(alloc, SERIAL, sitting.terms, &sitting.seats, 0);
+    let mut desk = Desk::vacant(DeskNumber::new(1));
+    let started = desk.start(alloc, SERIAL, sitting.terms, &sitting.seats, Moment::new(0));
     assert!(rt; started.is_ok(), "there is memory");
     desk
 }
@@ -142,7 +142,7 @@ pub enum Opening {
 /// The desk with that, begun at moment 0.
 pub fn desk_of(rt: &impl Abort, alloc: Global, opening: Opening) -> Desk {
     match opening {
-        Opening::Vacant => Desk::vacant(128),
+        Opening::Vacant => Desk::vacant(DeskNumber::new(128)),
         _ => desk_with(rt, alloc, &who_sits(rt, opening)),
     }
 }
@@ -196,7 +196,7 @@ pub fn acted(
 ) -> Result<DeskReply, Fail>
     requires { FitsDeskAct act.now }
 {
-    desk.act(session, u64::from(moment), serial, act)
+    desk.act(session, Moment::new(u64::from(moment)), serial, act)
 }
 
 fn in_short(answer: &Result<DeskReply, Fail>) -> Given {

@@ -4,10 +4,11 @@ ghost use Rattle.lobby_state.specs.Desks.{IsDesk};
 
 use crate::replies::is_same;
 use crate::steps::{Does, Game, act_of};
+use clock_ledger::Moment;
 use fics_words::{Fail as Failure, Refusal};
 use game_board::GameBoard;
 use hall_core::HallParts;
-use linked_desk::Desk;
+use linked_desk::{BoardNumber, Desk};
 use lobby_state::DESKS;
 use one_server::{Act, OneServer, Reply, Runner, desk_step, lobby_step};
 use std::alloc::Global;
@@ -88,10 +89,11 @@ fn is_desk_of(desk: &Desk, server: &OneServer, number: u8) -> bool
     requires { IsDesk number }
 {
     let other = server.desk(number);
+    let first = BoardNumber::First;
     desk.serial() == other.serial()
         && desk.ended() == other.ended()
         && desk.viewers() == other.viewers()
-        && is_same_board(desk.board(1), other.board(1))
+        && is_same_board(desk.board(first), other.board(first))
 }
 
 /// Whether two boards have the same half-moves with the same charges; both may be absent.
@@ -114,7 +116,7 @@ fn answer_of_parts(parts: &mut HallParts, question: Question) -> Result<Reply, F
             let Some(desk) = parts.desks.get_mut(usize::from(desk).wrapping_sub(1)) else {
                 return Err(Failure::Refused(Refusal::NoSuchGame));
             };
-            Ok(desk_step(desk, session, MOMENT, serial, &act)?)
+            Ok(desk_step(desk, session, Moment::new(MOMENT), serial, &act)?)
         }
         Act::Pair(_) => Err(Failure::Refused(Refusal::NoSuchGame)),
     }
@@ -129,5 +131,5 @@ fn answer_of_server(
     let (session, does) = question;
     let act = act_of(Game::of(session), does)?;
     let mut seat = server.seat(session);
-    Ok(seat.run(alloc, MOMENT, act)?)
+    Ok(seat.run(alloc, Moment::new(MOMENT), act)?)
 }

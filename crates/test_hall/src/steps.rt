@@ -6,6 +6,7 @@ ghost use Rattle.lobby_state.specs.Desks.{IsDesk};
 ghost use Rattle.one_server.specs.Acts.{FitsAct};
 
 use chess_model::{Colour, MoveWord, Terms, Variant};
+use clock_ledger::Moment;
 use fics_words::Fail;
 use linked_desk::DeskAct;
 use lobby_state::{LobbyAct, PairAct};
@@ -93,7 +94,7 @@ pub fn reply_to<R: Runner>(
     does: Does,
 ) -> Result<Reply, Fail> {
     let act = act_of(game, does)?;
-    let reply = seat.run(alloc, u64::from(moment), act)?;
+    let reply = seat.run(alloc, Moment::new(u64::from(moment)), act)?;
     Ok(reply)
 }
 

@@ -3,6 +3,7 @@
 use crate::playing::{STRANGE, play_next, terms};
 use crate::resumed::{Shown, half_move, shows};
 use chess_model::{MOST_HALVES, Variant};
+use clock_ledger::Moment;
 use fics_words::Refusal;
 use game_board::{GameBoard, Played};
 use std::alloc::Global;
@@ -155,7 +156,7 @@ fn is_rewound(board: &mut GameBoard) -> bool {
 
 /// The place of the first step that isn't as it has to be, if one isn't.
 fn first_failing(alloc: Global) -> Result<Option<usize>, Fail> {
-    let mut board = GameBoard::start(alloc, 1, terms(5, 3, Variant::Chess), BEGIN)?;
+    let mut board = GameBoard::start(alloc, 1, terms(5, 3, Variant::Chess), Moment::new(BEGIN))?;
     Ok(first_failing_at(&mut board))
 }
 

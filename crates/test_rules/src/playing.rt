@@ -3,7 +3,7 @@
 
 use crate::chess_words::word_of;
 use chess_model::{Colour, Terms, Variant};
-use clock_ledger::STAMP_CYCLE;
+use clock_ledger::{Moment, STAMP_CYCLE};
 use fics_words::Refusal;
 use game_board::GameBoard;
 use std::alloc::Global;
@@ -25,7 +25,7 @@ pub fn terms(minutes: u16, increment: u16, variant: Variant) -> Terms {
 
 /// A board of these terms, begun at moment 0.
 pub fn new_board(alloc: Global, terms: Terms) -> Result<GameBoard, Fail> {
-    Ok(GameBoard::start(alloc, 1, terms, 0)?)
+    Ok(GameBoard::start(alloc, 1, terms, Moment::new(0))?)
 }
 
 /// Plays a word of a colour at a moment.
@@ -39,10 +39,10 @@ pub fn play(
     let Some(word) = word_of(text.as_bytes()) else {
         return Err(STRANGE);
     };
-    if moment < board.begin() || moment > 1 << 40 || stamp.unwrap_or(0) >= STAMP_CYCLE {
+    if moment < board.begin().millis() || moment > 1 << 40 || stamp.unwrap_or(0) >= STAMP_CYCLE {
         return Err(STRANGE);
     }
-    match board.play(colour, &word, moment, stamp) {
+    match board.play(colour, &word, Moment::new(moment), stamp) {
         Ok(_) => Ok(()),
         Err(cause) => Err(cause),
     }
@@ -61,7 +61,7 @@ pub fn play_next(
 
 /// A second after the last half-move.
 fn a_second_on(board: &GameBoard) -> u64 {
-    board.begin().saturating_add(1_000)
+    board.begin().millis().saturating_add(1_000)
 }
 
 /// The first of these words that isn't played, if one isn't. The colours play them in turn, the first at `begin` and
@@ -100,8 +100,8 @@ pub fn remaining(board: &GameBoard, colour: Colour) -> i64 {
 
 /// What a caller of the flag is answered at a moment.
 pub fn flag(board: &GameBoard, caller: Colour, moment: u64) -> Result<Option<Colour>, Refusal> {
-    if moment < board.begin() || moment > 1 << 40 {
+    if moment < board.begin().millis() || moment > 1 << 40 {
         return Err(STRANGE);
     }
-    board.flag(caller, moment)
+    board.flag(caller, Moment::new(moment))
 }

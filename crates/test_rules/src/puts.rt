@@ -69,7 +69,7 @@ fn list_of(board: &GameBoard) -> &[Played] {
 
 /// Whether the second board is the same game, with its clock at the start.
 fn is_same_game(board: &GameBoard, again: &GameBoard) -> bool {
-    are_alike(board, again) && have_same_clocks(board, again) && again.begin() == 0
+    are_alike(board, again) && have_same_clocks(board, again) && again.begin().millis() == 0
 }
 
 #[test]

@@ -4,7 +4,7 @@
 use crate::playing::{STRANGE, play_next, remaining, terms};
 use crate::puts::put;
 use chess_model::{Colour, Move, Square, Variant};
-use clock_ledger::Charge;
+use clock_ledger::{Charge, Moment};
 use fics_words::Refusal;
 use game_board::{GameBoard, Played};
 use std::alloc::Global;
@@ -194,17 +194,20 @@ fn is_put(board: &mut GameBoard, half: Option<Played>) -> Result<bool, Fail> {
 
 /// Takes so many half-moves back at a moment.
 fn take_back(board: &mut GameBoard, many: u16, moment: u64) -> Result<(), Refusal> {
-    if board.terms().variant == Variant::Bughouse || board.begin() > moment || moment > 1 << 40 {
+    if board.terms().variant == Variant::Bughouse
+        || board.begin().millis() > moment
+        || moment > 1 << 40
+    {
         return Err(STRANGE);
     }
-    board.take_back(many, moment)
+    board.take_back(many, Moment::new(moment))
 }
 
 fn has_counts(board: &GameBoard, shown: &Shown) -> bool {
     board.list().len() == shown.stand
         && board.played() == shown.played
         && board.resumed() == shown.resumed
-        && board.begin() == shown.begin
+        && board.begin().millis() == shown.begin
 }
 
 fn has_clocks(board: &GameBoard, shown: &Shown) -> bool {
@@ -229,7 +232,7 @@ fn holds(board: &mut GameBoard, step: &Step) -> Result<bool, Fail> {
 /// The place of the first step of a game that isn't as it has to be, if one isn't.
 fn first_failing(alloc: Global, case: &Case) -> Result<Option<usize>, Fail> {
     let terms = terms(case.minutes, case.increment, Variant::Chess);
-    let mut board = GameBoard::start(alloc, 1, terms, RESUMED)?;
+    let mut board = GameBoard::start(alloc, 1, terms, Moment::new(RESUMED))?;
     first_failing_at(&mut board, case.steps)
 }
 

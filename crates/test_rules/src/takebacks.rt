@@ -2,6 +2,7 @@
 
 use crate::playing::{STRANGE, board_after, first_unplayed, new_board, play_on, remaining, terms};
 use chess_model::{Colour, Variant};
+use clock_ledger::Moment;
 use fics_words::Refusal;
 use game_board::GameBoard;
 use std::alloc::Global;
@@ -65,15 +66,15 @@ fn have_same_clocks(one: &GameBoard, two: &GameBoard) -> bool {
 
 /// Takes so many half-moves back a minute after the start.
 fn take_back(board: &mut GameBoard, many: u16) -> Result<(), Refusal> {
-    if board.terms().variant == Variant::Bughouse || board.begin() > 60_000 {
+    if board.terms().variant == Variant::Bughouse || board.begin().millis() > 60_000 {
         return Err(STRANGE);
     }
-    board.take_back(many, 60_000)
+    board.take_back(many, Moment::new(60_000))
 }
 
 /// Whether so many half-moves stand, so many were played, and the clock runs from that moment.
 fn stands(board: &GameBoard, many: usize, played: u16, begin: u64) -> bool {
-    board.list().len() == many && board.played() == played && board.begin() == begin
+    board.list().len() == many && board.played() == played && board.begin().millis() == begin
 }
 
 /// Plays half-moves and takes so many back, and says whether they were.
@@ -87,7 +88,7 @@ fn is_same_game(board: &GameBoard, before: &GameBoard) -> bool {
     are_alike(board, before)
         && have_same_hands(board, before)
         && have_same_clocks(board, before)
-        && board.begin() == 60_000
+        && board.begin().millis() == 60_000
 }
 
 /// Whether the board `again` is what `before` is once it has taken back what goes.

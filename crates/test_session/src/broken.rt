@@ -8,7 +8,7 @@ use chess_model::{Colour, Why};
 use edge_traits::StillClock;
 use fics_words::Fail as Failure;
 use link_core::{LinkEnd, serve_link};
-use linked_desk::Ended;
+use linked_desk::{BoardNumber, Ended};
 use memory::NoMemory;
 use one_server::OneServer;
 use session_core::Session;
@@ -67,7 +67,7 @@ const LOST: Game = Game(
     &[b"seek 2 12 black"],
     Some(Ended {
         why: Why::Left,
-        board: 1,
+        board: BoardNumber::First,
         winner: Some(Colour::Black),
     }),
 );
@@ -77,7 +77,7 @@ const ADJOURNED: Game = Game(
     &[b"register abc", b"seek 2 12 black"],
     Some(Ended {
         why: Why::Adjourned,
-        board: 1,
+        board: BoardNumber::First,
         winner: None,
     }),
 );

@@ -4,6 +4,7 @@ ghost use Rattle.one_server.specs.Acts.{FitsAct};
 
 use crate::short::ShortSeat;
 use chess_model::{Colour, Terms, Variant};
+use clock_ledger::Moment;
 use fics_words::{Fail, Handle};
 use histories::Entry;
 use linked_desk::DeskAct;
@@ -147,7 +148,7 @@ pub fn leaves(
     moment: u32,
 ) -> Result<(), Fail> {
     let mut entered = Session::seated(alloc, handle(b"Ann")?);
-    entered.leave(&mut server.seat(session), u64::from(moment))?;
+    entered.leave(&mut server.seat(session), Moment::new(u64::from(moment)))?;
     Ok(())
 }
 
@@ -163,7 +164,11 @@ pub fn leaves_short(
     let mut entered = Session::seated(alloc, handle(b"Ann")?);
     let _news = taken_at(server, session, &mut entered, moment, Input::Quiet)?;
     let mut seat = ShortSeat::new(server, session, before);
-    Ok(entered.leave(&mut seat, u64::from(moment)).is_err())
+    Ok(
+        entered
+            .leave(&mut seat, Moment::new(u64::from(moment)))
+            .is_err(),
+    )
 }
 
 /// The acts that were made.

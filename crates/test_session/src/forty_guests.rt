@@ -5,6 +5,7 @@ ghost use Rattle.std.specs.Prelude.{IfOk};
 ghost use Rattle.session_core.specs.Inputs.{FitsInput};
 
 use crate::guests::{Draws, GUESTS, Model, Order, answered, drawn, name_of, typed};
+use clock_ledger::Moment;
 use fics_words::Line;
 use line_reader::Incoming;
 use one_server::OneServer;
@@ -158,7 +159,7 @@ fn writes(
 ) -> Result<Vec<u8>, Fail>
     requires { FitsInput input }
 {
-    let wrote = session.take(&mut server.seat(number), 0, input)?;
+    let wrote = session.take(&mut server.seat(number), Moment::new(0), input)?;
     Ok(wrote.bytes)
 }
 

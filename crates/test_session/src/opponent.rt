@@ -3,6 +3,7 @@
 ghost use Rattle.session_core.specs.Inputs.{FitsInput};
 ghost use Rattle.test_session.specs.Beside.{Beside};
 
+use clock_ledger::Moment;
 use memory::NoMemory;
 use one_server::{Act, OneServer, Reply, Runner};
 use session_core::{Input, Session, Wrote};
@@ -70,7 +71,11 @@ fn take(
     requires { FitsInput input }
     ensures { Beside server.old server.new }
 {
-    session.take(&mut server.seat(OPPONENT), u64::from(moment), input)
+    session.take(
+        &mut server.seat(OPPONENT),
+        Moment::new(u64::from(moment)),
+        input,
+    )
 }
 
 /// The seat of session 1, at whose server session 2 says its lines: before each act the next one, if its moment comes
@@ -114,9 +119,9 @@ impl Runner for OpposedSeat<'_> {
         PLAYER
     }
 
-    fn run(&mut self, alloc: Global, moment: u64, act: Act) -> Result<Reply, NoMemory> {
+    fn run(&mut self, alloc: Global, moment: Moment, act: Act) -> Result<Reply, NoMemory> {
         self.opponent
-            .speak_before(alloc, &mut *self.server, moment)?;
-        self.server.run(PLAYER, moment, act)
+            .speak_before(alloc, &mut *self.server, moment.millis())?;
+        self.server.run(PLAYER, moment.millis(), act)
     }
 }

@@ -1,5 +1,6 @@
 //! A session at a server that is short of memory.
 
+use clock_ledger::Moment;
 use memory::NoMemory;
 use one_server::{Act, OneServer, Reply, Runner};
 use std::alloc::Global;
@@ -39,13 +40,13 @@ impl Runner for ShortSeat<'_> {
         self.session
     }
 
-    fn run(&mut self, _alloc: Global, moment: u64, act: Act) -> Result<Reply, NoMemory> {
+    fn run(&mut self, _alloc: Global, moment: Moment, act: Act) -> Result<Reply, NoMemory> {
         let before = self.before;
         self.before = before.wrapping_sub(1);
         if before == 0 {
             let _history = self.server.history();
             return Err(NoMemory);
         }
-        self.server.run(self.session, moment, act)
+        self.server.run(self.session, moment.millis(), act)
     }
 }

@@ -11,12 +11,6 @@ use Rattle.test_turn.specs.Counters.{counters, more}
 use Rattle.test_turn.specs.Worked.{weigh, MadeOne, MadeMany}
 use Rattle.test_turn.proofs.Weighing.{weigh_append}
 
-V : Type 0
-V = View ℕ Bump ℕ
-
-pub none_held : (v : View ℕ Bump ℕ) (k : ℕ) → v.held ≡ [] → Holds v k → ⊥
-none_held v k e h = subst (In (k, h.0)) e h.1
-
 -- an act on the first counter
 module _ (v0 v1 v2 : View ℕ Bump ℕ) (p : ℕ) (e1 : v1 ≡ begun counters v0 First v1.seen) (e2 : v2 ≡ with_busy v2.busy (taken counters v1 0 p v2.seen)) where
   abbrev alone : View ℕ Bump ℕ

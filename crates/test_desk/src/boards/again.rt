@@ -3,6 +3,7 @@
 use crate::boards::games::{Game, game_of};
 use chess_model::Colour;
 use chess_model::Variant::{Bughouse, Chess};
+use clock_ledger::Moment;
 use desk_boards::Boards;
 use game_board::GameBoard;
 use game_records::PackedHalf;
@@ -49,7 +50,7 @@ fn has(board: &GameBoard, expected: Kept) -> bool {
         && usize::from(board.played()) == expected.0
         && board.ledger(Colour::White).remaining() == expected.1
         && board.ledger(Colour::Black).remaining() == expected.2
-        && board.begin() == RESUMED
+        && board.begin().millis() == RESUMED
 }
 
 /// Whether the boards in both places have this.
@@ -94,7 +95,7 @@ fn is_resumed(
     second: Option<Kept>,
 ) -> Result<bool, NoMemory> {
     let stored = game_of(alloc, game)?;
-    let Some(boards) = Boards::of_stored(alloc, &stored, RESUMED)? else {
+    let Some(boards) = Boards::of_stored(alloc, &stored, Moment::new(RESUMED))? else {
         return Ok(false);
     };
     if !have(&boards, first, second) {

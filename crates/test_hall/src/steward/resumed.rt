@@ -2,6 +2,7 @@
 
 ghost use Rattle.one_server.specs.Whole.{IsOpening};
 
+use clock_ledger::Moment;
 use lobby_load::load;
 use lobby_state::Lobby;
 use memory::NoMemory;
@@ -77,7 +78,7 @@ fn not_saved(alloc: Global, mut server: OneServer, keeper: &mut MemKeeper) -> Op
     if let Some(step) = first_failing(&mut server, ADJOURNED) {
         return Some(Place::Before(step));
     }
-    match steward_turn(alloc, &mut server.seat(0), keeper, 0) {
+    match steward_turn(alloc, &mut server.seat(0), keeper, Moment::new(0)) {
         StewardEnd::Done(3) => None,
         _ => Some(Place::Saving),
     }

@@ -2,6 +2,7 @@
 
 ghost use Rattle.lobby_state.specs.Acts.{FitsLobby};
 
+use clock_ledger::Moment;
 use fics_words::Handle;
 use lobby_state::{Lobby, LobbyAct};
 use memory::NoMemory;
@@ -104,7 +105,7 @@ fn goes(alloc: Global, row: &Row) -> Result<bool, NoMemory> {
 /// Whether the turns end as they should.
 fn turns_go(alloc: Global, mut server: OneServer, mut keeper: MemKeeper, row: &Row) -> bool {
     for turn in row.turns {
-        let end = steward_turn(alloc, &mut server.seat(0), &mut keeper, 0);
+        let end = steward_turn(alloc, &mut server.seat(0), &mut keeper, Moment::new(0));
         if !is_end(end, turn.0) || keeper.pairs().len() != turn.1 {
             return false;
         }
@@ -134,7 +135,7 @@ fn is_end(end: StewardEnd, wanted: Ends) -> bool {
 fn saves_the_account(alloc: Global) -> Result<bool, NoMemory> {
     let mut server = served(alloc, 1)?;
     let mut keeper = MemKeeper::new(alloc, Vec::new(alloc));
-    let _end = steward_turn(alloc, &mut server.seat(0), &mut keeper, 0);
+    let _end = steward_turn(alloc, &mut server.seat(0), &mut keeper, Moment::new(0));
     Ok(match keeper.pairs().first() {
         Some(pair) => pair.key.as_slice() == KEY && is_record(pair.bytes.as_slice()),
         None => false,

@@ -5,6 +5,7 @@ ghost use Rattle.one_server.specs.Whole.{IsOpening};
 
 use crate::store::evenings::{Place, Seats, Sitting, wrong_at};
 use crate::store::talks::{Player, Row, answers};
+use clock_ledger::Moment;
 use fics_words::Fail;
 use hall_core::{Hall, HallPass, HallSeat};
 use lobby_load::load;
@@ -37,7 +38,12 @@ impl<R: Wait> Seats for HallSeats<'_, R> {
     }
 
     fn turn(&mut self, alloc: Global, keeper: &mut MemKeeper, moment: u32) -> StewardEnd {
-        steward_turn(alloc, &mut self.steward, keeper, u64::from(moment))
+        steward_turn(
+            alloc,
+            &mut self.steward,
+            keeper,
+            Moment::new(u64::from(moment)),
+        )
     }
 }
 

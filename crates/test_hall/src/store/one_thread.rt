@@ -4,6 +4,7 @@ ghost use Rattle.one_server.specs.Whole.{IsOpening};
 
 use crate::store::evenings::{Place, Seats, Sitting, wrong_at};
 use crate::store::talks::{Row, answers};
+use clock_ledger::Moment;
 use fics_words::Fail;
 use lobby_load::load;
 use lobby_state::Lobby;
@@ -19,7 +20,12 @@ impl Seats for OneServer {
     }
 
     fn turn(&mut self, alloc: Global, keeper: &mut MemKeeper, moment: u32) -> StewardEnd {
-        steward_turn(alloc, &mut self.seat(0), keeper, u64::from(moment))
+        steward_turn(
+            alloc,
+            &mut self.seat(0),
+            keeper,
+            Moment::new(u64::from(moment)),
+        )
     }
 }
 

@@ -3,6 +3,7 @@
 ghost use Rattle.std.specs.Prelude.{IfOk};
 ghost use Rattle.session_core.specs.Inputs.{FitsInput};
 
+use clock_ledger::Moment;
 use fics_words::{Fail, Line, Refusal};
 use line_reader::Incoming;
 use one_server::Runner;
@@ -47,7 +48,7 @@ pub fn taken<R: Runner>(
 ) -> Result<Vec<u8>, Fail>
     requires { FitsInput input }
 {
-    let wrote = session.take(seat, u64::from(moment), input)?;
+    let wrote = session.take(seat, Moment::new(u64::from(moment)), input)?;
     Ok(wrote.bytes)
 }
 
