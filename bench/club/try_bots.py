@@ -5,7 +5,7 @@ another, and then one bot gives a simul to many. No part of the gate.
 usage: try_bots.py [--program FILE] [--games N] [--givers N] [--terms "M I"]
   N games in all (40 where it is left out) at M minutes and I seconds (0 1, which is ten seconds and one more for each
   half-move), and then one of each of N bots (16) against one at a time. Ends with 0 where each game ended by the rules
-  of its variant or on time by the clock alone, and no bot was refused a half-move or lost its link.
+  of its variant, none on time, and no bot was refused a half-move or lost its link.
 """
 
 import argparse

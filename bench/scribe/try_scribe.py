@@ -3,8 +3,8 @@
 players' own links saw, half-move by half-move. No part of the gate.
 
 usage: try_scribe.py [PROGRAM] [--games N] [--kills N] [--seed N] [--keep FOLDER]
-  PROGRAM is the server's, where it isn't the one that `./ficsd` builds. Of N games (2000) a third is played as the
-  scribe is killed N times (20). It needs Debian's pgn-extract. Ends with 0 where nothing is lost, twice or changed.
+  PROGRAM is the server's, where it isn't the one that `./ficsd` builds. Of N games (2000) a fifth, or as many
+  as are ended meanwhile, is played as the scribe is killed N times (20). It needs Debian's pgn-extract. Ends with 0 where nothing is lost, twice or changed.
 """
 
 import argparse

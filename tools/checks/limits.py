@@ -19,7 +19,7 @@ LIMITS = {
     "offers and declines of a seat in a game": ["linked_desk MOST_TOLD"],
     "remarks in a game": ["linked_desk MOST_REMARKS"],
     "games at which a session looks on": ["session_core MOST_OBSERVED"],
-    "a handle": ["fics_words/src/handle FEWEST", "fics_words/src/handle MOST"],
+    "a handle": ["fics_words/src/handle FEWEST", "fics_words MOST_HANDLE_LETTERS"],
     "a line of `board` or of a script": ["fics_words MOST_LINE_BYTES"],
     "minutes, increment in seconds": ["chess_model MOST_TIME"],
     "a moment": ["clock_ledger LAST_MOMENT"],
@@ -29,7 +29,7 @@ LIMITS = {
     "aliases of a player; letters of their names": ["command_words/src/aliases MOST", "command_words MOST_LETTERS"],
     "seeks of a player": ["seek_match/src/seek_book MOST"],
     "places of a giver": ["simul_control/src/places MOST"],
-    "reads of one run": ["cmd_lines MOST_READS"],
+    "reads of one run": ["edge_traits MOST_READS"],
 }
 
 

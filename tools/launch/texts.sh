@@ -45,7 +45,7 @@ page_of_stores() {
 }
 
 # what a status of the program means and what helps; $1 is how the program is called, $2 the command, $3 the status, or
-# the signal that ended it
+# the signal that ended it. tools/statuses prints what docs/OPERATING.md and docs/ficsd.6 have of it
 meaning() {
   case $2-$3 in
     *-1) echo "the words aren't those of a command; \`$1 --help\` shows each with an example" ;;
