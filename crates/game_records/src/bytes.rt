@@ -1,10 +1,12 @@
 //! The bytes of a key or a record.
-ghost use Rattle.std.specs.Prelude.{◌≡◌, ◌++◌, OnOk};
+ghost use Rattle.std.specs.Prelude.{◌≡◌, ◌++◌, OnOk, bytes_eq};
+ghost use Rattle.std.specs.Cmp.{partial_equiv_from_equiv};
+ghost use Rattle.std.specs.Cmp.Lexicographic.{nat_list_eq_equiv};
 
-use memory::NoMemory;
+use memory::{Duplicate, NoMemory};
 use std::marker::Model;
 
-/// The bytes of a key or a record, which contracts see as that list.
+/// The bytes of a key or a record, which contracts see as that list. They can be compared and copied.
 #[derive(Drop)]
 pub struct Bytes {
     bytes: Vec<u8>,
@@ -32,6 +34,28 @@ impl Bytes {
     {
         self.bytes.as_slice()
     }
+}
+
+impl Duplicate for Bytes {
+    fn duplicate(&self) -> Result<Bytes, NoMemory> {
+        Ok(Bytes {
+            bytes: self.bytes.clone()?,
+        })
+    }
+}
+
+impl PartialEq for Bytes {
+    ghost eq = { bytes_eq };
+
+    ghost laws = { partial_equiv_from_equiv nat_list_eq_equiv };
+
+    fn eq(&self, other: &Bytes) -> bool {
+        self.as_slice() == other.as_slice()
+    }
+}
+
+impl Eq for Bytes {
+    ghost laws = { nat_list_eq_equiv };
 }
 
 /// Appends the bytes.

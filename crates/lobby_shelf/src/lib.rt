@@ -21,7 +21,6 @@ mod rack;
 mod request;
 mod saving;
 mod shelved;
-mod written;
 
 pub use asking::Asking;
 pub use cells::Cells;
@@ -38,4 +37,3 @@ pub use rack::MOST_STORED;
 pub use request::Request;
 pub use saving::{GameSaving, Saving};
 pub use shelved::Shelved;
-pub use written::Written;

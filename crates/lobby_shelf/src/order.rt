@@ -2,8 +2,8 @@
 
 ghost use Rattle.std.specs.Prelude.{◌≡◌, nat_lt, IfOk};
 
-use crate::written::Written;
 use collections::Predicate;
+use game_records::Bytes;
 use memory::{Duplicate, NoMemory};
 
 /// What a store is to do: to put a record under a key, or to remove the one that it has there.
@@ -11,9 +11,9 @@ use memory::{Duplicate, NoMemory};
 pub struct Order {
     /// Orders are numbered from 1 on, in the order in which they were made.
     pub number: u64,
-    pub key: Written,
+    pub key: Bytes,
     /// The record; without one the key is removed.
-    pub bytes: Option<Written>,
+    pub bytes: Option<Bytes>,
 }
 
 impl Duplicate for Order {
@@ -27,7 +27,7 @@ impl Duplicate for Order {
 }
 
 /// A copy of the record, where there is one.
-fn twin(bytes: &Option<Written>) -> Result<Option<Written>, NoMemory>
+fn twin(bytes: &Option<Bytes>) -> Result<Option<Bytes>, NoMemory>
     ensures { IfOk result (λ copy. copy ≡ bytes.now) }
 {
     match bytes {

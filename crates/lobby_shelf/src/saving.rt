@@ -7,9 +7,8 @@ ghost use Rattle.lobby_shelf.specs.Facts.{HasRoom};
 use crate::cells::Cells;
 use crate::game_shelf::GameShelf;
 use crate::order::Order;
-use crate::written::Written;
 use fics_words::Account;
-use game_records::{Record, StoredGame, account_key, game_key, write_record};
+use game_records::{Bytes, Record, StoredGame, account_key, game_key, write_record};
 use memory::NoMemory;
 use std::marker::Model;
 
@@ -47,8 +46,6 @@ impl GameShelf {
     {
         let key = account_key(self.alloc, account.name.key())?;
         let bytes = write_record(self.alloc, &Record::Account(*account))?;
-        let key = Written::of(self.alloc, key.as_slice())?;
-        let bytes = Written::of(self.alloc, bytes.as_slice())?;
         self.saving(key, Some(bytes))
     }
 
@@ -64,8 +61,6 @@ impl GameShelf {
         let record = Record::Game(game);
         let key = game_key(self.alloc, self.games.next_number())?;
         let bytes = write_record(self.alloc, &record)?;
-        let key = Written::of(self.alloc, key.as_slice())?;
-        let bytes = Written::of(self.alloc, bytes.as_slice())?;
         let order = self.saving(key, Some(bytes))?;
         let Record::Game(game) = record else {
             unreachable!()
@@ -81,12 +76,11 @@ impl GameShelf {
         ensures room { IfOk result (λ saving. HasRoom self.now.orders) }
     {
         let key = game_key(self.alloc, number)?;
-        let key = Written::of(self.alloc, key.as_slice())?;
         self.saving(key, None)
     }
 
     /// The order that is made next.
-    fn saving(&self, key: Written, bytes: Option<Written>) -> Result<Saving, NoMemory>
+    fn saving(&self, key: Bytes, bytes: Option<Bytes>) -> Result<Saving, NoMemory>
         requires count { self.now.made + 1 < 2 ^ 64 }
         ensures order { IfOk result (λ saving. saving ≡ next_order self.now key bytes) }
         ensures room { IfOk result (λ saving. HasRoom self.now.orders) }
