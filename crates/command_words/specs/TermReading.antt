@@ -1,7 +1,7 @@
 -- Reading the terms of a game from left to right, word by word. The words are those of `TermWords`, and the law below
 -- says that what is read is what they spell.
-use Rattle.std.specs.Prelude.{◌≡◌, ◌↔◌, ℕ, bytes_eq, if◌then◌else◌, List, [], ◌∷◌, Option, Some, None, option_map, codes}
-use Rattle.chess_model.specs.Limits.{most_time}
+use Rattle.std.specs.Prelude.{◌≡◌, ◌↔◌, ℕ, ◌-◌, bytes_eq, if◌then◌else◌, List, [], ◌∷◌, Option, Some, None, option_map, codes}
+use Rattle.chess_model.specs.Limits.{arrays, most_time}
 use Rattle.chess_model.specs.declared.man.Colour.{Colour}
 use Rattle.chess_model.specs.declared.man.Colour.TheVariants.{White, Black}
 use Rattle.chess_model.specs.declared.variant.Terms.{Terms}
@@ -62,7 +62,7 @@ in_one_word (Fischer number) = None
 
 -- the number of the array of Fischer random that these two words name
 abbrev pub array_named : List ℕ → List ℕ → Option ℕ
-array_named word number = if bytes_eq word (codes "fischer") then number_of 959 number else None
+array_named word number = if bytes_eq word (codes "fischer") then number_of (arrays - 1) number else None
 
 -- Fischer random from that array, and the words behind its two; else what the first word means
 abbrev pub from_array : Option ℕ → Words → Words → Variant × Words

@@ -7,10 +7,10 @@ ghost use Rattle.command_words.specs.TermReading.{array_named, asked_colour, beh
 
 use crate::blanks::cut_word;
 use crate::numbers::number_of;
-use chess_model::{Colour, MOST_TIME, Terms, Variant, read_variant};
+use chess_model::{ARRAYS, Colour, MOST_TIME, Terms, Variant, read_variant};
 
 /// The greatest number of an array of Fischer random.
-const LAST_ARRAY: u16 = 959;
+const LAST_ARRAY: u16 = ARRAYS - 1;
 
 /// The time of a game.
 #[derive(Clone, Copy)]
