@@ -1,7 +1,7 @@
 -- The places of a player: the seats that it has at desks in use, which of them is the present one, and whether it gives
 -- a simul. This server's own.
 use Rattle.std.specs.Prelude.{◌≡◌, ℕ, ◌+◌, ◌-◌, ◌==◌, Bool, false, not, ◌||◌, cond, nat_le, nat_lt, List, [], ◌∷◌, ◌++◌, All, length, take, count_by, None, Some, Result, Ok, Err}
-use Rattle.std.specs.List.{filter}
+use Rattle.std.specs.List.{filter, list_any}
 use Rattle.fics_words.specs.Effect.{Effect, first_cause, state_of}
 use Rattle.fics_words.specs.declared.refusal.Refusal.{Refusal}
 use Rattle.fics_words.specs.declared.refusal.Refusal.TheVariants.{NotGiving, Playing, SimulFull}
@@ -68,13 +68,15 @@ is_elsewhere desk place = is_other desk place.desk
 abbrev pub within : ℕ → List Place → ℕ
 within at rows = cond (nat_lt at (length rows)) at 0
 
--- the places without those at this desk; the present one moves down by those that stood before it
+-- the places without those at this desk; the present one moves down by those that stood before it, and stays where
+-- there is none at this desk
 abbrev pub without_desk : ℕ → PlaceList → PlaceList
 without_desk desk places =
     let rows = filter (is_elsewhere desk) places.rows in
+    let before = count_by (is_elsewhere desk) (take places.at places.rows) in
     record {
       giving = places.giving;
-      at = within (count_by (is_elsewhere desk) (take places.at places.rows)) rows;
+      at = cond (list_any (is_at desk) places.rows) (within before rows) places.at;
       rows = rows;
     }
 

@@ -1,5 +1,5 @@
 //! The places of a player, in columns of fixed room.
-ghost use Rattle.std.specs.Prelude.{◌≡◌, ◌-◌, ◌<◌, ◌≤◌, ◌==◌, IfSome, count_by, filter, get_or, length, slice_get, take};
+ghost use Rattle.std.specs.Prelude.{◌≡◌, ◌-◌, ◌<◌, ◌≤◌, ◌==◌, IfSome, count_by, filter, get_or, length, slice_get, take, true};
 ghost use Rattle.std.specs.List.{list_any};
 ghost use Rattle.fics_words.specs.Desks.{IsDesk};
 ghost use Rattle.simul_control.specs.Places.{AreAtDesks, is_at, is_elsewhere, is_other, most_at_switch, turned_from};
@@ -154,8 +154,6 @@ impl Places {
     pub fn leave(&mut self, desk: u8)
         ensures { self.new ≡ without_desk desk self.old }
     {
-        // The count is what says that the present place is one of these.
-        let _count = self.len();
         if !self.is_at(desk) {
             return;
         }
@@ -169,8 +167,9 @@ impl Places {
         has_desk(&self.desks[..self.count], desk)
     }
 
-    /// The places without those at this desk.
+    /// The places without those at this desk, where one is.
     fn without(&self, desk: u8) -> Places
+        requires { list_any (is_at desk) self.now.rows ≡ true }
         ensures { result ≡ without_desk desk self.now }
     {
         let mut kept = elsewhere(self, desk);
