@@ -48,7 +48,7 @@ from_rows (m ∷ members) apart =
 pub apart_kept : (members others : List Member) → map row_of others ≡ map row_of members → AreNamedApart members → AreNamedApart others
 apart_kept members others same apart = from_rows others (subst AreApart (sym same) (to_rows members apart))
 
--- the rows of members of whom one changed, or each
+-- the rows of members of whom one changed
 module _ (f : Member → Member) (keeps : (m : Member) → row_of (f m) ≡ row_of m) where
   pub rows_at : (members : List Member) (i : ℕ) → map row_of (change_at i f members) ≡ map row_of members
   rows_at [] i = refl
@@ -62,7 +62,3 @@ module _ (f : Member → Member) (keeps : (m : Member) → row_of (f m) ≡ row_
         | true ↦ ap (λ row. row ∷ map row_of members) (keeps m)
         | false ↦ ap (λ rows. row_of m ∷ rows) (rows_first test members)
       ]
-
-  pub rows_each : (members : List Member) → map row_of (map f members) ≡ map row_of members
-  rows_each [] = refl
-  rows_each (m ∷ members) = λ j. keeps m j ∷ rows_each members j

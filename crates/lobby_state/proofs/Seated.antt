@@ -1,9 +1,10 @@
 -- Of members with distinct sessions those of some players change, one after another: all others stay as they are.
 use Rattle.std.proofs.Common.{◌≡◌, ℕ, ◌<◌, suc, true, false, cond, List, [], ◌∷◌, ◌++◌, Option, None, Some, length, map, get_or, eqb, refl, sym, ap, subst, ◌∙◌, arith}
-use Rattle.std.specs.Prelude.{◌==◌, ◌≢◌}
+use Rattle.std.specs.Prelude.{◌==◌, ◌≢◌, All}
 use Rattle.std.specs.List.{AllByRecursion, AllPairs, IsDistinct, list_any}
 use Rattle.std.specs.Option.{option_map_or}
 use Rattle.std.proofs.lemmas.Bool.{eqb-true, ne_eqb, or_from}
+use Rattle.std.proofs.lemmas.List.Elements.{All-head, All-tail, All-weaker}
 use Rattle.fics_words.specs.Seats.{players_of, plays_as, seat_list, seat_number}
 use Rattle.fics_words.specs.declared.player.Player.{Player}
 use Rattle.fics_words.specs.declared.seats.Opponents.{Opponents}
@@ -12,6 +13,7 @@ use Rattle.lobby_state.specs.declared.member.Member.{Member}
 use Rattle.lobby_state.specs.Change.{change_first}
 use Rattle.lobby_state.specs.Lobby.{is_session}
 use Rattle.lobby_state.specs.Planned.{AreApart}
+use Rattle.lobby_state.specs.Players.{change_players}
 use Rattle.lobby_state.specs.Start.{in_seat}
 use Rattle.lobby_state.proofs.Lists.{map-map_same}
 use Rattle.lobby_state.proofs.NamedApart.{no_place}
@@ -40,11 +42,6 @@ one_changes session f (m ∷ members) apart =
       | false ↦ λ _. ap (λ l. m ∷ l) (one_changes session f members apart.1)
     ] refl
 
--- the members of these players change, one after another
-abbrev pub those : (Member → Member) → List Player → List Member → List Member
-those f [] members = members
-those f (p ∷ players) members = those f players (change_first (is_session p.session) f members)
-
 module _ (f : Member → Member) (keeps : (m : Member) → (f m).session ≡ m.session) where
   abbrev each : List Player → Member → Member
   each [] m = m
@@ -56,7 +53,7 @@ module _ (f : Member → Member) (keeps : (m : Member) → (f m).session ≡ m.s
     | false ↦ refl
   ]
 
-  by_each : (players : List Player) (members : List Member) → IsDistinct eqb (map (λ (m : Member). m.session) members) → those f players members ≡ map (each players) members
+  by_each : (players : List Player) (members : List Member) → IsDistinct eqb (map (λ (m : Member). m.session) members) → change_players f players members ≡ map (each players) members
   by_each [] [] apart = refl
   by_each [] (m ∷ members) apart = ap (λ l. m ∷ l) (untold members)
     where
@@ -64,7 +61,7 @@ module _ (f : Member → Member) (keeps : (m : Member) → (f m).session ≡ m.s
       untold [] = refl
       untold (m ∷ members) = ap (λ l. m ∷ l) (untold members)
   by_each (p ∷ players) members apart =
-      ap (those f players) (one_changes p.session f members apart)
+      ap (change_players f players) (one_changes p.session f members apart)
       ∙ by_each players (map (only p.session f) members) (subst (IsDistinct eqb) (sym (map-map_same (λ (m : Member). m.session) (only p.session f) (only_keeps p.session) members)) apart)
       ∙ twice members
     where
@@ -89,9 +86,38 @@ module _ (f : Member → Member) (keeps : (m : Member) → (f m).session ≡ m.s
             (λ none. idle (or_from (p.session == m.session) (list_any (plays_as m.session) players) (turned p.session m.session ∙ other) none))
       ] refl
 
+  -- where a second change does no more, the players needn't be apart
+  again : ((m : Member) → f (f m) ≡ f m) → (players : List Player) (m : Member) → each players (f m) ≡ f m
+  again twice [] m = refl
+  again twice (p ∷ players) m =
+      elim (is_session p.session (f m)) as (λ t. each players (cond t (f (f m)) (f m)) ≡ f m) [
+        | true ↦ ap (each players) (twice m) ∙ again twice players m
+        | false ↦ again twice players m
+      ]
+
+  pub at_once : ((m : Member) → f (f m) ≡ f m) → (players : List Player) (m : Member) → (list_any (plays_as m.session) players ≡ false → f m ≡ m) → each players m ≡ f m
+  at_once twice [] m idle = sym (idle refl)
+  at_once twice (p ∷ players) m idle =
+      elim (m.session == p.session) as (λ t. (m.session == p.session) ≡ t → each players (cond t (f m) m) ≡ f m) [
+        | true ↦ λ _. again twice players m
+        | false ↦ λ other. at_once twice players m (λ none. idle (or_from (p.session == m.session) (list_any (plays_as m.session) players) (turned p.session m.session ∙ other) none))
+      ] refl
+
+  map_of : (g : Member → Member) (members : List Member) → All (λ m. g m ≡ f m) members → map g members ≡ map f members
+  map_of g [] same = refl
+  map_of g (m ∷ members) same =
+      let rest = map_of g members (All-tail (λ m. g m ≡ f m) m members same) in
+      λ j. All-head (λ m. g m ≡ f m) m members same j ∷ rest j
+
+  pub all_once : ((m : Member) → f (f m) ≡ f m) → (players : List Player) (members : List Member) → IsDistinct eqb (map (λ (m : Member). m.session) members)
+      → All (λ m. list_any (plays_as m.session) players ≡ false → f m ≡ m) members → change_players f players members ≡ map f members
+  all_once twice players members apart idle =
+      by_each players members apart
+      ∙ map_of (each players) members (All-weaker (λ m. list_any (plays_as m.session) players ≡ false → f m ≡ m) (λ m. each players m ≡ f m) (λ m. at_once twice players m) members idle)
+
   pub all_changed : (players : List Player) (members : List Member) → IsDistinct eqb (map (λ (m : Member). m.session) members)
       → AllPairs (λ one another. one.session ≢ another.session) players → ((m : Member) → list_any (plays_as m.session) players ≡ false → f m ≡ m)
-      → those f players members ≡ map f members
+      → change_players f players members ≡ map f members
   all_changed players members apart differ idle = by_each players members apart ∙ (λ j. map (λ m. once players m differ (idle m) j) members)
 
 pub in_seat_session : (desk serial : ℕ) (number : Option ℕ) (m : Member) → (in_seat desk serial number m).session ≡ m.session
@@ -100,7 +126,7 @@ in_seat_session desk serial (Some number) m = refl
 
 -- the players of a game sit down, one after another
 pub all_seated : (desk serial : ℕ) (seats : Seats) (members : List Member) → IsDistinct eqb (map (λ (m : Member). m.session) members) → AreApart seats
-    → those (λ m. in_seat desk serial (seat_number m.session (seat_list seats)) m) (seat_list seats) members
+    → change_players (λ m. in_seat desk serial (seat_number m.session (seat_list seats)) m) (seat_list seats) members
     ≡ map (λ m. in_seat desk serial (seat_number m.session (seat_list seats)) m) members
 all_seated desk serial seats members apart differ =
     all_changed (λ m. in_seat desk serial (seat_number m.session (seat_list seats)) m) (λ m. in_seat_session desk serial (seat_number m.session (seat_list seats)) m) (seat_list seats) members apart differ.sessions

@@ -2,6 +2,7 @@ pub mod Change
 pub mod Lent
 pub mod Desks
 pub mod Places
+pub mod Players
 pub mod Lobby
 pub mod Enter
 pub mod Registration

@@ -1,11 +1,13 @@
 //! The members of the hall, and how one is found.
-ghost use Rattle.std.specs.Prelude.{◌≡◌, ◌<◌, ◌≤◌, [], ◌∷◌, ◌++◌, IfOk, None, OnErr, OnOk, Some, eqb, length, map, not, option_copied, slice_get};
+ghost use Rattle.std.specs.Prelude.{◌≡◌, ◌<◌, ◌≤◌, [], ◌∷◌, ◌++◌, IfOk, None, OnErr, OnOk, Some, eqb, length, not, option_copied, slice_get};
 ghost use Rattle.std.specs.Borrow.{sem};
 ghost use Rattle.std.specs.List.{filter, find, position};
 ghost use Rattle.lobby_state.specs.Change.{change_first};
 ghost use Rattle.fics_words.specs.Handle.{key_of};
+ghost use Rattle.fics_words.specs.Seats.{seat_list};
 ghost use Rattle.lobby_state.specs.Lobby.{has_handle, is_named, is_session, most_members};
 ghost use Rattle.lobby_state.specs.Names.{AreNamedApart, with_rows};
+ghost use Rattle.lobby_state.specs.Players.{change_players};
 ghost use Rattle.tables.specs.Rows.{AreApart};
 
 use crate::inbox::Inbox;
@@ -13,7 +15,7 @@ use crate::member::Member;
 use crate::name_row::{NameRow, OfAnother, put_name};
 use channel_feed::NameList;
 use collections::Change;
-use fics_words::HandleKey;
+use fics_words::{HandleKey, Seats};
 use memory::NoMemory;
 use std::alloc::Global;
 use std::marker::Model;
@@ -224,15 +226,6 @@ impl Members {
         self.rows.change(session, change);
     }
 
-    /// Changes each member. The change leaves their sessions and names as they are.
-    pub(crate) fn change_each<C: Change<Member>>(&mut self, change: &C)
-        requires sessions { (member : Member) → (C.changed change.now member).session ≡ member.session }
-        requires names { (member : Member) → (C.changed change.now member).name ≡ member.name }
-        ensures { self.new ≡ map (C.changed change.now) self.old }
-    {
-        self.rows.change_each(change);
-    }
-
     /// The lines that wait for the member at `place`, to be changed.
     pub(crate) fn waiting_mut(&mut self, place: usize) -> &mut Inbox
         requires { place < length self.old }
@@ -259,4 +252,19 @@ impl Members {
     {
         self.rows.part_mut::<NameList, NoplayPart>(place)
     }
+}
+
+/// Changes the members who are players of a game. The change leaves their sessions and names as they are.
+pub(crate) fn change_players<C: Change<Member>>(members: &mut Members, seats: &Seats, change: &C)
+    requires sessions { (member : Member) → (C.changed change.now member).session ≡ member.session }
+    requires names { (member : Member) → (C.changed change.now member).name ≡ member.name }
+    ensures { members.new ≡ change_players (C.changed change.now) (seat_list seats.now) members.old }
+{
+    members.change(seats.first.white.session, change);
+    members.change(seats.first.black.session, change);
+    let Some(second) = &seats.second else {
+        return;
+    };
+    members.change(second.white.session, change);
+    members.change(second.black.session, change);
 }

@@ -1,5 +1,5 @@
 //! Resumed: the plans of a Resume are carried out, and the shelf's share of a Clear.
-ghost use Rattle.std.specs.Prelude.{◌≡◌, ◌+◌, ◌<◌, ◌^◌, IfSome, length, true};
+ghost use Rattle.std.specs.Prelude.{◌≡◌, ◌+◌, ◌<◌, ◌^◌, All, IfSome, length, true};
 ghost use Rattle.game_records.specs.Replays.{Replays};
 ghost use Rattle.lobby_shelf.specs.Numbers.{is_used};
 ghost use Rattle.lobby_shelf.specs.Shelf.{most_stored, removal_order, taken_off};
@@ -10,6 +10,7 @@ ghost use Rattle.lobby_state.specs.Lobby.{is_session};
 ghost use Rattle.lobby_state.specs.Plans.{put_away};
 ghost use Rattle.lobby_state.specs.Reserve.{HasRoomFor, asking_for, shelved_in, shelving_for};
 ghost use Rattle.lobby_state.specs.Resumed.{asked_of, with_lines};
+ghost use Rattle.lobby_state.specs.WellFormed.{HasSeats};
 
 use crate::inbox::Inbox;
 use crate::members::Members;
@@ -20,6 +21,7 @@ impl Roster {
     /// The desk is free, nobody has a place there any more, and its game is on the shelf where it was adjourned.
     pub(crate) fn put_away(&mut self, desk: u8, ready: Ready)
         requires desk { IsDesk desk }
+        requires seats { All (HasSeats self.old.games) self.old.members }
         requires is { ready ≡ shelving_for self.old.shelf (shelved_in ready) }
         requires room { HasRoomFor self.old ready }
         requires count { self.old.shelf.made + 1 < 2 ^ 64 }

@@ -8,7 +8,7 @@ ghost use Rattle.lobby_state.specs.Start.{in_seat, is_by_seated, is_settled, sea
 use crate::challenges::Stays;
 use crate::game::ListedGame;
 use crate::member::Member;
-use crate::members::Members;
+use crate::members::{Members, change_players};
 use crate::roster::Roster;
 use crate::seeks::ByUnseated;
 use chess_model::Terms;
@@ -90,13 +90,7 @@ fn sit_down(members: &mut Members, desk: u8, serial: u64, seats: &Seats)
         serial,
         seats: *seats,
     };
-    members.change(seats.first.white.session, &sit);
-    members.change(seats.first.black.session, &sit);
-    let Some(second) = &seats.second else {
-        return;
-    };
-    members.change(second.white.session, &sit);
-    members.change(second.black.session, &sit);
+    change_players(members, seats, &sit);
 }
 
 /// The challenges of the players go, but for a giver's with others.
