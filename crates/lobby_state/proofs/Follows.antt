@@ -5,9 +5,9 @@ use Rattle.channel_feed.specs.declared.channels.Membership.{Membership}
 use Rattle.fics_words.specs.declared.account.Account.{Account}
 use Rattle.lobby_shelf.specs.declared.order.Order.{Order}
 use Rattle.lobby_shelf.specs.declared.shelved.Shelved.{Shelved}
+use Rattle.tables.specs.Rows.{change_first}
 use Rattle.lobby_state.specs.declared.member.Member.{Member}
 use Rattle.lobby_state.specs.Broadcast.{broadcast}
-use Rattle.lobby_state.specs.Change.{change_first}
 use Rattle.lobby_state.specs.Lobby.{LobbyState}
 use Rattle.lobby_state.specs.Match.{with_line}
 use Rattle.lobby_state.specs.Places.{PlaceList}

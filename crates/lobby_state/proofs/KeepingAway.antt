@@ -5,7 +5,7 @@ use Rattle.fics_words.specs.Effect.{Cause, answered, first_cause, unless}
 use Rattle.fics_words.specs.declared.refusal.Refusal.{Refusal}
 use Rattle.fics_words.specs.declared.refusal.Refusal.TheVariants.{NotIn, NoSuchPlayer, QueueFull, Refuses}
 use Rattle.lobby_state.specs.declared.member.Member.{Member}
-use Rattle.lobby_state.specs.Change.{holds}
+use Rattle.lobby_state.specs.Holds.{holds}
 use Rattle.lobby_state.specs.KeptAway.{IsUnheard, KeepAway}
 use Rattle.lobby_state.specs.Lobby.{LobbyState, member_of, named}
 use Rattle.lobby_state.specs.Match.{is_full, match_effect}

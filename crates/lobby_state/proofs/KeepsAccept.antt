@@ -5,7 +5,7 @@ use Rattle.std.proofs.lemmas.Bool.{eqb-true, or_parts, and_parts}
 use Rattle.seek_match.specs.declared.challenge.Challenge.{Challenge}
 use Rattle.lobby_state.specs.declared.member.Member.{Member}
 use Rattle.lobby_state.specs.Accept.{accept_effect, offer_from, offer_of, offering_in, terms_in}
-use Rattle.lobby_state.specs.Change.{holds}
+use Rattle.lobby_state.specs.Holds.{holds}
 use Rattle.lobby_state.proofs.StartPlans.{CanPlan, planned_where}
 use Rattle.lobby_state.specs.Lobby.{LobbyState, free_slot, most_games, member_of, named}
 use Rattle.lobby_state.specs.Pairing.{are_partners, lack_partner, pairing_of}

@@ -11,7 +11,7 @@ use Rattle.lobby_state.specs.declared.name_list.WhichList.TheVariants.{Censor, N
 use Rattle.lobby_state.specs.Accept.{offer_of}
 use Rattle.lobby_state.specs.Acts.{FitsLobby, lobby_after, lobby_answer, lobby_effect}
 use Rattle.lobby_state.specs.Channel.{change_of}
-use Rattle.lobby_state.specs.Change.{holds}
+use Rattle.lobby_state.specs.Holds.{holds}
 use Rattle.lobby_state.specs.Decline.{declined}
 use Rattle.lobby_state.specs.Enter.{entrant_of}
 use Rattle.lobby_state.specs.Fetch.{emptied}

@@ -4,9 +4,9 @@ use Rattle.std.proofs.lemmas.List.Elements.{All-filter}
 use Rattle.std.proofs.lemmas.List.Kept.{AllPairs-filter}
 use Rattle.std.proofs.lemmas.List.Sums.{count_by-le-length, length-filter}
 use Rattle.fics_words.specs.Handle.{key_of}
+use Rattle.tables.specs.Rows.{change_first}
 use Rattle.lobby_state.specs.declared.member.Member.{Member}
 use Rattle.lobby_state.specs.Bye.{bye_effect}
-use Rattle.lobby_state.specs.Change.{change_first}
 use Rattle.lobby_state.specs.Going.{going_effect, leaving_member}
 use Rattle.lobby_state.specs.Lobby.{LobbyState, is_session, without_challenges, without_partner, without_seeks}
 use Rattle.lobby_state.specs.WellFormed.{IsWellFormed, AreChallengesOf, AreSeeksOf, ArePartnersOf, HasSeats, IsShelfOf, sessions_of}

@@ -5,7 +5,7 @@ use Rattle.fics_words.specs.Effect.{NoneHolds}
 use Rattle.partner_link.specs.Partners.{asking, parted}
 use Rattle.partner_link.proofs.Links.{no_partner}
 use Rattle.lobby_state.specs.declared.member.Member.{Member}
-use Rattle.lobby_state.specs.Change.{holds}
+use Rattle.lobby_state.specs.Holds.{holds}
 use Rattle.lobby_state.specs.Keeps.{TellsDesks}
 use Rattle.lobby_state.specs.Lobby.{LobbyState, is_named, is_session, member_of, named, partner_in}
 use Rattle.lobby_state.specs.Partner.{ask_effect, asked_reply, has_partner, partnered, single}

@@ -8,7 +8,7 @@ use Rattle.fics_words.specs.declared.fail.Fail.{Fail}
 use Rattle.login_handles.specs.Accounts.{account_of}
 use Rattle.login_handles.proofs.AccountLists.{HasOneEach-append, length-one_more}
 use Rattle.lobby_state.specs.declared.member.Member.{Member}
-use Rattle.lobby_state.specs.Change.{holds}
+use Rattle.lobby_state.specs.Holds.{holds}
 use Rattle.lobby_state.specs.Lobby.{LobbyState, has_account, is_registered, member_of}
 use Rattle.lobby_state.specs.Registration.{loading_effect, registered, registration_effect, with_account, with_new_account}
 use Rattle.lobby_state.specs.WellFormed.{IsWellFormed, sessions_of}

@@ -20,7 +20,7 @@ use Rattle.lobby_shelf.specs.Shelf.{asks}
 use Rattle.lobby_shelf.specs.declared.shelved.Shelved.{Shelved}
 use Rattle.lobby_shelf.proofs.Rising.{rises_at}
 use Rattle.lobby_state.specs.declared.member.Member.{Member}
-use Rattle.lobby_state.specs.Change.{holds}
+use Rattle.lobby_state.specs.Holds.{holds}
 use Rattle.lobby_state.specs.Lobby.{LobbyState, free_slot, has_handle, is_named, is_session, member_of, most_games, named}
 use Rattle.lobby_state.specs.Pairing.{needs_partners}
 use Rattle.lobby_state.specs.Planned.{AreApart, CanAsk, FitsVariant, IsMember, IsPlanned}

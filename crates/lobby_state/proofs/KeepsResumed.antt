@@ -14,9 +14,9 @@ use Rattle.lobby_shelf.specs.declared.request.Request.{Request}
 use Rattle.lobby_shelf.specs.declared.shelved.Shelved.{Shelved}
 use Rattle.lobby_shelf.proofs.Keeping.{IsShelf-asked, IsShelf-taken_off}
 use Rattle.lobby_shelf.proofs.Rising.{unused_above}
+use Rattle.tables.specs.Rows.{change_first}
 use Rattle.lobby_state.specs.declared.acts.Plan.TheVariants.{Resume, Ask}
 use Rattle.lobby_state.specs.declared.member.Member.{Member}
-use Rattle.lobby_state.specs.Change.{change_first}
 use Rattle.lobby_state.specs.Keeps.{KeepsPlan}
 use Rattle.lobby_state.specs.Lobby.{LobbyState, is_session, lines_in}
 use Rattle.lobby_state.specs.Match.{with_line}

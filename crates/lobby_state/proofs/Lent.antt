@@ -1,17 +1,16 @@
 -- A part of one member that is lent: the member at a place with that part written, where the place is that of the first
 -- member that passes a test.
-use Rattle.std.proofs.Common.{◌≡◌, ℕ, ◌<◌, ◌≤◌, zero, suc, Bool, not, filter, List, [], ◌∷◌, ◌++◌, cond, Some, length, slice_get, refl, sym, ap, ◌∙◌, arith}
+use Rattle.std.proofs.Common.{◌≡◌, ℕ, ◌<◌, ◌≤◌, zero, suc, Bool, not, filter, List, [], ◌∷◌, ◌++◌, cond, None, Some, length, slice_get, refl, sym, ap, ◌∙◌, arith}
 use Rattle.std.specs.Prelude.{◌==◌}
-use Rattle.std.specs.List.{position}
+use Rattle.std.specs.List.{find, position}
 use Rattle.std.proofs.Math.ListN.{set}
 use Rattle.std.proofs.lemmas.List.Filters.{length-filter_both}
-use Rattle.tables.specs.Rows.{change_at, change_first as change_row}
+use Rattle.fics_words.proofs.Causes.{first_none}
+use Rattle.tables.specs.Rows.{change_at, change_first}
 use Rattle.lobby_state.specs.declared.member.Member.{Member}
-use Rattle.lobby_state.specs.Change.{change_first}
 use Rattle.lobby_state.specs.Lobby.{is_session}
-use Rattle.lobby_state.proofs.First.{change_first-found}
 use Rattle.lobby_shelf.proofs.Requests.{turned}
-use Rattle.tables.proofs.Placed.{position-within}
+use Rattle.tables.proofs.Placed.{changed_at, find-missing, position-within}
 
 -- a write of what stands there changes nothing
 pub set-same : {X : Type 0} (xs : List X) (i : ℕ) (x : X) → slice_get xs i ≡ Some x → set xs i x ≡ xs
@@ -37,6 +36,21 @@ at_place [] i inside = absurd (omega (arith, inside))
 at_place (x ∷ xs) zero inside = (x, refl)
 at_place (x ∷ xs) (suc i) inside = at_place xs i (omega (arith, inside))
 
+-- a change of the first item that passes is a write at its place
+pub change_first-found : {X : Type 0} (p : X → Bool) (f : X → X) (xs : List X) (i : ℕ) (x : X)
+    → position p xs ≡ Some i → slice_get xs i ≡ Some x → change_first p f xs ≡ set xs i (f x)
+change_first-found p f xs i x here at = sym (changed_at p f xs i here) ∙ change_at-set f xs i x at
+
+change_first-none : {X : Type 0} (p : X → Bool) (f : X → X) (xs : List X) → find p xs ≡ None → change_first p f xs ≡ xs
+change_first-none p f [] none = refl
+change_first-none p f (x ∷ xs) none =
+    let step = first_none (p x) x (find p xs) none in
+    ap (λ t. cond t (f x ∷ xs) (x ∷ change_first p f xs)) step.0 ∙ ap (λ l. x ∷ l) (change_first-none p f xs step.1)
+
+-- and nothing changes where none passes
+pub change_first-missing : {X : Type 0} (p : X → Bool) (f : X → X) (xs : List X) → position p xs ≡ None → change_first p f xs ≡ xs
+change_first-missing p f xs nowhere = change_first-none p f xs (find-missing p xs nowhere)
+
 -- a write to a part of the first that passes is the change that agrees with it there
 pub changed_there : {X : Type 0} (p : X → Bool) (f h : X → X) (xs : List X) (i : ℕ) → Some i ≡ position p xs
     → ((x : X) → slice_get xs i ≡ Some x → h x ≡ f x) → change_at i h xs ≡ change_first p f xs
@@ -59,7 +73,7 @@ fewer p xs = omega (arith, length-filter_both p (λ x. not (p x)) (λ x. refl) x
 
 -- a table's change of the row of a session is the change of its member
 pub by_session : (session : ℕ) (f : Member → Member) (members : List Member)
-    → change_row (λ (member : Member). session == member.session) f members ≡ change_first (is_session session) f members
+    → change_first (λ (member : Member). session == member.session) f members ≡ change_first (is_session session) f members
 by_session session f [] = refl
 by_session session f (m ∷ members) = λ j. cond (turned session m.session j) (f m ∷ members) (m ∷ by_session session f members j)
 

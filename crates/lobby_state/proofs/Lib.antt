@@ -1,4 +1,3 @@
-pub mod First
 pub mod Lent
 pub mod NamesInOrder
 pub mod NamedApart

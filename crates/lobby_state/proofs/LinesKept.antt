@@ -4,9 +4,9 @@ use Rattle.std.specs.List.{find}
 use Rattle.std.proofs.lemmas.Bool.{eqb-true, false_from_ne_true}
 use Rattle.std.proofs.lemmas.List.{append-nil, append_assoc}
 use Rattle.channel_feed.specs.Waiting.{is_full as are_full}
+use Rattle.tables.specs.Rows.{change_first}
 use Rattle.lobby_state.specs.declared.member.Member.{Member}
 use Rattle.lobby_state.specs.Broadcast.{broadcast, hearing, hears}
-use Rattle.lobby_state.specs.Change.{change_first}
 use Rattle.lobby_state.specs.Fetch.{emptied}
 use Rattle.lobby_state.specs.Lobby.{is_session, lines_in}
 use Rattle.lobby_state.specs.Match.{with_line}

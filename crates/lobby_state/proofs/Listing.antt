@@ -10,8 +10,7 @@ use Rattle.lobby_state.specs.declared.name_list.WhichList.{WhichList}
 use Rattle.lobby_state.specs.declared.name_list.WhichList.TheVariants.{Censor, Noplay}
 use Rattle.lobby_state.specs.Lobby.{is_session}
 use Rattle.lobby_state.specs.NameList.{change_among, list_causes, listing, names_on, naming, with_names_on}
-use Rattle.lobby_state.proofs.First.{change_first-found, change_first-missing}
-use Rattle.lobby_state.proofs.Lent.{at_place, change_at-set, set-same}
+use Rattle.lobby_state.proofs.Lent.{at_place, change_at-set, change_first-found, change_first-missing, set-same}
 use Rattle.tables.specs.Rows.{change_at}
 use Rattle.tables.proofs.Placed.{find-found, find-missing, position-within}
 

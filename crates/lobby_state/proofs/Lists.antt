@@ -5,7 +5,7 @@ use Rattle.std.specs.List.{AllPairs, find}
 use Rattle.std.proofs.Math.ListN.{set, get_or-map}
 use Rattle.std.proofs.lemmas.List.{length-map}
 use Rattle.std.proofs.lemmas.List.Elements.{All-nil, All-cons, All-head, All-tail}
-use Rattle.lobby_state.specs.Change.{change_first}
+use Rattle.tables.specs.Rows.{change_first}
 pub use Rattle.lobby_shelf.proofs.Keeping.{All-filter_passing}
 use Rattle.fics_words.proofs.Causes.{first_none}
 

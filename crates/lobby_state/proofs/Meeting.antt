@@ -9,9 +9,9 @@ use Rattle.std.proofs.lemmas.List.Sums.{fails_before_first, passes_at_first, pos
 use Rattle.std.proofs.lemmas.Option.{slice_get-get_or}
 use Rattle.fics_words.specs.Effect.{answer_of, first_cause, state_of, unless}
 use Rattle.fics_words.specs.declared.refusal.Refusal.{Refusal}
+use Rattle.tables.specs.Rows.{change_first}
 use Rattle.lobby_state.specs.declared.acts.LobbyReply.TheVariants.{Done}
 use Rattle.lobby_state.specs.declared.member.Member.{Member}
-use Rattle.lobby_state.specs.Change.{change_first}
 use Rattle.lobby_state.specs.Find.{present_of}
 use Rattle.lobby_state.specs.GoBoard.{MeetsPlayer, first_against, go_board_effect, gone_to, is_against}
 use Rattle.lobby_state.specs.Lobby.{LobbyState, is_session, member_of, named, places_in, places_of}

@@ -1,9 +1,9 @@
 -- A change of members that leaves their names and sessions leaves the names in order, and the members named apart.
-use Rattle.std.proofs.Common.{◌≡◌, ℕ, zero, suc, Bool, true, false, cond, List, [], ◌∷◌, Some, None, map, option_map, refl, sym, ap, subst, ◌∙◌}
+use Rattle.std.proofs.Common.{◌≡◌, ℕ, zero, suc, true, false, cond, List, [], ◌∷◌, Some, None, map, option_map, refl, sym, ap, subst, ◌∙◌}
 use Rattle.std.specs.Prelude.{bytes_eq}
 use Rattle.std.specs.List.{find}
 use Rattle.fics_words.specs.Handle.{key_of}
-use Rattle.tables.specs.Rows.{change_at, change_first as change_row}
+use Rattle.tables.specs.Rows.{change_at}
 use Rattle.lobby_state.specs.declared.member.Member.{Member}
 use Rattle.lobby_state.specs.declared.name_row.NameRow.{NameRow}
 use Rattle.lobby_state.specs.Lobby.{has_handle}
@@ -54,11 +54,3 @@ module _ (f : Member → Member) (keeps : (m : Member) → row_of (f m) ≡ row_
   rows_at [] i = refl
   rows_at (m ∷ members) zero = ap (λ row. row ∷ map row_of members) (keeps m)
   rows_at (m ∷ members) (suc i) = ap (λ rows. row_of m ∷ rows) (rows_at members i)
-
-  pub rows_first : (test : Member → Bool) (members : List Member) → map row_of (change_row test f members) ≡ map row_of members
-  rows_first test [] = refl
-  rows_first test (m ∷ members) =
-      elim (test m) as (λ t. map row_of (cond t (f m ∷ members) (m ∷ change_row test f members)) ≡ map row_of (m ∷ members)) [
-        | true ↦ ap (λ row. row ∷ map row_of members) (keeps m)
-        | false ↦ ap (λ rows. row_of m ∷ rows) (rows_first test members)
-      ]

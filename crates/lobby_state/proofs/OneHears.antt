@@ -3,9 +3,9 @@ use Rattle.std.proofs.Common.{◌≡◌, ℕ, true, false, not, cond, List, [], 
 use Rattle.std.specs.Prelude.{◌==◌, ◌&&◌}
 use Rattle.std.specs.List.{IsDistinct}
 use Rattle.channel_feed.specs.Waiting.{is_full as are_full}
+use Rattle.tables.specs.Rows.{change_first}
 use Rattle.lobby_state.specs.declared.member.Member.{Member}
 use Rattle.lobby_state.specs.Broadcast.{broadcast, hearing}
-use Rattle.lobby_state.specs.Change.{change_first}
 use Rattle.lobby_state.specs.Lobby.{is_session}
 use Rattle.lobby_state.specs.Match.{with_line}
 use Rattle.lobby_state.proofs.Seated.{one_changes, only}

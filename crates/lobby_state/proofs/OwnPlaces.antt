@@ -4,8 +4,8 @@ use Rattle.std.specs.Prelude.{All}
 use Rattle.std.proofs.lemmas.Bool.{eqb-true}
 use Rattle.std.proofs.lemmas.List.Elements.{All-nil}
 use Rattle.fics_words.specs.Handle.{key_of}
+use Rattle.tables.specs.Rows.{change_first}
 use Rattle.lobby_state.specs.declared.member.Member.{Member}
-use Rattle.lobby_state.specs.Change.{change_first}
 use Rattle.lobby_state.specs.GoBoard.{gone_to}
 use Rattle.lobby_state.specs.Lobby.{LobbyState, is_session, member_of, places_in, places_of}
 use Rattle.lobby_state.specs.OwnPlaces.{placed, with_places}

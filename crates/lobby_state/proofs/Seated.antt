@@ -9,8 +9,8 @@ use Rattle.fics_words.specs.Seats.{players_of, plays_as, seat_list, seat_number}
 use Rattle.fics_words.specs.declared.player.Player.{Player}
 use Rattle.fics_words.specs.declared.seats.Opponents.{Opponents}
 use Rattle.fics_words.specs.declared.seats.Seats.{Seats}
+use Rattle.tables.specs.Rows.{change_first}
 use Rattle.lobby_state.specs.declared.member.Member.{Member}
-use Rattle.lobby_state.specs.Change.{change_first}
 use Rattle.lobby_state.specs.Lobby.{is_session}
 use Rattle.lobby_state.specs.Planned.{AreApart}
 use Rattle.lobby_state.specs.Players.{change_players}

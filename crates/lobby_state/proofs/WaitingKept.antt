@@ -8,13 +8,13 @@ use Rattle.std.proofs.lemmas.List.Elements.{All-head, All-tail}
 use Rattle.fics_words.specs.Seats.{seat_list, seat_number}
 use Rattle.fics_words.specs.declared.seats.Seats.{Seats}
 use Rattle.game_records.specs.declared.stored_game.StoredGame.{StoredGame}
+use Rattle.tables.specs.Rows.{change_first}
 use Rattle.lobby_state.specs.declared.acts.LobbyAct.{LobbyAct}
 use Rattle.lobby_state.specs.declared.acts.LobbyAct.TheVariants.{Fetch, Bye}
 use Rattle.lobby_state.specs.declared.acts.Plan.{Plan}
 use Rattle.lobby_state.specs.declared.acts.Plan.TheVariants.{Start, Clear, Resume, Ask}
 use Rattle.lobby_state.specs.declared.member.Member.{Member}
 use Rattle.lobby_state.specs.Acts.{lobby_after, lobby_effect}
-use Rattle.lobby_state.specs.Change.{change_first}
 use Rattle.lobby_state.specs.Clear.{off_desk}
 use Rattle.lobby_state.specs.Fetch.{emptied}
 use Rattle.lobby_state.specs.Lobby.{LobbyState, is_session, lines_in, waiting_of}

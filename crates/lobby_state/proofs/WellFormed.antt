@@ -7,9 +7,9 @@ use Rattle.std.proofs.lemmas.List.Elements.{All-nil, All-replicate, All-weaker, 
 use Rattle.channel_feed.specs.declared.channels.Membership.{Membership}
 use Rattle.fics_words.specs.Handle.{key_of}
 use Rattle.seek_match.specs.declared.challenge.Challenge.{Challenge}
+use Rattle.tables.specs.Rows.{change_first}
 use Rattle.lobby_state.specs.declared.game.ListedGame.{ListedGame}
 use Rattle.lobby_state.specs.declared.member.Member.{Member}
-use Rattle.lobby_state.specs.Change.{change_first}
 use Rattle.lobby_state.specs.Places.{AreAtDesks}
 use Rattle.lobby_state.specs.Desks.{IsDesk, desks}
 use Rattle.lobby_state.specs.Lobby.{LobbyState, most_members, opening, is_session, member_of, places_in, places_of}

@@ -5,7 +5,7 @@ use Rattle.fics_words.specs.Effect.{Effect}
 use Rattle.fics_words.specs.declared.refusal.Refusal.TheVariants.{NotIn, NoChallenge, BadOpponent, NotInVariant, NoPartner}
 use Rattle.lobby_state.specs.declared.acts.Plan.{Plan}
 use Rattle.lobby_state.specs.declared.member.Member.{Member}
-use Rattle.lobby_state.specs.Change.{holds}
+use Rattle.lobby_state.specs.Holds.{holds}
 use Rattle.lobby_state.specs.Lobby.{LobbyState, member_of, named, free_slot}
 use Rattle.lobby_state.specs.Pairing.{are_partners, is_simul_of_four, lack_partner, pairing_of}
 use Rattle.lobby_state.specs.StartPlan.{start_causes, start_plan}

@@ -3,11 +3,11 @@
 use Rattle.std.specs.Prelude.{ℕ, ◌-◌, false, [], IsTrue, map, None, Option, slice_set}
 use Rattle.std.specs.List.{list_any}
 use Rattle.fics_words.specs.Effect.{Effect}
+use Rattle.tables.specs.Rows.{change_first}
 use Rattle.lobby_state.specs.declared.acts.Plan.{Plan}
 use Rattle.lobby_state.specs.declared.acts.Plan.TheVariants.{Clear}
 use Rattle.lobby_state.specs.declared.game.ListedGame.{ListedGame}
 use Rattle.lobby_state.specs.declared.member.Member.{Member}
-use Rattle.lobby_state.specs.Change.{change_first}
 use Rattle.lobby_state.specs.Lobby.{LobbyState, is_session}
 use Rattle.lobby_state.specs.Places.{is_at, without_desk}
 use Rattle.lobby_state.specs.Players.{plays_in}

@@ -1,10 +1,10 @@
 -- Fetch: a session takes the lines that wait for it, and asks for its places. This server's own.
 use Rattle.std.specs.Prelude.{ℕ, false, []}
 use Rattle.fics_words.specs.Effect.{Effect}
+use Rattle.tables.specs.Rows.{change_first}
 use Rattle.lobby_state.specs.declared.acts.LobbyReply.{LobbyReply}
 use Rattle.lobby_state.specs.declared.acts.LobbyReply.TheVariants.{Waiting}
 use Rattle.lobby_state.specs.declared.member.Member.{Member}
-use Rattle.lobby_state.specs.Change.{change_first}
 use Rattle.lobby_state.specs.Lobby.{LobbyState, is_session, places_of, waiting_of}
 
 -- the member for whom no line waits any more

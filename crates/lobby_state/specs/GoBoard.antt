@@ -9,7 +9,7 @@ use Rattle.fics_words.specs.declared.seats.Seats.{Seats}
 use Rattle.lobby_state.specs.declared.acts.LobbyReply.{LobbyReply}
 use Rattle.lobby_state.specs.declared.game.ListedGame.{ListedGame}
 use Rattle.lobby_state.specs.declared.member.Member.{Member}
-use Rattle.lobby_state.specs.Change.{holds}
+use Rattle.lobby_state.specs.Holds.{holds}
 use Rattle.lobby_state.specs.Find.{present_of}
 use Rattle.lobby_state.specs.Lobby.{LobbyState, game_at, member_of, named, places_of}
 use Rattle.lobby_state.specs.OwnPlaces.{changing}

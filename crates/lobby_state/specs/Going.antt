@@ -1,10 +1,10 @@
 -- Going: a session begins to leave, and asks for its places. This server's own.
 use Rattle.std.specs.Prelude.{ℕ, true, false, []}
 use Rattle.fics_words.specs.Effect.{Effect}
+use Rattle.tables.specs.Rows.{change_first}
 use Rattle.lobby_state.specs.declared.acts.LobbyReply.{LobbyReply}
 use Rattle.lobby_state.specs.declared.acts.LobbyReply.TheVariants.{Places}
 use Rattle.lobby_state.specs.declared.member.Member.{Member}
-use Rattle.lobby_state.specs.Change.{change_first}
 use Rattle.lobby_state.specs.Lobby.{LobbyState, is_session, places_of, without_challenges, without_partner, without_resumes, without_seeks}
 
 -- the member that leaves, and can't be named from then on

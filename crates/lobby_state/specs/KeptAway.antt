@@ -6,7 +6,7 @@ use Rattle.fics_words.specs.declared.refusal.Refusal.TheVariants.{Refuses}
 use Rattle.lobby_state.specs.declared.acts.LobbyReply.{LobbyReply}
 use Rattle.lobby_state.specs.declared.acts.Plan.{Plan}
 use Rattle.lobby_state.specs.declared.member.Member.{Member}
-use Rattle.lobby_state.specs.Change.{holds}
+use Rattle.lobby_state.specs.Holds.{holds}
 use Rattle.lobby_state.specs.Lobby.{LobbyState, member_of, named}
 use Rattle.lobby_state.specs.Match.{match_effect}
 use Rattle.lobby_state.specs.NameList.{avoids, censors}

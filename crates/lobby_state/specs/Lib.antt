@@ -1,4 +1,4 @@
-pub mod Change
+pub mod Holds
 pub mod Lent
 pub mod Desks
 pub mod Places

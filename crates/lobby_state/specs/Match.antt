@@ -4,10 +4,11 @@ use Rattle.channel_feed.specs.Waiting.{is_full as are_full, with_line as with_on
 use Rattle.chess_model.specs.declared.variant.Terms.{Terms}
 use Rattle.fics_words.specs.Effect.{Cause, Effect}
 use Rattle.fics_words.specs.declared.refusal.Refusal.TheVariants.{NotIn, NoSuchPlayer, BadOpponent, Playing, Refuses, NotInVariant, NoPartner, QueueFull}
+use Rattle.tables.specs.Rows.{change_first}
 use Rattle.lobby_state.specs.declared.acts.LobbyReply.{LobbyReply}
 use Rattle.lobby_state.specs.declared.acts.LobbyReply.TheVariants.{Done}
 use Rattle.lobby_state.specs.declared.member.Member.{Member}
-use Rattle.lobby_state.specs.Change.{change_first, holds}
+use Rattle.lobby_state.specs.Holds.{holds}
 use Rattle.lobby_state.specs.Lobby.{LobbyState, is_session, is_named, is_busy, member_of, named}
 use Rattle.lobby_state.specs.NameList.{avoids}
 use Rattle.lobby_state.specs.Pairing.{are_partners, is_simul_of_four, lack_partner, paired, pairing_of}

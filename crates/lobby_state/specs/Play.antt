@@ -5,7 +5,7 @@ use Rattle.fics_words.specs.Effect.{Effect}
 use Rattle.fics_words.specs.declared.refusal.Refusal.TheVariants.{NotIn, NoSuchSeek, BadOpponent, Playing, Refuses}
 use Rattle.lobby_state.specs.declared.acts.Plan.{Plan}
 use Rattle.lobby_state.specs.declared.member.Member.{Member}
-use Rattle.lobby_state.specs.Change.{holds}
+use Rattle.lobby_state.specs.Holds.{holds}
 use Rattle.lobby_state.specs.Lobby.{LobbyState, free_slot, is_session, member_of}
 use Rattle.lobby_state.specs.NameList.{avoids}
 use Rattle.lobby_state.specs.Pairing.{are_playing, pairing_of}

@@ -3,9 +3,9 @@ use Rattle.std.specs.Prelude.{ℕ, Bool, false, List, [], ◌∷◌, Option, Non
 use Rattle.std.specs.List.{list_any}
 use Rattle.fics_words.specs.Seats.{plays_as, seat_list}
 use Rattle.fics_words.specs.declared.player.Player.{Player}
+use Rattle.tables.specs.Rows.{change_first}
 use Rattle.lobby_state.specs.declared.game.ListedGame.{ListedGame}
 use Rattle.lobby_state.specs.declared.member.Member.{Member}
-use Rattle.lobby_state.specs.Change.{change_first}
 use Rattle.lobby_state.specs.Lobby.{is_session}
 
 -- the members with those of these players changed, one after another

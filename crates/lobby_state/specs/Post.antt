@@ -7,7 +7,7 @@ use Rattle.lobby_state.specs.declared.acts.LobbyReply.{LobbyReply}
 use Rattle.lobby_state.specs.declared.acts.LobbyReply.TheVariants.{Number}
 use Rattle.lobby_state.specs.declared.member.Member.{Member}
 use Rattle.lobby_state.specs.Broadcast.{broadcast}
-use Rattle.lobby_state.specs.Change.{holds}
+use Rattle.lobby_state.specs.Holds.{holds}
 use Rattle.lobby_state.specs.Lobby.{LobbyState, gives, has_place, is_session, member_of}
 use Rattle.lobby_state.specs.Pairing.{needs_partners}
 use Rattle.lobby_state.specs.TermsText.{terms_words}

@@ -6,7 +6,7 @@ use Rattle.lobby_state.specs.declared.acts.LobbyReply.{LobbyReply}
 use Rattle.lobby_state.specs.declared.acts.LobbyReply.TheVariants.{Told}
 use Rattle.lobby_state.specs.declared.member.Member.{Member}
 use Rattle.lobby_state.specs.Broadcast.{broadcast}
-use Rattle.lobby_state.specs.Change.{holds}
+use Rattle.lobby_state.specs.Holds.{holds}
 use Rattle.lobby_state.specs.Lobby.{LobbyState, is_session, member_of, partner_in}
 use Rattle.lobby_state.specs.Match.{is_full}
 use Rattle.lobby_state.specs.Said.{said}

@@ -7,7 +7,7 @@ use Rattle.lobby_shelf.specs.Shelf.{account_order, ordered}
 use Rattle.lobby_state.specs.declared.acts.LobbyReply.{LobbyReply}
 use Rattle.lobby_state.specs.declared.acts.LobbyReply.TheVariants.{Done}
 use Rattle.lobby_state.specs.declared.member.Member.{Member}
-use Rattle.lobby_state.specs.Change.{holds}
+use Rattle.lobby_state.specs.Holds.{holds}
 use Rattle.lobby_state.specs.Lobby.{LobbyState, has_account, is_registered, member_of, most_accounts}
 
 -- the lobby with one account more, behind the others

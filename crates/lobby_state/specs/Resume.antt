@@ -17,7 +17,7 @@ use Rattle.lobby_shelf.specs.declared.shelved.Shelved.{Shelved}
 use Rattle.lobby_state.specs.declared.acts.Plan.{Plan}
 use Rattle.lobby_state.specs.declared.acts.Plan.TheVariants.{Resume, Ask}
 use Rattle.lobby_state.specs.declared.member.Member.{Member}
-use Rattle.lobby_state.specs.Change.{holds}
+use Rattle.lobby_state.specs.Holds.{holds}
 use Rattle.lobby_state.specs.Lobby.{LobbyState, free_slot, gives, holder_of, is_busy, is_registered, is_session, member_of, named}
 use Rattle.lobby_state.specs.Match.{is_full}
 use Rattle.lobby_state.specs.Pairing.{is_crowded, needs_partners}

@@ -4,8 +4,8 @@ use Rattle.std.specs.Prelude.{ℕ, List, [], codes}
 use Rattle.chess_model.specs.declared.variant.Terms.{Terms}
 use Rattle.fics_words.specs.declared.seats.Seats.{Seats}
 use Rattle.lobby_shelf.specs.Shelf.{asked, taken_off}
+use Rattle.tables.specs.Rows.{change_first}
 use Rattle.lobby_state.specs.declared.member.Member.{Member}
-use Rattle.lobby_state.specs.Change.{change_first}
 use Rattle.lobby_state.specs.Lobby.{LobbyState, is_session, member_of}
 use Rattle.lobby_state.specs.Match.{with_line}
 use Rattle.lobby_state.specs.Said.{said}

@@ -7,7 +7,7 @@ use Rattle.fics_words.specs.Seats.{seat_list, seat_number}
 use Rattle.seek_match.specs.declared.challenge.Challenge.{Challenge}
 use Rattle.lobby_shelf.specs.Shelf.{without_seated}
 use Rattle.lobby_state.specs.declared.member.Member.{Member}
-use Rattle.lobby_state.specs.Change.{holds}
+use Rattle.lobby_state.specs.Holds.{holds}
 use Rattle.lobby_state.specs.Lobby.{LobbyState, gives, is_session}
 use Rattle.lobby_state.specs.Places.{with_place}
 use Rattle.seek_match.specs.declared.seek.Seek.{Seek}

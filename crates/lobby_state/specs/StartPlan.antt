@@ -11,7 +11,7 @@ use Rattle.fics_words.specs.declared.seats.Seats.{Seats}
 use Rattle.lobby_state.specs.declared.acts.Plan.{Plan}
 use Rattle.lobby_state.specs.declared.acts.Plan.TheVariants.{Start, Clear}
 use Rattle.lobby_state.specs.declared.member.Member.{Member}
-use Rattle.lobby_state.specs.Change.{holds}
+use Rattle.lobby_state.specs.Holds.{holds}
 use Rattle.lobby_state.specs.Lobby.{LobbyState, most_games, gives, is_registered, free_slot}
 use Rattle.lobby_state.specs.Pairing.{Pairing, are_crowded, are_playing, beside_accepting, beside_offering}
 use Rattle.lobby_state.specs.ShelfRoom.{is_shelf_full}

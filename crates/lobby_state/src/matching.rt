@@ -2,7 +2,7 @@
 ghost use Rattle.std.specs.Prelude.{◌≡◌, IfOk, OnErr, OnOk};
 ghost use Rattle.channel_feed.specs.Waiting.{with_line as with_one_more};
 ghost use Rattle.fics_words.specs.Effect.{Takes, first_cause};
-ghost use Rattle.lobby_state.specs.Change.{change_first};
+ghost use Rattle.tables.specs.Rows.{change_first};
 ghost use Rattle.lobby_state.specs.Lobby.{is_named};
 ghost use Rattle.lobby_state.specs.Match.{challenge_words, challenged_by, match_causes, match_effect, with_line};
 ghost use Rattle.seek_match.specs.Matches.{with_challenge};

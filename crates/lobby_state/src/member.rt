@@ -1,7 +1,7 @@
 //! Somebody who is in the hall, and what waits for one.
 ghost use Rattle.std.specs.Prelude.{◌≡◌, OnOk, OnErr};
 ghost use Rattle.std.specs.List.{find};
-ghost use Rattle.lobby_state.specs.Change.{change_first};
+ghost use Rattle.tables.specs.Rows.{change_first};
 ghost use Rattle.lobby_state.specs.Enter.{new_member};
 ghost use Rattle.lobby_state.specs.Fetch.{emptied};
 ghost use Rattle.lobby_state.specs.Lobby.{is_session, is_named, gives, has_place, is_busy, lines_in};

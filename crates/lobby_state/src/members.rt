@@ -2,13 +2,12 @@
 ghost use Rattle.std.specs.Prelude.{◌≡◌, ◌<◌, ◌≤◌, [], ◌∷◌, ◌++◌, IfOk, None, OnErr, OnOk, Some, eqb, length, not, option_copied, slice_get};
 ghost use Rattle.std.specs.Borrow.{sem};
 ghost use Rattle.std.specs.List.{filter, find, position};
-ghost use Rattle.lobby_state.specs.Change.{change_first};
 ghost use Rattle.fics_words.specs.Handle.{key_of};
 ghost use Rattle.fics_words.specs.Seats.{seat_list};
 ghost use Rattle.lobby_state.specs.Lobby.{has_handle, is_named, is_session, most_members};
 ghost use Rattle.lobby_state.specs.Names.{AreNamedApart, with_rows};
 ghost use Rattle.lobby_state.specs.Players.{change_players};
-ghost use Rattle.tables.specs.Rows.{AreApart};
+ghost use Rattle.tables.specs.Rows.{AreApart, change_first};
 
 use crate::inbox::Inbox;
 use crate::member::Member;

@@ -1,6 +1,6 @@
 //! Who would play a game that two agree on: the two, and in bughouse their partners too.
 ghost use Rattle.std.specs.Prelude.{◌≡◌, option_copied};
-ghost use Rattle.lobby_state.specs.Change.{holds};
+ghost use Rattle.lobby_state.specs.Holds.{holds};
 ghost use Rattle.lobby_state.specs.Lobby.{is_busy};
 ghost use Rattle.lobby_state.specs.Pairing.{are_crowded, are_partners, are_playing, beside, is_crowded, is_simul_of_four};
 ghost use Rattle.lobby_state.specs.Pairing.{lack_partner, paired};

@@ -3,7 +3,7 @@ ghost use Rattle.std.specs.Prelude.{◌≡◌, ◌<◌, ◌+◌, length};
 ghost use Rattle.fics_words.specs.Effect.{answer_of};
 ghost use Rattle.game_records.specs.Bounds.{seats};
 ghost use Rattle.game_records.specs.Replays.{Replays};
-ghost use Rattle.lobby_state.specs.Change.{holds};
+ghost use Rattle.lobby_state.specs.Holds.{holds};
 ghost use Rattle.lobby_state.specs.Pairing.{is_crowded};
 ghost use Rattle.lobby_state.specs.Resume.{are_full_up, are_held, as_they_sat, board_of, going_on, has_asked_for, is_held, playing_as};
 ghost use Rattle.lobby_state.specs.Resume.{resume_effect, resuming, seated_as, would_start};

@@ -3,9 +3,9 @@ ghost use Rattle.std.specs.Prelude.{◌≡◌, ◌+◌, ◌<◌, ◌^◌, All, I
 ghost use Rattle.game_records.specs.Replays.{Replays};
 ghost use Rattle.lobby_shelf.specs.Numbers.{is_used};
 ghost use Rattle.lobby_shelf.specs.Shelf.{most_stored, removal_order, taken_off};
+ghost use Rattle.tables.specs.Rows.{change_first};
 ghost use Rattle.lobby_state.specs.declared.reserve.Ready.TheVariants.{Resuming};
 ghost use Rattle.lobby_state.specs.Desks.{IsDesk};
-ghost use Rattle.lobby_state.specs.Change.{change_first};
 ghost use Rattle.lobby_state.specs.Lobby.{is_session};
 ghost use Rattle.lobby_state.specs.Plans.{put_away};
 ghost use Rattle.lobby_state.specs.Reserve.{HasRoomFor, asking_for, shelved_in, shelving_for};

@@ -33,7 +33,7 @@ use Rattle.lobby_state.proofs.KeepsClear.{place-left}
 use Rattle.lobby_state.proofs.Refusals.{holds_after}
 use Rattle.chess_model.specs.declared.variant.Terms.{Terms}
 use Rattle.lobby_state.specs.declared.member.Member.{Member}
-use Rattle.lobby_state.specs.Change.{holds}
+use Rattle.lobby_state.specs.Holds.{holds}
 use Rattle.lobby_state.specs.Registration.{registered}
 use Rattle.lobby_store.specs.Agreeing.{LeadsAlong, TellsSaved}
 

@@ -2,8 +2,7 @@ use Rattle.std.proofs.Common.{sym, ap, ◌∙◌}
 use Rattle.channel_feed.specs.Waiting.{with_line as with_one_more}
 use Rattle.lobby_state.specs.Lobby.{is_named}
 use Rattle.lobby_state.specs.Match.{with_line}
-use Rattle.lobby_state.proofs.First.{change_first-missing}
-use Rattle.lobby_state.proofs.Lent.{changed_there, kept_here}
+use Rattle.lobby_state.proofs.Lent.{change_first-missing, changed_there, kept_here}
 use Rattle.lobby_state.proofs.member.add_line.Goals as goal
 use Rattle.tables.proofs.Firsts.{on_err}
 

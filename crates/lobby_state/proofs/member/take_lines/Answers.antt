@@ -1,8 +1,7 @@
 use Rattle.std.proofs.Common.{sym, ap, ◌∙◌}
 use Rattle.lobby_state.specs.Lobby.{is_session, lines_in}
 use Rattle.lobby_state.specs.Fetch.{emptied}
-use Rattle.lobby_state.proofs.First.{change_first-missing}
-use Rattle.lobby_state.proofs.Lent.{at_place, changed_there}
+use Rattle.lobby_state.proofs.Lent.{at_place, change_first-missing, changed_there}
 use Rattle.lobby_state.proofs.member.take_lines.Goals as goal
 use Rattle.tables.proofs.Placed.{find-found, find-missing, position-within}
 

@@ -1,6 +1,6 @@
 use Rattle.std.proofs.Common.{List, sym, ap, ◌∙◌}
 use Rattle.fics_words.specs.declared.player.Player.{Player}
-use Rattle.lobby_state.specs.Change.{change_first}
+use Rattle.tables.specs.Rows.{change_first}
 use Rattle.lobby_state.specs.Lobby.{is_session}
 use Rattle.lobby_state.specs.Players.{change_players}
 use Rattle.lobby_state.proofs.Seated.{of_four, of_two}

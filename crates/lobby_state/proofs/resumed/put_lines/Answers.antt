@@ -1,8 +1,7 @@
 use Rattle.std.proofs.Common.{refl, sym}
 use Rattle.lobby_state.specs.Lobby.{is_session}
 use Rattle.lobby_state.specs.Resumed.{with_lines}
-use Rattle.lobby_state.proofs.First.{change_first-missing}
-use Rattle.lobby_state.proofs.Lent.{changed_there}
+use Rattle.lobby_state.proofs.Lent.{change_first-missing, changed_there}
 use Rattle.lobby_state.proofs.resumed.put_lines.Goals as goal
 
 pub returns-in_default : goal.returns-in_default

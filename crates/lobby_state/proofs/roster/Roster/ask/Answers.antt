@@ -2,9 +2,9 @@ use Rattle.std.proofs.Common.{◌≡◌, ℕ, List, sym, ap, subst, ◌∙◌}
 use Rattle.channel_feed.specs.Waiting.{with_line as with_one_more}
 use Rattle.lobby_shelf.specs.Shelf.{ShelfState}
 use Rattle.lobby_shelf.specs.declared.request.Request.{Request}
+use Rattle.tables.specs.Rows.{change_first}
 use Rattle.lobby_state.specs.declared.member.Member.{Member}
 use Rattle.lobby_state.specs.declared.reserve.Ready.TheVariants.{Asking}
-use Rattle.lobby_state.specs.Change.{change_first}
 use Rattle.lobby_state.specs.Lobby.{LobbyState, is_session, waiting_of}
 use Rattle.lobby_state.specs.Match.{with_line}
 use Rattle.lobby_state.specs.Reserve.{asking_for}
