@@ -117,7 +117,8 @@ pub record IsBadTold (table : Option Records) (left left' written written' : Opt
   pub text : Appends written written' (bad_record_line key)
 
 -- the store is good and has no game of the number: nothing was read, and that was told
-pub record IsNoneTold (table : Option Records) (number : ℕ) (left left' written written' : Option (List ℕ)) : Type 0 where
+pub record IsNoneTold (table : Option Records) (number : ℕ)
+    (left left' written written' : Option (List ℕ)) : Type 0 where
   pub unread : left' ≡ left
   pub none : HasNone table number
   pub text : Appends written written' no_such_game

@@ -30,7 +30,8 @@ use Rattle.cmd_run.specs.declared.command.RunCommand.{RunCommand}
 use Rattle.cmd_run.specs.declared.command.RunCommand.TheVariants.{Board, Replay, Tourney, Tidy, Bot, Demo, Check, Pgn, Examine}
 
 -- how a command ends over this table, where it is told; `demo`, `check` and `pgn` leave the input as it was
-abbrev pub CommandEnds : Option Records → Option (List ℕ) → Option (List ℕ) → Option (List ℕ) → Option (List ℕ) → Outcome
+abbrev pub CommandEnds : Option Records → Option (List ℕ) → Option (List ℕ) → Option (List ℕ) → Option (List ℕ)
+    → Outcome
     → RunCommand → Type 0
 CommandEnds table left left' written written' outcome Board = AsRead (BoardEnds left left' written written') outcome
 CommandEnds table left left' written written' outcome Replay = AsRead (ReplayEnds left left' written written') outcome

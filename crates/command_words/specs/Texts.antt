@@ -6,4 +6,5 @@ use Rattle.fics_words.specs.Line.{most_text_bytes}
 -- a text is 1 to 800 printable bytes
 abbrev pub is_text : List ℕ → Bool
 is_text bytes =
-    nat_le 1 (length bytes) && (nat_le (length bytes) most_text_bytes && list_all (λ b. nat_le 0x20 b && nat_le b 0x7E) bytes)
+    nat_le 1 (length bytes)
+    && (nat_le (length bytes) most_text_bytes && list_all (λ b. nat_le 0x20 b && nat_le b 0x7E) bytes)

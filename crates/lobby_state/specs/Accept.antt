@@ -32,9 +32,9 @@ abbrev pub terms_in : Option Challenge → Option Terms
 terms_in None = None
 terms_in (Some offer) = Some offer.terms
 
--- an acceptance is refused where the session isn't a member; where there is no such challenge; in bughouse where the two
--- are partners by now, where one of them gives a simul, and where one has no partner; and where no game of theirs can
--- start. The partners who play are those of the moment of the acceptance
+-- an acceptance is refused where the session isn't a member; where there is no such challenge; in bughouse where the
+-- two are partners by now, where one of them gives a simul, and where one has no partner; and where no game of theirs
+-- can start. The partners who play are those of the moment of the acceptance
 abbrev pub accept_effect : LobbyState → ℕ → Option (List ℕ) → Effect LobbyState Plan
 accept_effect lobby session name =
     let accepting = member_of lobby session in

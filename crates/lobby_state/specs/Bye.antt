@@ -12,6 +12,7 @@ bye_effect lobby session = record {
   causes = [];
   memory = false;
   reply = Done;
-  after = without_resumes session (without_partner session (without_channels session (without_seeks session (without_challenges session
+  after = without_resumes session
+      (without_partner session (without_channels session (without_seeks session (without_challenges session
       (record lobby { members = filter (λ member. not (is_session session member)) lobby.members })))));
 }

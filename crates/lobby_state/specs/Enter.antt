@@ -30,8 +30,8 @@ abbrev pub spelled : List ℕ → Option Account → List ℕ
 spelled name None = name
 spelled name (Some account) = account.name
 
--- who asks to come in: a guest; or somebody who gives a handle, and mostly a password where that has an account. Without
--- an account a password means nothing
+-- who asks to come in: a guest; or somebody who gives a handle, and mostly a password where that has an account.
+-- Without an account a password means nothing
 abbrev pub entrant_of : LobbyState → Option (List ℕ) → Option (List ℕ) → Entrant
 entrant_of lobby None digest = record { name = guest_in lobby; check = Free }
 entrant_of lobby (Some name) digest =

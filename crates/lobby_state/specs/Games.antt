@@ -42,7 +42,8 @@ abbrev pub lines_to : LobbyState → ℕ → List (List ℕ)
 lines_to lobby zero = []
 lines_to lobby (suc desk) = lines_to lobby desk ++ lines_at (desk + 1) (game_at lobby (desk + 1))
 
--- the lines of all desks, in the order of the games' numbers. A game that has ended is there as long as its desk is in use
+-- the lines of all desks, in the order of the games' numbers. A game that has ended is there as long as its desk is in
+-- use
 unfoldable pub games_lines : LobbyState → List (List ℕ)
 games_lines lobby = lines_to lobby desks
 

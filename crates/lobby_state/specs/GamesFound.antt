@@ -4,8 +4,8 @@ use Rattle.std.specs.List.{AllPairs}
 use Rattle.lobby_state.specs.FindGame.{first_seat}
 use Rattle.lobby_state.specs.Lobby.{LobbyState}
 
--- the lines are those of the games that a FindGame finds, each of them once, in the order of their numbers, and each line
--- begins with its game's number
+-- the lines are those of the games that a FindGame finds, each of them once, in the order of their numbers, and each
+-- line begins with its game's number
 pub record ListWhatIsFound (lobby : LobbyState) (lines : List (List ℕ)) : Type 0 where
   pub numbers : List ℕ
   pub found : (number : ℕ) → Contains numbers number ↔ IsSome (first_seat lobby number)

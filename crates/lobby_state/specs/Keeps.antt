@@ -29,8 +29,8 @@ TellsDesks (Waiting lines places) = AreAtDesks places.rows
 TellsDesks (Desks desks) = All (λ row. IsDesk row.desk) desks
 TellsDesks (Orders orders) = Unit {0}
 
--- what a lobby act keeps that is made under these conditions: it leaves a lobby well-formed, it starts and ends no game,
--- and it tells of desks alone
+-- what a lobby act keeps that is made under these conditions: it leaves a lobby well-formed, it starts and ends no
+-- game, and it tells of desks alone
 pub record KeepsWhere (conditions : Type 0) (lobby : LobbyState) (effect : Effect LobbyState LobbyReply) : Type 0 where
   pub formed : conditions → NoneHolds effect.causes → IsWellFormed lobby → IsWellFormed effect.after
   pub games : effect.after.games ≡ lobby.games

@@ -19,8 +19,8 @@ pub record IsUnheard (lobby : LobbyState) (session : ℕ) (to : List ℕ) : Type
   pub refused : (text : List ℕ) → answer_of (tell_effect lobby session to text) ≡ Err Refuses
   pub nothing : (text : List ℕ) → state_of lobby (tell_effect lobby session to text) ≡ lobby
 
--- the lists keep away: a member that another censors tells it nothing, one that another avoids doesn't challenge it, and
--- takes no seek of it
+-- the lists keep away: a member that another censors tells it nothing, one that another avoids doesn't challenge it,
+-- and takes no seek of it
 pub record KeepAway (lobby : LobbyState) (session : ℕ) (to : List ℕ) (number : ℕ) : Type 0 where
   pub tells : (member other : Member) → member_of lobby session ≡ Some member → named lobby to ≡ Some other
       → censors (Some member) other ≡ true → IsUnheard lobby session to

@@ -11,12 +11,15 @@ use Rattle.lobby_state.specs.declared.member.Member.{Member}
 -- nothing else of it has changed, and no other member.
 abbrev pub lends_waiting : MutBor (List Member) → ℕ → MutBor (List (List ℕ)) → Fml
 lends_waiting members place waiting =
-    Lends the_row inbox_row members waiting (λ last. change_at place (λ member. record member { waiting = last }) members.now)
+    Lends the_row inbox_row members waiting
+    (λ last. change_at place (λ member. record member { waiting = last }) members.now)
 
 abbrev pub lends_censor : MutBor (List Member) → ℕ → MutBor (List (List ℕ)) → Fml
 lends_censor members place names =
-    Lends the_row name_list_row members names (λ last. change_at place (λ member. record member { censor = last }) members.now)
+    Lends the_row name_list_row members names
+    (λ last. change_at place (λ member. record member { censor = last }) members.now)
 
 abbrev pub lends_noplay : MutBor (List Member) → ℕ → MutBor (List (List ℕ)) → Fml
 lends_noplay members place names =
-    Lends the_row name_list_row members names (λ last. change_at place (λ member. record member { noplay = last }) members.now)
+    Lends the_row name_list_row members names
+    (λ last. change_at place (λ member. record member { noplay = last }) members.now)

@@ -1,4 +1,5 @@
--- List: a member puts a name on one of its two lists, or takes it off; and what the lists keep away. The lists are FICS's.
+-- List: a member puts a name on one of its two lists, or takes it off; and what the lists keep away. The lists are
+-- FICS's.
 use Rattle.std.specs.Prelude.{ℕ, Bool, true, false, ◌||◌, List, [], ◌∷◌, Option, None, Some, is_none}
 use Rattle.std.specs.List.{find}
 use Rattle.channel_feed.specs.NameLists.{adding, is_on, removing}

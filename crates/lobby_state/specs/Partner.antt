@@ -31,11 +31,12 @@ abbrev pub partner_words : Bool → List ℕ → List ℕ
 partner_words true name = codes "You are now the partner of " ++ name ++ codes "."
 partner_words false name = said name (codes " offers to be your partner.") []
 
--- the lobby where the member of this name has asked another: they are partners where the other has asked before, and else
--- the request stands; and the other is told
+-- the lobby where the member of this name has asked another: they are partners where the other has asked before, and
+-- else the request stands; and the other is told
 abbrev pub partnered_with : LobbyState → ℕ → List ℕ → ℕ → LobbyState
 partnered_with lobby session name other = record lobby {
-  members = broadcast (is_session other) (partner_words (has_asked lobby.partners.requests other session) name) lobby.members;
+  members = broadcast (is_session other)
+      (partner_words (has_asked lobby.partners.requests other session) name) lobby.members;
   partners = (asking lobby.partners session other).after;
 }
 

@@ -38,11 +38,12 @@ IsMember lobby player = Contains (sessions_of lobby.members) player.session
 abbrev pub HasPartner : LobbyState → Player → Player → Type 0
 HasPartner lobby one another = partner_in lobby one.session ≡ Some another.session
 
--- where there is a second board, White of the first has Black of the second as its partner, and Black of the first White
--- of the second
+-- where there is a second board, White of the first has Black of the second as its partner, and Black of the first
+-- White of the second
 abbrev pub SitCrosswise : LobbyState → Opponents → Option Opponents → Type 0
 SitCrosswise lobby first None = Unit {0}
-SitCrosswise lobby first (Some second) = HasPartner lobby first.white second.black × HasPartner lobby first.black second.white
+SitCrosswise lobby first (Some second) =
+    HasPartner lobby first.white second.black × HasPartner lobby first.black second.white
 
 -- a game on these terms can start at this desk under this serial with these players: the desk is free, the serial is
 -- the next one, fewer than 2^62 games were started, there is a place on the shelf for the game, the terms are within
@@ -60,9 +61,9 @@ pub record CanStart (lobby : LobbyState) (desk serial : ℕ) (terms : Terms) (se
   pub partners : SitCrosswise lobby seats.first seats.second
 
 -- the game of that number can be resumed at this desk under this serial with these players: it lies on the shelf, its
--- terms are these, and its players have the names of those who play; the desk is free, the serial is the next one, fewer
--- than 2^62 games were started, the terms are within their bounds, and the players are members, as many as the variant
--- has, and apart
+-- terms are these, and its players have the names of those who play; the desk is free, the serial is the next one,
+-- fewer than 2^62 games were started, the terms are within their bounds, and the players are members, as many as the
+-- variant has, and apart
 pub record CanResume (lobby : LobbyState) (desk serial number : ℕ) (terms : Terms) (seats : Seats) : Type 0 where
   pub game : StoredGame
   pub lies : stored_game lobby.shelf.games number ≡ Some game

@@ -23,9 +23,9 @@ abbrev pub terms_sought : Option Seek → Option Terms
 terms_sought None = None
 terms_sought (Some seek) = Some seek.terms
 
--- a Play is refused where the session isn't a member; where no seek has the number; where the seek is its own; where one
--- of the two is busy; where the seek's player has the member on one of its lists; and where no game of the two can start,
--- of which the seek's player is the one that offers. No seek is of bughouse, so nobody sits beside the two
+-- a Play is refused where the session isn't a member; where no seek has the number; where the seek is its own; where
+-- one of the two is busy; where the seek's player has the member on one of its lists; and where no game of the two can
+-- start, of which the seek's player is the one that offers. No seek is of bughouse, so nobody sits beside the two
 abbrev pub play_effect : LobbyState → ℕ → ℕ → Effect LobbyState Plan
 play_effect lobby session number =
     let accepting = member_of lobby session in

@@ -25,7 +25,8 @@ confided lobby (Some caller) (Some partner) text = record lobby {
       broadcast (is_session partner) (said caller.name (codes " (your partner) tells you: ") text) lobby.members;
 }
 
--- a Ptell is refused where the session isn't a member; where it has no partner; and where 512 lines wait for the partner
+-- a Ptell is refused where the session isn't a member; where it has no partner; and where 512 lines wait for the
+-- partner
 abbrev pub ptell_effect : LobbyState → ℕ → List ℕ → Effect LobbyState LobbyReply
 ptell_effect lobby session text = record {
   causes =

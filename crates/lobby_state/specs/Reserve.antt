@@ -34,8 +34,8 @@ abbrev pub asking_for : LobbyState → ℕ → ℕ → ℕ → Ready
 asking_for lobby from to number =
     Asking (record { by = from; game = number }) (with_line (ask_line lobby from) (waiting_of lobby to))
 
--- what a plan needs: a Clear the order for the game that goes on the shelf, if one does; a Resume the order for the game
--- that leaves it; and an Ask the request, and the lines that then wait for the other
+-- what a plan needs: a Clear the order for the game that goes on the shelf, if one does; a Resume the order for the
+-- game that leaves it; and an Ask the request, and the lines that then wait for the other
 abbrev pub ready_for : LobbyState → Plan → Option StoredGame → Ready
 ready_for lobby (Start desk serial terms seats) shelved = Nothing
 ready_for lobby (Clear session desk serial) shelved = shelving_for lobby.shelf shelved

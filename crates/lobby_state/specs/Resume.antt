@@ -111,7 +111,8 @@ going_on lobby row = record {
   after = lobby;
 }
 
--- the caller asks the other: refused where one of the two can't begin the game now, and where 512 lines wait for the other
+-- the caller asks the other: refused where one of the two can't begin the game now, and where 512 lines wait for the
+-- other
 abbrev pub asking : LobbyState → Member → Member → Shelved → Effect LobbyState Plan
 asking lobby caller other row = record {
   causes =
@@ -122,7 +123,8 @@ asking lobby caller other row = record {
   after = lobby;
 }
 
--- the game of these three: it starts where all its players but the caller ask for it, and else the caller asks the other
+-- the game of these three: it starts where all its players but the caller ask for it, and else the caller asks the
+-- other
 abbrev pub resuming : LobbyState → Resuming → Effect LobbyState Plan
 resuming lobby r = cond (would_start lobby r.caller r.row) (going_on lobby r.row) (asking lobby r.caller r.other r.row)
 
@@ -135,8 +137,8 @@ abbrev pub resuming_plan : LobbyState → Option Resuming → Plan
 resuming_plan lobby None = no_plan
 resuming_plan lobby (Some r) = (resuming lobby r).reply
 
--- a Resume is refused where the session isn't a member; where nobody has the handle, or that member is going; where it is
--- the session itself; where no stored game has both among its players; and where the game can't start, or the other
+-- a Resume is refused where the session isn't a member; where nobody has the handle, or that member is going; where it
+-- is the session itself; where no stored game has both among its players; and where the game can't start, or the other
 -- can't be asked. Whether it would start is decided first
 abbrev pub resume_effect : LobbyState → ℕ → List ℕ → Effect LobbyState Plan
 resume_effect lobby session key =

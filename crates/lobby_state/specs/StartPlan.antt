@@ -1,4 +1,5 @@
--- A game between a member that offers one and a member that accepts: why it can't start, and its plan. This server's own.
+-- A game between a member that offers one and a member that accepts: why it can't start, and its plan. This server's
+-- own.
 use Rattle.std.specs.Prelude.{ℕ, ◌+◌, ◌%◌, ◌==◌, Bool, true, false, ◌||◌, nat_le, List, [], ◌∷◌, Option, None, Some, is_none}
 use Rattle.chess_model.specs.declared.man.Colour.{Colour}
 use Rattle.chess_model.specs.declared.man.Colour.TheVariants.{White, Black}
@@ -16,8 +17,8 @@ use Rattle.lobby_state.specs.Lobby.{LobbyState, most_games, gives, is_registered
 use Rattle.lobby_state.specs.Pairing.{Pairing, are_crowded, are_playing, beside_accepting, beside_offering}
 use Rattle.lobby_state.specs.ShelfRoom.{is_shelf_full}
 
--- whether the offering player has White where neither gives a simul, or both do, in a game of this serial: by the colour
--- that it asked for, and else where the serial is odd
+-- whether the offering player has White where neither gives a simul, or both do, in a game of this serial: by the
+-- colour that it asked for, and else where the serial is odd
 abbrev pub offers_white : Option Colour → ℕ → Bool
 offers_white (Some White) serial = true
 offers_white (Some Black) serial = false
@@ -72,8 +73,8 @@ start_plan _ _ _ = no_plan
 abbrev pub has_no_desk : LobbyState → Bool
 has_no_desk lobby = is_none (free_slot lobby) || nat_le most_games lobby.started
 
--- no game starts where one of those who would be seated is busy; where one of them is crowded; where there is no desk for
--- it; and where there would be no place for it on the shelf
+-- no game starts where one of those who would be seated is busy; where one of them is crowded; where there is no desk
+-- for it; and where there would be no place for it on the shelf
 abbrev pub start_causes : LobbyState → Option Pairing → List Cause
 start_causes lobby pairing =
     (holds (are_playing lobby) pairing, Playing) ∷

@@ -73,10 +73,11 @@ pub record IsShelfOf (sessions : List ℕ) (shelf : ShelfState) : Type 0 where
   pub sound : IsShelf shelf
   pub members : All (λ request. Contains sessions request.by) shelf.requests
 
--- at most 2^62 games were started; stored games and desks in use are at most 10,000 together, so that each game that runs
--- has its place on the shelf; and a save order was made for an account at most once, and for a game at most as it was
--- resumed and as it was adjourned, so that the numbers of orders stay below 2^64
-pub record AreCounted (accounts : List Account) (games : List (Option ListedGame)) (started : ℕ) (shelf : ShelfState) : Type 0 where
+-- at most 2^62 games were started; stored games and desks in use are at most 10,000 together, so that each game that
+-- runs has its place on the shelf; and a save order was made for an account at most once, and for a game at most as it
+-- was resumed and as it was adjourned, so that the numbers of orders stay below 2^64
+pub record AreCounted (accounts : List Account) (games : List (Option ListedGame)) (started : ℕ)
+    (shelf : ShelfState) : Type 0 where
   pub few : started ≤ most_games
   pub room : length shelf.games + desks_used games ≤ most_stored
   pub orders : shelf.made + desks_used games ≤ 2 * started + length accounts
@@ -112,8 +113,8 @@ IsStarted started (Some game) = IsStartedGame started game
 -- one session, and no two one handle; each challenge is by one member to another, and nobody has two to one player; the
 -- seeks are by members; the requests and links of partners are of members, and nobody has two partners; there are 128
 -- desks, and each game has a serial that was given out, and two boards exactly in bughouse; each place of a member is a
--- seat of its own in such a game; the terms of challenges, seeks and games are within their bounds; the shelf is sound, with
--- requests by members; and games, orders and places on the shelf are as many as they can be
+-- seat of its own in such a game; the terms of challenges, seeks and games are within their bounds; the shelf is sound,
+-- with requests by members; and games, orders and places on the shelf are as many as they can be
 pub record IsWellFormed (lobby : LobbyState) : Type 0 where
   pub accounts : AreAccounts lobby.accounts
   pub hall : length lobby.members ≤ most_members

@@ -31,22 +31,27 @@ same_lobby : (one another : LobbyState) → Some (TheLobby one) ≡ Some (TheLob
 same_lobby one another e = cc
 
 -- the lobby of a whole state is the one that stands first
-pub first_is : (xs : List Part) (lobby : LobbyState) (w : IsWhole xs) → slice_get xs 0 ≡ Some (TheLobby lobby) → w.lobby ≡ lobby
+pub first_is : (xs : List Part) (lobby : LobbyState) (w : IsWhole xs) → slice_get xs 0 ≡ Some (TheLobby lobby)
+    → w.lobby ≡ lobby
 first_is xs lobby w e = same_lobby w.lobby lobby (sym w.first ∙ e)
 
-pub formed_is : (xs : List Part) (lobby : LobbyState) → IsWhole xs → slice_get xs 0 ≡ Some (TheLobby lobby) → IsWellFormed lobby
+pub formed_is : (xs : List Part) (lobby : LobbyState) → IsWhole xs → slice_get xs 0 ≡ Some (TheLobby lobby)
+    → IsWellFormed lobby
 formed_is xs lobby w e = subst IsWellFormed (first_is xs lobby w e) w.formed
 
 pub place_is : (xs : List Part) (lobby : LobbyState) → IsWhole xs → slice_get xs 0 ≡ Some (TheLobby lobby)
     → (place : ℕ) (part : Part) → slice_get xs place ≡ Some part → IsInPlace lobby place part
-place_is xs lobby w e place part h = subst (λ (l : LobbyState). IsInPlace l place part) (first_is xs lobby w e) (w.places place part h)
+place_is xs lobby w e place part h =
+    subst (λ (l : LobbyState). IsInPlace l place part) (first_is xs lobby w e) (w.places place part h)
 
 -- a desk's number has its desk
-desk_there : (lobby : LobbyState) (number : ℕ) (part : Part) → IsDesk number → IsInPlace lobby number part → (desk : DeskState) × (part ≡ ADesk desk)
+desk_there : (lobby : LobbyState) (number : ℕ) (part : Part) → IsDesk number → IsInPlace lobby number part
+    → (desk : DeskState) × (part ≡ ADesk desk)
 desk_there lobby number (TheLobby other) d h = absurd (omega arith)
 desk_there lobby number (ADesk desk) d h = (desk, refl)
 
-pub desk_at : (xs : List Part) (number : ℕ) → IsWhole xs → IsDesk number → (desk : DeskState) × (slice_get xs number ≡ Some (ADesk desk))
+pub desk_at : (xs : List Part) (number : ℕ) → IsWhole xs → IsDesk number
+    → (desk : DeskState) × (slice_get xs number ≡ Some (ADesk desk))
 desk_at xs number w d =
     let inside : number < length xs = omega (arith, w.count) in
     let found = get_within xs number inside in
@@ -54,16 +59,20 @@ desk_at xs number w d =
     (is.0, found.1 ∙ ap Some is.1)
 
 -- a part stays in place where the lobby lists the same game at its number
-listed_still : (lobby other : LobbyState) (place : ℕ) (part : Part) → (1 ≤ place → slice_get other.games (place - 1) ≡ slice_get lobby.games (place - 1))
+listed_still : (lobby other : LobbyState) (place : ℕ) (part : Part)
+    → (1 ≤ place → slice_get other.games (place - 1) ≡ slice_get lobby.games (place - 1))
     → IsInPlace lobby place part → IsInPlace other place part
 listed_still lobby other place (TheLobby another) same h = h
-listed_still lobby other place (ADesk desk) same h = (h.0, record { numbered = h.1.numbered; sound = h.1.sound; listed = same h.0 ∙ h.1.listed })
+listed_still lobby other place (ADesk desk) same h =
+    (h.0, record { numbered = h.1.numbered; sound = h.1.sound; listed = same h.0 ∙ h.1.listed })
 
-at_front : (lobby : LobbyState) (place : ℕ) (other : LobbyState) (part : Part) → place ≡ 0 → TheLobby other ≡ part → IsInPlace lobby place part
+at_front : (lobby : LobbyState) (place : ℕ) (other : LobbyState) (part : Part) → place ≡ 0 → TheLobby other ≡ part
+    → IsInPlace lobby place part
 at_front lobby place other part e is = subst (IsInPlace lobby place) is e
 
 -- the lobby is written anew, and lists the same games
-pub whole_lobby : (xs : List Part) (lobby new : LobbyState) → IsWhole xs → slice_get xs 0 ≡ Some (TheLobby lobby) → IsWellFormed new → new.games ≡ lobby.games
+pub whole_lobby : (xs : List Part) (lobby new : LobbyState) → IsWhole xs → slice_get xs 0 ≡ Some (TheLobby lobby)
+    → IsWellFormed new → new.games ≡ lobby.games
     → IsWhole (set xs 0 (TheLobby new))
 whole_lobby xs lobby new w e formed games = record {
   count = length-set xs 0 (TheLobby new) ∙ w.count;
@@ -72,12 +81,15 @@ whole_lobby xs lobby new w e formed games = record {
   formed = formed;
   places = λ place part h. elim (after_write xs 0 place (TheLobby new) part h) [
     | inl here ↦ at_front new place new part here.0 here.1
-    | inr there ↦ listed_still lobby new place part (λ z. ap (λ (gs : List (Option ListedGame)). slice_get gs (place - 1)) games) (place_is xs lobby w e place part there.1)
+    | inr there ↦ listed_still lobby new place part
+        (λ z. ap (λ (gs : List (Option ListedGame)). slice_get gs (place - 1)) games)
+        (place_is xs lobby w e place part there.1)
   ];
 }
 
 -- a desk is written anew, for which the lobby lists what it listed before
-pub whole_desk : (xs : List Part) (number : ℕ) (desk new : DeskState) → IsWhole xs → slice_get xs number ≡ Some (ADesk desk) → new.number ≡ desk.number → game_of new ≡ game_of desk → HasSoundGame new
+pub whole_desk : (xs : List Part) (number : ℕ) (desk new : DeskState) → IsWhole xs
+    → slice_get xs number ≡ Some (ADesk desk) → new.number ≡ desk.number → game_of new ≡ game_of desk → HasSoundGame new
     → IsWhole (set xs number (ADesk new))
 whole_desk xs number desk new w e numbered game sound =
     let place : (1 ≤ number) × IsListed w.lobby number desk = w.places number (ADesk desk) e in
@@ -87,24 +99,35 @@ whole_desk xs number desk new w e numbered game sound =
       first = get_set_else xs number 0 (ADesk new) (λ z. omega (arith, place.0)) ∙ w.first;
       formed = w.formed;
       places = λ at part h. elim (after_write xs number at (ADesk new) part h) [
-        | inl here ↦ subst (IsInPlace w.lobby at) here.1 (subst (λ (n : ℕ). IsInPlace w.lobby n (ADesk new)) (sym here.0)
-            (place.0, record { numbered = numbered ∙ place.1.numbered; sound = sound; listed = place.1.listed ∙ ap Some (sym game) }))
+        | inl here ↦ subst (IsInPlace w.lobby at) here.1
+            (subst (λ (n : ℕ). IsInPlace w.lobby n (ADesk new)) (sym here.0) (
+              place.0,
+              record {
+                numbered = numbered ∙ place.1.numbered;
+                sound = sound;
+                listed = place.1.listed ∙ ap Some (sym game);
+              },
+            ))
         | inr there ↦ w.places at part there.1
       ];
     }
 
 -- the lobby and a desk are written anew, and the lobby lists at the desk's number what the desk is in use for now
-pub whole_both : (xs : List Part) (lobby other : LobbyState) (number : ℕ) (desk new : DeskState) → IsWhole xs → slice_get xs 0 ≡ Some (TheLobby lobby) → slice_get xs number ≡ Some (ADesk desk)
-    → IsWellFormed other → other.games ≡ set lobby.games (number - 1) (game_of new) → new.number ≡ desk.number → HasSoundGame new
+pub whole_both : (xs : List Part) (lobby other : LobbyState) (number : ℕ) (desk new : DeskState) → IsWhole xs
+    → slice_get xs 0 ≡ Some (TheLobby lobby) → slice_get xs number ≡ Some (ADesk desk)
+    → IsWellFormed other → other.games ≡ set lobby.games (number - 1) (game_of new) → new.number ≡ desk.number
+    → HasSoundGame new
     → IsWhole (set (set xs 0 (TheLobby other)) number (ADesk new))
 whole_both xs lobby other number desk new w e d formed games numbered sound =
     let place : (1 ≤ number) × IsListed lobby number desk = place_is xs lobby w e number (ADesk desk) d in
-    let inside : number - 1 < length lobby.games = slice_get_length lobby.games (number - 1) (game_of desk) place.1.listed in
+    let inside : number - 1 < length lobby.games =
+    slice_get_length lobby.games (number - 1) (game_of desk) place.1.listed in
     let front : List Part = set xs 0 (TheLobby other) in
     record {
       count = length-set front number (ADesk new) ∙ (length-set xs 0 (TheLobby other) ∙ w.count);
       lobby = other;
-      first = get_set_else front number 0 (ADesk new) (λ z. omega (arith, place.0)) ∙ get_set_same xs 0 (TheLobby other) (omega (arith, w.count));
+      first = get_set_else front number 0 (ADesk new) (λ z. omega (arith, place.0))
+          ∙ get_set_same xs 0 (TheLobby other) (omega (arith, w.count));
       formed = formed;
       places = λ at part h. elim (after_write front number at (ADesk new) part h) [
         | inl here ↦ subst (IsInPlace other at) here.1 (subst (λ (n : ℕ). IsInPlace other n (ADesk new)) (sym here.0) (
@@ -112,14 +135,16 @@ whole_both xs lobby other number desk new w e d formed games numbered sound =
           record {
             numbered = numbered ∙ place.1.numbered;
             sound = sound;
-            listed = ap (λ (gs : List (Option ListedGame)). slice_get gs (number - 1)) games ∙ get_set_same lobby.games (number - 1) (game_of new) inside;
+            listed = ap (λ (gs : List (Option ListedGame)). slice_get gs (number - 1)) games
+                ∙ get_set_same lobby.games (number - 1) (game_of new) inside;
           },
         ))
         | inr there ↦ elim (after_write xs 0 at (TheLobby other) part there.1) [
           | inl front_part ↦ at_front other at other part front_part.0 front_part.1
           | inr elsewhere ↦ listed_still lobby other at part
               (λ one. ap (λ (gs : List (Option ListedGame)). slice_get gs (at - 1)) games
-              ∙ get_set_else lobby.games (number - 1) (at - 1) (game_of new) (λ same. there.0 (omega (arith, place.0, same, one))))
+              ∙ get_set_else lobby.games (number - 1) (at - 1) (game_of new)
+              (λ same. there.0 (omega (arith, place.0, same, one))))
               (place_is xs lobby w e at part elsewhere.1)
         ]
       ];

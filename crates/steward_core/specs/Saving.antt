@@ -77,7 +77,8 @@ abbrev pub AreFullRounds : ℕ → ℕ → Log → List Order → Type 0
 AreFullRounds moment zero entries orders = (entries ≡ []) × (orders ≡ [])
 AreFullRounds moment (suc n) entries orders =
     (before : Log) × (after : Log) × (first : List Order) × (last : List Order) × AreFullRounds moment n before first
-    × IsSaveRound moment after last × (length last ≡ orders_at_once) × (entries ≡ before ++ after) × (orders ≡ first ++ last)
+    × IsSaveRound moment after last × (length last ≡ orders_at_once) × (entries ≡ before ++ after)
+    × (orders ≡ first ++ last)
 
 -- how many answers a turn asks for at most
 abbrev pub most_answers : ℕ
@@ -87,7 +88,8 @@ most_answers = 2 ^ 28 - 1
 -- were the most answers; or a round was cut short; or the question ran out of memory
 abbrev pub EndsSaving : ℕ → StewardEnd → ℕ → Log → List Order → Type 0
 EndsSaving moment (Done count) rounds entries orders =
-    (IsSaveRound moment entries orders × (length orders < orders_at_once) × (count ≡ rounds * orders_at_once + length orders))
+    (IsSaveRound moment entries orders × (length orders < orders_at_once)
+    × (count ≡ rounds * orders_at_once + length orders))
     ⊎ ((rounds ≡ most_answers) × (entries ≡ []) × (orders ≡ []) × (count ≡ rounds * orders_at_once))
 EndsSaving moment KeeperFault rounds entries orders = IsCutShort moment entries orders
 EndsSaving moment Memory rounds entries orders = IsCutShort moment entries orders ⊎ ((entries ≡ []) × (orders ≡ []))
@@ -162,7 +164,8 @@ EndsRound moment round.KeeperFault entries orders =
 EndsRound moment round.Memory entries orders = IsCutShort moment entries orders ⊎ ((entries ≡ []) × (orders ≡ []))
 
 -- a session ran a round, in which a keeper carried orders out
-pub record RunsRound (moment : ℕ) (end : SaveRound) (before after : Option Records) (old new : RunnerState) : Type 0 where
+pub record RunsRound (moment : ℕ) (end : SaveRound) (before after : Option Records)
+    (old new : RunnerState) : Type 0 where
   pub entries : Log
   pub carried : List Order
   pub grew : Made old entries new
