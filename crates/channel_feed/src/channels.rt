@@ -4,7 +4,6 @@ ghost use Rattle.channel_feed.specs.Channels.{channels_of, is_in};
 
 use collections::Predicate;
 use fics_words::{Fail, Refusal};
-use memory::{Duplicate, NoMemory};
 use std::alloc::Global;
 use std::marker::Model;
 use tables::{Keyed, Table};
@@ -25,15 +24,6 @@ impl Keyed<Membership> for Membership {
 
     fn key(&self) -> Membership {
         *self
-    }
-}
-
-impl Duplicate for Membership {
-    /// Takes no memory.
-    fn duplicate(&self) -> Result<Membership, NoMemory>
-        ensures { result ≡ Ok self.now }
-    {
-        Ok(*self)
     }
 }
 
@@ -118,14 +108,6 @@ impl Channels {
         ensures { self.new ≡ without_player who self.old }
     {
         self.rows.retain(&WithoutPlayer(who));
-    }
-}
-
-impl Duplicate for Channels {
-    fn duplicate(&self) -> Result<Channels, NoMemory> {
-        Ok(Channels {
-            rows: self.rows.duplicate()?,
-        })
     }
 }
 

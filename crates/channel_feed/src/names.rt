@@ -3,7 +3,6 @@ ghost use Rattle.std.specs.Prelude.{◌≡◌, bytes_eq, not};
 
 use collections::{Listed, Predicate};
 use fics_words::{Fail, HandleKey, Refusal};
-use memory::{Duplicate, NoMemory};
 use std::alloc::Global;
 use std::marker::Model;
 
@@ -82,13 +81,5 @@ impl NameList {
         }
         self.names.retain(&Without(key));
         Ok(())
-    }
-}
-
-impl Duplicate for NameList {
-    fn duplicate(&self) -> Result<NameList, NoMemory> {
-        Ok(NameList {
-            names: self.names.duplicate()?,
-        })
     }
 }
