@@ -1,2 +1,4 @@
+-- Lemmas of this crate.
+pub mod Counting
 pub mod Meaning
 pub mod TakenBack

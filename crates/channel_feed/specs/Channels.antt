@@ -9,6 +9,10 @@ use Rattle.channel_feed.specs.declared.channels.Membership.{Membership}
 abbrev pub is_row : ℕ → ℕ → Membership → Bool
 is_row who channel row = (row.who == who) && (row.channel == channel)
 
+-- the two rows say the same
+abbrev pub is_same : Membership → Membership → Bool
+is_same row other = (row.who == other.who) && (row.channel == other.channel)
+
 -- the player is in the channel
 abbrev pub is_in : List Membership → ℕ → ℕ → Bool
 is_in rows who channel = list_any (is_row who channel) rows

@@ -1,4 +1,5 @@
 pub mod Channels
+pub mod Counts
 pub mod NameLists
 pub mod Waiting
 pub mod Laws

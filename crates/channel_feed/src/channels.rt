@@ -1,15 +1,16 @@
 //! Who is in which channel.
-ghost use Rattle.std.specs.Prelude.{◌≡◌, ◌==◌, not};
-ghost use Rattle.channel_feed.specs.Channels.{channels_of, is_in};
+ghost use Rattle.std.specs.Prelude.{◌==◌, not};
 
+use crate::counts::{ChannelCount, count_down, count_of, count_up};
 use collections::Predicate;
 use fics_words::{Fail, Refusal};
+use memory::NoMemory;
 use std::alloc::Global;
 use std::marker::Model;
 use tables::{Keyed, Table};
 
 /// The most channels that a player is in.
-const MOST: usize = 20;
+pub(crate) const MOST: u8 = 20;
 
 /// A player, by its session, in a channel.
 #[derive(Clone, Copy, PartialEq, Eq, Hash)]
@@ -39,20 +40,24 @@ impl Predicate<Membership> for WithoutPlayer {
     }
 }
 
-/// The channels, numbered 0 to 255, with the players that are in them. Contracts see the list of these, in the order of
-/// joining.
+/// The channels, numbered 0 to 255, with the players that are in them, and beside these in how many each player is.
+/// Contracts see the list of memberships, in the order of joining.
 #[derive(Drop)]
 pub struct Channels {
     rows: Table<Membership, Membership>,
+    counts: Table<u32, ChannelCount>,
 }
 
 impl Model for Channels {
     ghost use Rattle.std.specs.Prelude.{List};
+    ghost use Rattle.channel_feed.specs.Counts.{AreCounted};
     ghost use Rattle.channel_feed.specs.declared.channels.Membership.{Membership};
 
     ghost Value = { List Membership };
 
     ghost view = { λ channels. channels.rows };
+
+    ghost invariant = { λ channels. AreCounted channels.counts channels.rows };
 }
 
 impl Channels {
@@ -66,6 +71,7 @@ impl Channels {
     {
         Channels {
             rows: Table::new(alloc),
+            counts: Table::new(alloc),
         }
     }
 
@@ -84,10 +90,14 @@ impl Channels {
         if self.has(who, channel) {
             return Err(Fail::Refused(Refusal::OnList));
         }
-        if channels_of(self.rows.as_slice(), who) >= MOST {
+        if count_of(&self.counts, who) >= MOST {
             return Err(Fail::Refused(Refusal::ListFull));
         }
-        self.rows.push(Membership { who, channel })?;
+        count_up(&mut self.counts, who)?;
+        if let Err(NoMemory) = self.rows.push(Membership { who, channel }) {
+            count_down(&mut self.counts, who);
+            return Err(Fail::Memory);
+        }
         Ok(())
     }
 
@@ -99,21 +109,20 @@ impl Channels {
         if !self.has(who, channel) {
             return Err(Refusal::NotInChannel);
         }
+        // The slice is what says that no two rows are the same.
+        let _rows = self.rows.as_slice();
+        count_down(&mut self.counts, who);
         self.rows.remove(Membership { who, channel });
         Ok(())
     }
 
-    /// The player leaves all channels; takes no memory.
+    /// The player leaves all channels; takes no memory. Where it is in none, no membership is looked at.
     pub fn forget(&mut self, who: u32)
         ensures { self.new ≡ without_player who self.old }
     {
+        if self.counts.remove(who).is_none() {
+            return;
+        }
         self.rows.retain(&WithoutPlayer(who));
     }
-}
-
-/// How many channels the player is in.
-fn channels_of(rows: &[Membership], who: u32) -> usize
-    ensures { result ≡ channels_of rows.now who }
-{
-    rows.iter().filter(|row| row.who == who).count()
 }

@@ -5,6 +5,7 @@
 #![tactic(auto)]
 
 mod channels;
+mod counts;
 mod laws;
 mod names;
 mod waiting;
