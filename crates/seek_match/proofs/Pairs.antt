@@ -1,18 +1,20 @@
 -- Challenges of which each pair of players has one: some go, and one comes.
-use Rattle.std.proofs.Common.{◌≡◌, Bool, true, false, not, cond, List, [], ◌∷◌, ◌++◌, refl, ap, ◌∙◌}
+use Rattle.std.proofs.Common.{◌≡◌, ℕ, Bool, true, false, not, cond, List, [], ◌∷◌, ◌++◌, refl, sym, ap, ◌∙◌}
 use Rattle.std.specs.Prelude.{◌==◌, ◌&&◌}
 use Rattle.std.specs.List.{filter, list_any}
 use Rattle.std.proofs.lemmas.Bool.{or_from}
 use Rattle.std.proofs.lemmas.List.Folds.{list_any-append}
 use Rattle.seek_match.specs.declared.challenge.Challenge.{Challenge}
-use Rattle.seek_match.specs.Matches.{AreChallenges, is_same_pair, with_challenge}
+use Rattle.seek_match.specs.Matches.{AreChallenges, is_between, is_same_pair, with_challenge}
 use Rattle.collections.proofs.Numbers.{turned}
 use Rattle.collections.proofs.Tests.{list_any-filter}
 
+-- a challenge by the first player to the second, as a table asks it
+pub keyed_between : (from to : ℕ) → (λ (challenge : Challenge). (from == challenge.from) && (to == challenge.to)) ≡ is_between from to
+keyed_between from to = λ j challenge. turned from challenge.from j && turned to challenge.to j
+
 is_same_pair-turned : (one other : Challenge) → is_same_pair one other ≡ is_same_pair other one
-is_same_pair-turned one other =
-    ap (λ (t : Bool). t && (other.to == one.to)) (turned other.from one.from)
-    ∙ ap (λ (t : Bool). (one.from == other.from) && t) (turned other.to one.to)
+is_same_pair-turned one other = ap (λ (test : Challenge → Bool). test other) (sym (keyed_between one.from one.to))
 
 kept : (t : Bool) (x : Challenge) (rest : List Challenge) → list_any (is_same_pair x) rest ≡ false → AreChallenges rest → AreChallenges (cond t (x ∷ rest) rest)
 kept true x rest none more = (none, more)

@@ -1,9 +1,10 @@
 //! A challenge, and between whom it is.
-ghost use Rattle.std.specs.Prelude.{◌≡◌, ◌==◌, Ok, not};
-ghost use Rattle.seek_match.specs.Matches.{concerns, is_between, is_to};
+ghost use Rattle.std.specs.Prelude.{◌≡◌, ◌==◌, not};
+ghost use Rattle.seek_match.specs.Matches.{concerns};
 
 use chess_model::Terms;
 use collections::Predicate;
+use tables::Keyed;
 
 /// A game that a player offers to one other: by which session, to which, and on which terms.
 #[derive(Clone, Copy)]
@@ -13,30 +14,34 @@ pub struct Challenge {
     pub terms: Terms,
 }
 
-impl Challenge {
-    /// Whether the challenge is to this player, and by that one, if one is given.
-    pub(crate) fn is_to(&self, from: Option<u32>, to: u32) -> bool
-        ensures { result ≡ is_to from to self.now }
-    {
-        match from {
-            None => self.to == to,
-            Some(from) => self.from == from && self.to == to,
+/// Who challenges whom.
+#[derive(Clone, Copy, PartialEq, Eq, Hash)]
+pub(crate) struct Pair {
+    pub(crate) from: u32,
+    pub(crate) to: u32,
+}
+
+/// A challenge is found by whose it is.
+impl Keyed<Pair> for Challenge {
+    ghost key_of = { λ challenge. record { from = challenge.from; to = challenge.to } };
+
+    fn key(&self) -> Pair {
+        Pair {
+            from: self.from,
+            to: self.to,
         }
     }
 }
 
-/// A challenge to this player, and by that one, if one is given.
+/// A challenge to this player.
 #[derive(Clone, Copy)]
-pub(crate) struct ToPlayer {
-    pub(crate) from: Option<u32>,
-    pub(crate) to: u32,
-}
+pub(crate) struct ToPlayer(pub(crate) u32);
 
 impl Predicate<Challenge> for ToPlayer {
-    ghost passes = { λ test challenge. is_to test.from test.to challenge };
+    ghost passes = { λ test challenge. challenge.to == test.0 };
 
     fn passes(&self, challenge: &Challenge) -> bool {
-        challenge.is_to(self.from, self.to)
+        challenge.to == self.0
     }
 }
 
@@ -61,20 +66,5 @@ impl Predicate<Challenge> for WithoutPlayer {
 
     fn passes(&self, challenge: &Challenge) -> bool {
         !(challenge.from == self.0 || challenge.to == self.0)
-    }
-}
-
-/// A challenge that isn't by the first player to the second.
-#[derive(Clone, Copy)]
-pub(crate) struct NotBetween {
-    pub(crate) from: u32,
-    pub(crate) to: u32,
-}
-
-impl Predicate<Challenge> for NotBetween {
-    ghost passes = { λ test challenge. not (is_between test.from test.to challenge) };
-
-    fn passes(&self, challenge: &Challenge) -> bool {
-        !(challenge.from == self.from && challenge.to == self.to)
     }
 }

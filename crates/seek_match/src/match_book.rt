@@ -1,19 +1,17 @@
 //! The challenges that stand.
-ghost use Rattle.std.specs.Prelude.{◌≡◌};
-ghost use Rattle.std.specs.List.{filter, list_any};
-ghost use Rattle.seek_match.specs.Matches.{is_between};
 
-use crate::challenge::{ByPlayer, Challenge, NotBetween, ToPlayer, WithoutPlayer};
-use collections::{Predicate, Reserved, find};
+use crate::challenge::{ByPlayer, Challenge, Pair, ToPlayer, WithoutPlayer};
+use collections::{Predicate, find};
 use memory::NoMemory;
 use std::alloc::Global;
 use std::marker::Model;
+use tables::Table;
 
 /// The challenges that stand, in the order of making. Contracts see the list of them. Nobody has two challenges to one
 /// player.
 #[derive(Drop)]
 pub struct MatchBook {
-    rows: Reserved<Challenge>,
+    rows: Table<Pair, Challenge>,
 }
 
 impl Model for MatchBook {
@@ -23,9 +21,9 @@ impl Model for MatchBook {
 
     ghost Value = { List Challenge };
 
-    ghost view = { λ book. book.rows.items };
+    ghost view = { λ book. book.rows };
 
-    ghost invariant = { λ book. AreChallenges book.rows.items };
+    ghost invariant = { λ book. AreChallenges book.rows };
 }
 
 impl MatchBook {
@@ -38,7 +36,7 @@ impl MatchBook {
         ensures { result ≡ [] }
     {
         MatchBook {
-            rows: Reserved::new(alloc),
+            rows: Table::new(alloc),
         }
     }
 
@@ -48,12 +46,7 @@ impl MatchBook {
         ensures put { OnOk result (self.new ≡ with_challenge challenge self.old) }
         ensures unchanged { OnErr result (self.new ≡ self.old) }
     {
-        self.rows.reserve(1)?;
-        self.rows.retain(&NotBetween {
-            from: challenge.from,
-            to: challenge.to,
-        });
-        self.rows.push(challenge);
+        self.rows.put_last(challenge)?;
         Ok(())
     }
 
@@ -62,7 +55,10 @@ impl MatchBook {
     pub fn find(&self, from: Option<u32>, to: u32) -> Option<Challenge>
         ensures { result ≡ challenge_to self.now from to }
     {
-        find(self.rows.as_slice(), &ToPlayer { from, to }).copied()
+        match from {
+            Some(from) => self.rows.get(Pair { from, to }).copied(),
+            None => find(self.rows.as_slice(), &ToPlayer(to)).copied(),
+        }
     }
 
     /// The oldest challenge by this player, if there is one.
@@ -77,9 +73,9 @@ impl MatchBook {
         ensures found { result ≡ list_any (is_between from to) self.old }
         ensures after { self.new ≡ without_between from to self.old }
     {
-        let found = has_between(self.rows.as_slice(), from, to);
-        keep_challenges(&mut self.rows, &NotBetween { from, to });
-        found
+        let removed = self.rows.remove(Pair { from, to });
+        self.rows.shrink();
+        removed.is_some()
     }
 
     /// Takes away every challenge by this player and to it. It takes no memory and is never refused.
@@ -93,7 +89,8 @@ impl MatchBook {
     pub fn keep<P: Predicate<Challenge>>(&mut self, test: &P)
         ensures { self.new ≡ filter (P.passes test.now) self.old }
     {
-        keep_challenges(&mut self.rows, test);
+        self.rows.retain(test);
+        self.rows.shrink();
     }
 
     /// The challenges, in the order of making.
@@ -103,23 +100,4 @@ impl MatchBook {
     {
         self.rows.as_slice()
     }
-}
-
-/// Keeps the challenges that pass `test`. A list that is left empty gives its block back.
-fn keep_challenges<P: Predicate<Challenge>>(challenges: &mut Reserved<Challenge>, test: &P)
-    ensures { challenges.new.items ≡ filter (P.passes test.now) challenges.old.items }
-{
-    challenges.retain(test);
-    if challenges.is_empty() {
-        challenges.take();
-    }
-}
-
-/// Whether one of these challenges is by the first player to the second.
-fn has_between(challenges: &[Challenge], from: u32, to: u32) -> bool
-    ensures { result ≡ list_any (is_between from to) challenges.now }
-{
-    challenges
-        .iter()
-        .any(|challenge| challenge.is_to(Some(from), to))
 }

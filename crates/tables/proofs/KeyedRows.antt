@@ -92,7 +92,7 @@ module _ {K T : Type 0} (key_of : T → K) where
         | false ↦ filter-keyed p rows
       ]
 
-  filter_keys : (p : K → Bool) (rows : List T) → filter (λ e. p e.0) (keyed key_of rows) ≡ keyed key_of (filter (λ row. p (key_of row)) rows)
+  pub filter_keys : (p : K → Bool) (rows : List T) → filter (λ e. p e.0) (keyed key_of rows) ≡ keyed key_of (filter (λ row. p (key_of row)) rows)
   filter_keys p [] = refl
   filter_keys p (row ∷ rows) =
       elim (p (key_of row)) as (λ t. cond t ((key_of row, row) ∷ filter (λ e. p e.0) (keyed key_of rows)) (filter (λ e. p e.0) (keyed key_of rows)) ≡ keyed key_of (cond t (row ∷ filter (λ row. p (key_of row)) rows) (filter (λ row. p (key_of row)) rows))) [

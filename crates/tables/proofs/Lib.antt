@@ -2,3 +2,4 @@
 pub mod KeyedRows
 pub mod Placed
 pub mod Firsts
+pub mod PutLast

@@ -148,6 +148,20 @@ impl<K: Eq + Hash + Copy + Drop, T: Keyed<K> + Drop> Table<K, T> {
         Ok(())
     }
 
+    /// Puts a row behind the others, in place of the one that has its key, if there is one: then it takes no memory.
+    /// Running out of memory leaves the table as it is. Keys that are equal must be one value.
+    pub fn put_last(&mut self, row: T) -> Result<(), NoMemory>
+        requires { (key other : K) → K.eq key other ≡ true → key ≡ other }
+        ensures ok { OnOk result (self.new
+            ≡ filter (λ other. not (has_key T.key_of K.eq (T.key_of row) other)) self.old ++ row ∷ []) }
+        ensures err { OnErr result (self.new ≡ self.old) }
+        ensures new { OnErr result (find (has_key T.key_of K.eq (T.key_of row)) self.old ≡ None) }
+    {
+        let end = self.rows.len();
+        self.rows.insert_before(end, row.key(), row)?;
+        Ok(())
+    }
+
     /// Takes out the row with this key, if there is one; the later ones move up.
     pub fn remove(&mut self, key: K) -> Option<T>
         ensures removed { result ≡ find (has_key T.key_of K.eq key) self.old }
