@@ -3,3 +3,4 @@ pub mod EachStep
 pub mod Numbers
 pub mod Places
 pub mod Tests
+pub mod Rising

@@ -5,16 +5,17 @@ use Rattle.std.specs.List.{filter}
 use Rattle.std.proofs.lemmas.Bool.{eqb-false}
 use Rattle.std.proofs.lemmas.List.Elements.{All-nil, All-cons, All-head, All-tail, All-append, All-filter, All-push, All-weaker}
 use Rattle.std.proofs.lemmas.List.Sums.{count_by-le-length, length-filter}
+use Rattle.collections.proofs.Rising.{first_gap-within}
 use Rattle.game_records.specs.Replays.{Replays}
 use Rattle.game_records.specs.declared.stored_game.StoredGame.{StoredGame}
 use Rattle.lobby_shelf.specs.declared.order.Order.{Order}
 use Rattle.lobby_shelf.specs.declared.request.Request.{Request}
 use Rattle.lobby_shelf.specs.declared.shelved.Shelved.{Shelved}
 use Rattle.lobby_shelf.specs.Facts.{IsShelf, OrdersRise}
-use Rattle.lobby_shelf.specs.Numbers.{RiseAbove, has_number, is_above, is_below, is_used, next_number, with_game, without_game}
+use Rattle.lobby_shelf.specs.Numbers.{RiseAbove, has_number, is_above, is_below, is_used, next_number, number_of, with_game, without_game}
 use Rattle.lobby_shelf.specs.Shelf.{ShelfState, asked, asks, empty, game_order, most_stored, ordered, removal_order, saved, shelved, taken_off, with_request, with_stored}
 use Rattle.lobby_shelf.proofs.Requests.{AreOnce-filter, AreOnce-push, is_used-with, is_used-without}
-use Rattle.lobby_shelf.proofs.Rising.{RiseAbove-filter, RiseAbove-with, before_or_behind, first_gap-within, next_number-least, unused_on, with_game-behind, with_game-before}
+use Rattle.lobby_shelf.proofs.Rising.{RiseAbove-filter, RiseAbove-with, before_or_behind, next_number-least, unused_on, with_game-behind, with_game-before}
 
 OrdersRise-weaker : (low lower made : ℕ) (orders : List Order) → lower ≤ low → OrdersRise low made orders → OrdersRise lower made orders
 OrdersRise-weaker low lower made [] h rise = let top : low ≤ made = rise in omega (arith, top, h)
@@ -101,7 +102,7 @@ IsShelf-ordered shelf order next is = record {
 }
 
 pub next_number-fits : (games : List Shelved) → length games ≤ most_stored → next_number games < 2 ^ 64
-next_number-fits games room = let within = first_gap-within games 1 in omega (arith, within, room)
+next_number-fits games room = let within = first_gap-within number_of games 1 in omega (arith, within, room)
 
 pub IsShelf-shelved : (shelf : ShelfState) (game : StoredGame) → length shelf.games < most_stored → Replays game → IsShelf shelf
     → IsShelf (shelved shelf game)

@@ -7,5 +7,4 @@ pub mod Held
 pub mod Finding
 pub mod Meaning
 pub mod Leading
-pub mod Gaps
 pub mod Marked

@@ -1,34 +1,17 @@
--- Rows of games whose numbers rise: one comes, some go, where a number stands, and which is the first that is left out.
-use Rattle.std.proofs.Common.{◌≡◌, ◌⊎◌, ℕ, zero, suc, ◌+◌, ◌^◌, ◌<◌, ◌≤◌, Bool, true, false, not, cond, List, [], ◌∷◌, ◌++◌, Option, None, Some, length, take, drop, get_or, slice_get, refl, sym, ap, subst, ◌∙◌, inl, inr, arith}
-use Rattle.std.specs.Prelude.{◌==◌, ◌||◌}
+-- Rows of games whose numbers rise: one comes, some go, and where a number stands.
+use Rattle.std.proofs.Common.{◌≡◌, ◌⊎◌, ℕ, zero, suc, ◌^◌, ◌<◌, ◌≤◌, Bool, true, false, not, cond, List, [], ◌∷◌, ◌++◌, Option, None, Some, length, take, drop, get_or, slice_get, refl, sym, ap, subst, ◌∙◌, inl, inr, arith}
+use Rattle.std.specs.Prelude.{◌==◌}
 use Rattle.std.specs.List.{AllWithin, filter, find, remove}
 use Rattle.std.specs.List.Sorted.{IsNonDecreasingBy}
 use Rattle.std.proofs.lemmas.Option.{none-some}
-use Rattle.std.proofs.lemmas.Bool.{eqb-true, eqb-false, eq-eqb, ne_eqb, lt-ltb, le-ltb, cases_lt, or_from, or_parts}
+use Rattle.std.proofs.lemmas.Bool.{eqb-false, eq-eqb, ne_eqb, lt-ltb, le-ltb, cases_lt, or_parts}
 use Rattle.lobby_shelf.specs.declared.shelved.Shelved.{Shelved}
-use Rattle.lobby_shelf.specs.Numbers.{AreInOrder, IsLeastUnused, RiseAbove, first_gap, has_number, is_above, is_below, is_used, next_number, with_game, without_game}
-use Rattle.collections.proofs.Numbers.{not_same, not_same_above}
-
-rise_on : (low : ℕ) (row : Shelved) (games : List Shelved) → low < row.number → row.number < 2 ^ 64 → RiseAbove row.number games → RiseAbove low (row ∷ games)
-rise_on low row games above fits rise = (above, fits, rise)
-
-RiseAbove-weaker : (low lower : ℕ) (games : List Shelved) → lower ≤ low → RiseAbove low games → RiseAbove lower games
-RiseAbove-weaker low lower [] h rise = tt
-RiseAbove-weaker low lower (row ∷ games) h rise =
-    rise_on lower row games (below low lower row.number h rise.0) rise.1 rise.2
-  where
-    below : (a b n : ℕ) → b ≤ a → a < n → b < n
-    below a b n h k = omega arith
-
-kept : (t : Bool) (low : ℕ) (row : Shelved) (rest : List Shelved) → low < row.number → row.number < 2 ^ 64 → RiseAbove row.number rest
-    → RiseAbove low (cond t (row ∷ rest) rest)
-kept true low row rest above fits rise = rise_on low row rest above fits rise
-kept false low row rest above fits rise = RiseAbove-weaker row.number low rest (omega (arith, above)) rise
+use Rattle.lobby_shelf.specs.Numbers.{AreInOrder, IsLeastUnused, RiseAbove, has_number, is_above, is_below, is_used, next_number, number_of, with_game, without_game}
+use Rattle.collections.proofs.Numbers.{not_same_above}
+use Rattle.collections.proofs.Rising as rising
 
 pub RiseAbove-filter : (p : Shelved → Bool) (low : ℕ) (games : List Shelved) → RiseAbove low games → RiseAbove low (filter p games)
-RiseAbove-filter p low [] rise = tt
-RiseAbove-filter p low (row ∷ games) rise =
-    kept (p row) low row (filter p games) rise.0 rise.1 (RiseAbove-filter p row.number games rise.2)
+RiseAbove-filter = rising.RiseAbove-filter number_of (2 ^ 64)
 
 -- among numbers that rise above one, none is below it, none is it, and all are above it
 pub none_below : (n low : ℕ) (games : List Shelved) → n ≤ low → RiseAbove low games → filter (is_below n) games ≡ []
@@ -46,18 +29,7 @@ all_above n low (row ∷ games) h rise =
     ∙ ap (λ zs. row ∷ zs) (all_above n row.number games (omega (arith, above, h)) rise.2)
 
 pub unused_above : (games : List Shelved) (low n : ℕ) → n ≤ low → RiseAbove low games → is_used games n ≡ false
-unused_above [] low n h rise = refl
-unused_above (row ∷ games) low n h rise =
-    let above = rise.0 in
-    or_from (row.number == n) (is_used games n)
-    (ne_eqb row.number n (not_same n row.number (omega (arith, above, h))))
-    (unused_above games row.number n (omega (arith, above, h)) rise.2)
-
-pub find-unused : (n : ℕ) (games : List Shelved) → is_used games n ≡ false → find (has_number n) games ≡ None
-find-unused n [] h = refl
-find-unused n (row ∷ games) h =
-    let both = or_parts (row.number == n) (is_used games n) h in
-    ap (λ (t : Bool). cond t (Some row) (find (has_number n) games)) both.0 ∙ find-unused n games both.1
+unused_above = rising.unused_above number_of (2 ^ 64)
 
 -- where a game comes: behind one of a lesser number, and before one of a greater number
 pub with_game-behind : (new row : Shelved) (games : List Shelved) → row.number < new.number
@@ -96,15 +68,12 @@ unused_on row games n unused = (or_parts (row.number == n) (is_used games n) unu
 -- a game with a number that none has keeps the numbers rising
 pub RiseAbove-with : (new : Shelved) (low : ℕ) (games : List Shelved) → low < new.number → new.number < 2 ^ 64 → is_used games new.number ≡ false
     → RiseAbove low games → RiseAbove low (with_game new games)
-RiseAbove-with new low [] above fits unused rise = rise_on low new [] above fits tt
+RiseAbove-with new low [] above fits unused rise = (above, fits, tt)
 RiseAbove-with new low (row ∷ games) above fits unused rise =
     elim (before_or_behind row games new.number unused) [
       | inl h ↦ subst (RiseAbove low) (sym (with_game-behind new row games h))
-          (rise_on low row (with_game new games) rise.0 rise.1
-          (RiseAbove-with new row.number games h fits (unused_on row games new.number unused) rise.2))
-      | inr h ↦
-          let rest = rise_on new.number row games h rise.1 rise.2 in
-          subst (RiseAbove low) (sym (with_game-before new row games rest)) (rise_on low new (row ∷ games) above fits rest)
+          (rise.0, rise.1, RiseAbove-with new row.number games h fits (unused_on row games new.number unused) rise.2)
+      | inr h ↦ subst (RiseAbove low) (sym (with_game-before new row games (h, rise.1, rise.2))) (above, fits, (h, rise.1, rise.2))
     ]
 
 below_cons : (n : ℕ) (row : Shelved) (games : List Shelved) → row.number < n → filter (is_below n) (row ∷ games) ≡ row ∷ filter (is_below n) games
@@ -133,7 +102,7 @@ drop-place n low (row ∷ games) unused rise =
           ap (λ (t : Bool). cond t (row ∷ filter (is_above n) games) (filter (is_above n) games)) (le-ltb n row.number (omega arith)) in
           subst (λ zs. drop (length zs) (row ∷ games) ≡ filter (is_above n) (row ∷ games)) (sym (below_cons n row games h)) (rest ∙ sym skips)
       | inr h ↦
-          let all = all_above n n (row ∷ games) (omega arith) (rise_on n row games h rise.1 rise.2) in
+          let all = all_above n n (row ∷ games) (omega arith) (h, rise.1, rise.2) in
           subst (λ zs. drop (length zs) (row ∷ games) ≡ filter (is_above n) (row ∷ games)) (sym (none_at n row games (omega arith) rise.2)) (sym all)
     ]
 
@@ -164,17 +133,12 @@ found_at n low (row ∷ games) rise =
     here n row games h rise = (
       λ e. ap (λ (t : Bool). cond t (Some row) (find (has_number n) games)) (eq-eqb row.number n e),
       λ e. ap (λ (t : Bool). cond t (Some row) (find (has_number n) games)) (ne_eqb row.number n e)
-          ∙ find-unused n games (unused_above games row.number n h rise),
+          ∙ rising.find-none (has_number n) games (unused_above games row.number n h rise),
     )
 
 -- the numbers never fall, so that a place can be searched for by halves
 pub rises_at : (low : ℕ) (games : List Shelved) (k : ℕ) (d : Shelved) → RiseAbove low games → k < length games → low < (get_or games k d).number
-rises_at low [] k d rise h = absurd (omega arith)
-rises_at low (row ∷ games) zero d rise h = rise.0
-rises_at low (row ∷ games) (suc k) d rise h =
-    let above = rise.0 in
-    let more = rises_at row.number games k d rise.2 (omega arith) in
-    omega (arith, above, more)
+rises_at low games k d rise h = omega (arith, rising.rises_by number_of (2 ^ 64) low games k d rise h)
 
 pub never_fall : (low : ℕ) (games : List Shelved) → RiseAbove low games → IsNonDecreasingBy (λ row. row.number) games
 never_fall low [] rise i j d h k = absurd (omega arith)
@@ -197,80 +161,11 @@ partition_place p (row ∷ games) (suc i) short pass fail =
     ∙ ap suc (sym (partition_place p games i (omega arith) (λ k d a b. pass (suc k) d (omega arith) (omega arith))
     (λ k d a b. fail (suc k) d (omega arith) (omega arith)))))
 
-pub first_gap-above : (games : List Shelved) (n : ℕ) → n ≤ first_gap n games
-first_gap-above [] n = omega arith
-first_gap-above (row ∷ games) n =
-    let more = first_gap-above games (n + 1) in
-    elim (row.number == n) as (λ t. n ≤ cond t (first_gap (n + 1) games) n) [
-      | true ↦ omega (arith, more)
-      | false ↦ omega arith
-    ]
-
-pub first_gap-within : (games : List Shelved) (n : ℕ) → first_gap n games ≤ length games + n
-first_gap-within [] n = omega arith
-first_gap-within (row ∷ games) n =
-    let more = first_gap-within games (n + 1) in
-    elim (row.number == n) as (λ t. cond t (first_gap (n + 1) games) n ≤ length (row ∷ games) + n) [
-      | true ↦ omega (arith, more)
-      | false ↦ omega arith
-    ]
-
-first_gap-unused : (games : List Shelved) (low : ℕ) → RiseAbove low games → is_used games (first_gap (low + 1) games) ≡ false
-first_gap-unused [] low rise = refl
-first_gap-unused (row ∷ games) low rise =
-    let gap = first_gap (low + 1 + 1) games in
-    let far = first_gap-above games (low + 1 + 1) in
-    let above = rise.0 in
-    elim (row.number == low + 1) as (λ t. (row.number == low + 1) ≡ t → is_used (row ∷ games) (cond t (first_gap (low + 1 + 1) games) (low + 1)) ≡ false) [
-      | true ↦ λ same.
-          let next = eqb-true row.number (low + 1) same in
-          or_from (row.number == gap) (is_used games gap)
-          (ne_eqb row.number gap (not_same_above row.number gap (omega (arith, next, far))))
-          (subst (λ (n : ℕ). is_used games (first_gap (n + 1) games) ≡ false) next (first_gap-unused games row.number rise.2))
-      | false ↦ λ differ.
-          or_from (row.number == low + 1) (is_used games (low + 1)) differ
-          (unused_above games row.number (low + 1) (omega (arith, above)) rise.2)
-    ] refl
-
-first_gap-least : (games : List Shelved) (low k : ℕ) → RiseAbove low games → low < k → k < first_gap (low + 1) games → is_used games k ≡ true
-first_gap-least [] low k rise above below = absurd (omega (arith, above, below))
-first_gap-least (row ∷ games) low k rise above below =
-    elim (row.number == low + 1) as (λ t. (row.number == low + 1) ≡ t → k < cond t (first_gap (low + 1 + 1) games) (low + 1) → is_used (row ∷ games) k ≡ true) [
-      | true ↦ λ same under.
-          let next = eqb-true row.number (low + 1) same in
-          elim (row.number == k) as (λ t. (row.number == k) ≡ t → t || is_used games k ≡ true) [
-            | true ↦ λ _. refl
-            | false ↦ λ differ.
-                first_gap-least games row.number k rise.2
-                (later row.number low k next above (eqb-false row.number k differ))
-                (subst (λ (n : ℕ). k < first_gap (n + 1) games) (sym next) under)
-          ] refl
-      | false ↦ λ _ under. absurd (omega (arith, above, under))
-    ] refl below
-  where
-    later : (a low k : ℕ) → a ≡ low + 1 → low < k → (a ≡ k → ⊥) → a < k
-    later a low k next above differ = grind arith
-
 -- the next number is the least positive one that no game has
 pub next_number-least : (games : List Shelved) → AreInOrder games → IsLeastUnused games (next_number games)
-next_number-least games rise =
-    let above = first_gap-above games 1 in
-    record {
-      positive = omega (arith, above);
-      unused = first_gap-unused games 0 rise;
-      least = λ k positive below. first_gap-least games 0 k rise positive below;
-    }
+next_number-least = rising.first_gap-is_least number_of (2 ^ 64)
 
--- where no game has the number, none goes
-pub without_game-absent : (n : ℕ) (games : List Shelved) → find (has_number n) games ≡ None → without_game n games ≡ games
-without_game-absent n [] none = refl
-without_game-absent n (row ∷ games) none =
-    elim (row.number == n) as (λ t. cond t (Some row) (find (has_number n) games) ≡ None → cond (not t) (row ∷ without_game n games) (without_game n games) ≡ row ∷ games) [
-      | true ↦ λ there. absurd (none-some row (sym there))
-      | false ↦ λ later. ap (λ zs. row ∷ zs) (without_game-absent n games later)
-    ] none
-
--- and where one has it, it stands behind those of lesser numbers
+-- where a game has a number, it is the one behind those of lesser numbers
 pub remove-place : (n low : ℕ) (games : List Shelved) (there : Shelved) → RiseAbove low games → find (has_number n) games ≡ Some there
     → (length (filter (is_below n) games) < length games) × (remove games (length (filter (is_below n) games)) ≡ without_game n games)
 remove-place n low [] there rise found = absurd (none-some there found)
@@ -284,9 +179,9 @@ remove-place n low (row ∷ games) there rise found =
           subst (λ (zs : List Shelved). (length zs < length (row ∷ games)) × (remove (row ∷ games) (length zs) ≡ without_game n (row ∷ games))) (sym (below_cons n row games h))
           (omega (arith, within), ap (λ zs. row ∷ zs) rest.1 ∙ sym stays)
       | inr h ↦
-          let none = find-unused n games (unused_above games row.number n h rise.2) in
+          let none = rising.find-none (has_number n) games (unused_above games row.number n h rise.2) in
           let goes = elim (row.number == n) as (λ t. cond t (Some row) (find (has_number n) games) ≡ Some there → games ≡ cond (not t) (row ∷ without_game n games) (without_game n games)) [
-            | true ↦ λ _. sym (without_game-absent n games none)
+            | true ↦ λ _. sym (rising.all-left (has_number n) games none)
             | false ↦ λ later. absurd (none-some there (sym none ∙ later))
           ] found in
           subst (λ (zs : List Shelved). (length zs < length (row ∷ games)) × (remove (row ∷ games) (length zs) ≡ without_game n (row ∷ games))) (sym (none_at n row games h rise.2))

@@ -1,8 +1,13 @@
 -- The games on the shelf stand in the order of their numbers, which are from 1 on. This server's own.
-use Rattle.std.specs.Prelude.{◌≡◌, ℕ, ◌+◌, ◌<◌, ◌^◌, ◌==◌, nat_lt, Bool, true, false, not, if◌then◌else◌, List, [], ◌∷◌, ◌++◌, Option, None, Some, refl}
-use Rattle.std.specs.List.{filter, find, list_any}
+use Rattle.std.specs.Prelude.{◌≡◌, ℕ, ◌^◌, ◌==◌, nat_lt, Bool, not, List, [], ◌∷◌, ◌++◌, Option, None, Some, refl}
+use Rattle.std.specs.List.{filter, find}
+use Rattle.collections.specs.Rising as rising
 use Rattle.game_records.specs.declared.stored_game.StoredGame.{StoredGame}
 use Rattle.lobby_shelf.specs.declared.shelved.Shelved.{Shelved}
+
+-- the number of a game
+abbrev pub number_of : Shelved → ℕ
+number_of row = row.number
 
 -- the game has this number
 abbrev pub has_number : ℕ → Shelved → Bool
@@ -10,7 +15,7 @@ has_number number row = row.number == number
 
 -- a game has that number
 abbrev pub is_used : List Shelved → ℕ → Bool
-is_used games number = list_any (has_number number) games
+is_used games number = rising.is_used number_of games number
 
 -- the game in a row that is there
 abbrev pub game_in : Option Shelved → Option StoredGame
@@ -23,23 +28,19 @@ stored_game games number = game_in (find (has_number number) games)
 
 -- the numbers rise from game to game, all of them above this one, and below 2^64
 abbrev pub RiseAbove : ℕ → List Shelved → Type 0
-RiseAbove low [] = Unit {0}
-RiseAbove low (row ∷ games) = (low < row.number) × (row.number < 2 ^ 64) × RiseAbove row.number games
+RiseAbove low games = rising.RiseAbove number_of (2 ^ 64) low games
 
 -- the games stand in the order of their numbers, which are positive and differ
 abbrev pub AreInOrder : List Shelved → Type 0
 AreInOrder games = RiseAbove 0 games
 
 -- the number is the least positive one that no game has
-pub record IsLeastUnused (games : List Shelved) (number : ℕ) : Type 0 where
-  pub positive : 0 < number
-  pub unused : is_used games number ≡ false
-  pub least : (k : ℕ) → 0 < k → k < number → is_used games k ≡ true
+abbrev pub IsLeastUnused : List Shelved → ℕ → Type 0
+IsLeastUnused games number = rising.IsLeastUnused number_of games number
 
 -- the first number from this one on that a row of rising numbers leaves out
 abbrev pub first_gap : ℕ → List Shelved → ℕ
-first_gap number [] = number
-first_gap number (row ∷ games) = if row.number == number then first_gap (number + 1) games else number
+first_gap number games = rising.first_gap number_of number games
 
 -- the number that the next game gets
 abbrev pub next_number : List Shelved → ℕ

@@ -1,10 +1,15 @@
 -- Seeks: games that players offer to whoever takes them. This server's own.
-use Rattle.std.specs.Prelude.{◌≡◌, ℕ, ◌+◌, ◌-◌, ◌<◌, ◌==◌, nat_le, Bool, true, false, not, ◌&&◌, if◌then◌else◌, List, [], ◌∷◌, Option, None, Some, refl}
-use Rattle.std.specs.List.{count_by, filter, find, insert, list_any}
+use Rattle.std.specs.Prelude.{◌≡◌, ℕ, ◌-◌, ◌==◌, nat_le, Bool, true, false, not, ◌&&◌, List, [], ◌∷◌, Option, None, Some, refl}
+use Rattle.std.specs.List.{count_by, filter, find, insert}
 use Rattle.chess_model.specs.declared.variant.Terms.{Terms}
+use Rattle.collections.specs.Rising as rising
 use Rattle.fics_words.specs.Effect.{Effect}
 use Rattle.fics_words.specs.declared.refusal.Refusal.TheVariants.{NoSuchSeek, SeekFull}
 use Rattle.seek_match.specs.declared.seek.Seek.{Seek}
+
+-- the number of a seek
+abbrev pub number_of : Seek → ℕ
+number_of seek = seek.number
 
 -- the seek has this number
 abbrev pub has_number : ℕ → Seek → Bool
@@ -14,29 +19,21 @@ has_number number seek = seek.number == number
 abbrev pub seek_of : List Seek → ℕ → Option Seek
 seek_of seeks number = find (has_number number) seeks
 
--- a seek has that number
-abbrev pub is_used : List Seek → ℕ → Bool
-is_used seeks number = list_any (has_number number) seeks
-
 -- the numbers rise from seek to seek, all of them above this one, and are at most 65,535
 abbrev pub RiseAbove : ℕ → List Seek → Type 0
-RiseAbove low [] = Unit {0}
-RiseAbove low (seek ∷ seeks) = (low < seek.number) × (seek.number < 65536) × RiseAbove seek.number seeks
+RiseAbove low seeks = rising.RiseAbove number_of 65536 low seeks
 
 -- the seeks stand in the order of their numbers, which are positive and differ
 abbrev pub AreSeeks : List Seek → Type 0
 AreSeeks seeks = RiseAbove 0 seeks
 
 -- the number is the least positive one that no seek has
-pub record IsLeastUnused (seeks : List Seek) (number : ℕ) : Type 0 where
-  pub positive : 0 < number
-  pub unused : is_used seeks number ≡ false
-  pub least : (k : ℕ) → 0 < k → k < number → is_used seeks k ≡ true
+abbrev pub IsLeastUnused : List Seek → ℕ → Type 0
+IsLeastUnused seeks number = rising.IsLeastUnused number_of seeks number
 
 -- the first number from this one on that a row of rising numbers leaves out
 abbrev pub first_gap : ℕ → List Seek → ℕ
-first_gap number [] = number
-first_gap number (seek ∷ seeks) = if seek.number == number then first_gap (number + 1) seeks else number
+first_gap number seeks = rising.first_gap number_of number seeks
 
 -- the number that the next seek gets
 abbrev pub next_number : List Seek → ℕ

@@ -1,15 +1,14 @@
-use Rattle.std.proofs.Common.{◌≡◌, ◌+◌, ◌-◌, ◌/◌, ◌<◌, List, get_or, length, ap, arith, rules}
+use Rattle.std.proofs.Common.{◌≡◌, ◌+◌, ◌-◌, ◌/◌, ◌^◌, ◌<◌, List, get_or, length, ap, arith, rules}
 use Rattle.lobby_shelf.specs.declared.shelved.Shelved.{Shelved}
-use Rattle.lobby_shelf.specs.Numbers.{next_number}
-use Rattle.lobby_shelf.proofs.Gaps.{gap_before, gap_behind}
-use Rattle.lobby_shelf.proofs.Rising.{first_gap-above, first_gap-within}
+use Rattle.collections.proofs.Rising.{first_gap-above, first_gap-within, gap_before, gap_behind}
+use Rattle.lobby_shelf.specs.Numbers.{next_number, number_of}
 use Rattle.lobby_shelf.proofs.rack.Rack.next_number.Goals as goal
 
 pub loop-low-init : goal.loop-low-init
 loop-low-init c =
     let all : c.len-high.result ≡ length c.args.self.now = search rules in
-    let above = first_gap-above c.args.self.now 1 in
-    let short = first_gap-within c.args.self.now 1 in
+    let above = first_gap-above number_of c.args.self.now 1 in
+    let short = first_gap-within number_of c.args.self.now 1 in
     record { within = omega (arith, all); least = omega (arith, above); most = omega (arith, all, short) }
 
 pub loop-low-preserved-then-row-middle : goal.loop-low-preserved-then-row-middle
@@ -22,7 +21,7 @@ loop-low-preserved-then-row-middle c =
     let all = ap (λ (l : List Shelved). length l) c.self.view_is in
     let here : seen.number ≡ middle + 1 = c.if-row-middle.true in
     let at : seen.number ≡ (get_or games middle seen).number = ap (λ (row : Shelved). row.number) c.index-row.ensures in
-    let behind = gap_behind 0 games middle seen c.self.invariant.order (omega (arith, test, within, all)) (omega (arith, here, at)) in
+    let behind = gap_behind number_of (2 ^ 64) 0 games middle seen c.self.invariant.order (omega (arith, test, within, all)) (omega (arith, here, at)) in
     let same = ap next_number c.self.view_is in
     record { within = within; least = omega (arith, behind, same); most = c.loop-low.invariant.most }
 
@@ -35,7 +34,7 @@ loop-low-preserved c =
     let within = c.loop-low.invariant.within in
     let all = ap (λ (l : List Shelved). length l) c.self.view_is in
     let at : seen.number ≡ (get_or games middle seen).number = ap (λ (row : Shelved). row.number) c.index-row.ensures in
-    let before = gap_before 0 games middle seen (omega (arith, test, within, all))
+    let before = gap_before number_of 0 games middle seen (omega (arith, test, within, all))
     (λ e. c.if-row-middle.false (let same : (get_or games middle seen).number ≡ 0 + 1 + middle = e in omega (arith, at, same))) in
     let same = ap next_number c.self.view_is in
     record { within = omega (arith, test, within); least = c.loop-low.invariant.least; most = omega (arith, before, same) }

@@ -8,12 +8,13 @@ use Rattle.std.proofs.lemmas.List.{length-map}
 use Rattle.lobby_shelf.specs.Marks.{marks_row}
 use Rattle.lobby_shelf.proofs.Marked.{remove-map}
 use Rattle.lobby_shelf.proofs.Finding.{none_lent, removed_at}
-use Rattle.lobby_shelf.proofs.Rising.{RiseAbove-filter, without_game-absent}
+use Rattle.lobby_shelf.proofs.Rising.{RiseAbove-filter}
+use Rattle.collections.proofs.Rising.{all-left}
 use Rattle.lobby_shelf.proofs.rack.Rack.remove.Goals as goal
 
 pub returns-then-is_none : goal.returns-then-is_none
 returns-then-is_none c =
-    sym (without_game-absent c.args.number c.args.self.now
+    sym (all-left (has_number c.args.number) c.args.self.now
     (none_lent c.get.result _ c.get.ensures (ap not (c.is_none.ensures ∙ ap not c.if-is_none.true))))
 
 pub remove-requires : goal.remove-requires

@@ -1,13 +1,14 @@
 use Rattle.std.proofs.Common.{◌≡◌, length, not, sym, ap, subst, arith}
 use Rattle.std.proofs.lemmas.List.Sums.{count_by-le-length}
-use Rattle.seek_match.specs.Seeks.{AreSeeks, is_by}
-use Rattle.seek_match.proofs.Rising.{RiseAbove-filter, length-rising}
+use Rattle.collections.proofs.Rising.{length-rising}
+use Rattle.seek_match.specs.Seeks.{AreSeeks, is_by, number_of}
+use Rattle.seek_match.proofs.Rising.{RiseAbove-filter}
 use Rattle.seek_match.proofs.seek_book.SeekBook.remove.Goals as goal
 
 pub overflow_cast-result : goal.overflow_cast-result
 overflow_cast-result c =
     let few = count_by-le-length (is_by c.args.by c.args.number) c.as_slice.result.now in
-    let all = length-rising c.self.inside.rows 0 (omega arith) c.self.invariant in
+    let all = length-rising number_of 65536 c.self.inside.rows 0 (omega arith) c.self.invariant in
     let same : length c.as_slice.result.now ≡ length c.self.inside.rows = ap length c.as_slice.ensures.rows in
     omega (arith, few, all, same, c.count_by-count.ensures)
 
