@@ -16,7 +16,7 @@ use Rattle.fics_words.specs.Handle.{key_of}
 use Rattle.game_records.specs.Bounds.{seats}
 use Rattle.game_records.specs.Replays.{Replays}
 use Rattle.game_records.specs.declared.stored_game.StoredGame.{StoredGame}
-use Rattle.lobby_shelf.specs.declared.marks.Marks.{Marks}
+use Rattle.lobby_shelf.specs.declared.marks.PlayerMarks.{PlayerMarks}
 use Rattle.lobby_shelf.specs.declared.shelved.Shelved.{Shelved}
 use Rattle.lobby_shelf.specs.Marks.{has_mark, mark, mark_in, marks_of, marks_row}
 use Rattle.lobby_shelf.specs.Players.{has_player, is_of_both, of_player}
@@ -98,7 +98,7 @@ pub All-at : {X : Type 0} (P : X → Type 0) (xs : List X) (i : ℕ) (x : X) →
 All-at P xs i x all at = subst P (get_or_from_slice_get xs i x x at) (All-get_or P xs i x (slice_get_within xs i x at) all)
 
 -- a game at a place, of whose marks none is the handle's
-pub unmarked-at : (key : List ℕ) {games now : List Shelved} {marks : List Marks} {row : Shelved} {seen : Marks} (i : ℕ)
+pub unmarked-at : (key : List ℕ) {games now : List Shelved} {marks : List PlayerMarks} {row : Shelved} {seen : PlayerMarks} (i : ℕ)
     → games ≡ now → All (λ row. length row.game.names ≤ 4) now → marks ≡ map marks_row games → slice_get now i ≡ Some row → seen ≡ get_or marks i seen
     → has_mark (mark key) seen ≡ false → has_player key row.game ≡ false
 unmarked-at key {games} {now} {marks} {row} {seen} i same few beside at is none =

@@ -2,7 +2,7 @@
 -- This server's own.
 use Rattle.std.specs.Prelude.{◌≡◌, ℕ, ◌+◌, ◌*◌, ◌%◌, ◌==◌, Bool, ◌||◌, List, [], ◌∷◌, Option, None, Some, slice_get, refl}
 use Rattle.fics_words.specs.Handle.{key_of}
-use Rattle.lobby_shelf.specs.declared.marks.Marks.{Marks}
+use Rattle.lobby_shelf.specs.declared.marks.PlayerMarks.{PlayerMarks}
 use Rattle.lobby_shelf.specs.declared.shelved.Shelved.{Shelved}
 
 -- the number that letters are told by, once a number stands for those before them
@@ -20,7 +20,7 @@ mark_in None = 0
 mark_in (Some name) = mark (key_of name)
 
 -- the marks of the players of these names, by their seats
-abbrev pub marks_of : List (List ℕ) → Marks
+abbrev pub marks_of : List (List ℕ) → PlayerMarks
 marks_of names = record {
   first = mark_in (slice_get names 0);
   second = mark_in (slice_get names 1);
@@ -29,11 +29,11 @@ marks_of names = record {
 }
 
 -- one of the players has this mark
-abbrev pub has_mark : ℕ → Marks → Bool
+abbrev pub has_mark : ℕ → PlayerMarks → Bool
 has_mark mark marks = (marks.first == mark) || (marks.second == mark) || (marks.third == mark) || (marks.fourth == mark)
 
 -- the marks of the games' players
-abbrev pub marks_row : Shelved → Marks
+abbrev pub marks_row : Shelved → PlayerMarks
 marks_row row = marks_of row.game.names
 
 example_marks : mark [] ≡ 0

@@ -8,19 +8,19 @@ use std::marker::Model;
 
 /// The marks of the players of a game, in the order of their seats, and 0 where there is no such seat.
 #[derive(Clone, Copy)]
-pub(crate) struct Marks {
+pub(crate) struct PlayerMarks {
     first: u16,
     second: u16,
     third: u16,
     fourth: u16,
 }
 
-impl Marks {
+impl PlayerMarks {
     /// The marks of the players of these names.
-    pub(crate) fn of(names: &[Handle]) -> Marks
+    pub(crate) fn of(names: &[Handle]) -> PlayerMarks
         ensures { result ≡ marks_of names.now }
     {
-        Marks {
+        PlayerMarks {
             first: mark_at(names, 0),
             second: mark_at(names, 1),
             third: mark_at(names, 2),
@@ -73,7 +73,7 @@ impl Marked {
     }
 
     /// Whether one of the players of these marks has the handle's.
-    pub(crate) fn is_among(&self, marks: &Marks) -> bool
+    pub(crate) fn is_among(&self, marks: &PlayerMarks) -> bool
         ensures { result ≡ has_mark (mark self.now) marks.now }
     {
         marks.has(self.number)

@@ -4,9 +4,10 @@ ghost use Rattle.std.specs.List.{find};
 ghost use Rattle.fics_words.specs.Handle.{key_of};
 ghost use Rattle.lobby_shelf.specs.Numbers.{AreInOrder, has_number, is_below, is_used, next_number, with_game, without_game};
 ghost use Rattle.lobby_shelf.specs.Players.{IsNext, has_player, is_of_both};
+ghost use Rattle.lobby_shelf.specs.Shelf.{most_stored};
 ghost use Rattle.lobby_shelf.specs.declared.shelved.Shelved.{Shelved};
 
-use crate::marks::{Marked, Marks};
+use crate::marks::{Marked, PlayerMarks};
 use crate::shelved::Shelved;
 use fics_words::{Handle, HandleKey};
 use game_records::StoredGame;
@@ -23,7 +24,7 @@ pub const MOST_STORED: usize = 10_000;
 pub(crate) struct Rack {
     games: Vec<Shelved>,
     /// The marks of the players of each.
-    marks: Vec<Marks>,
+    marks: Vec<PlayerMarks>,
 }
 
 impl Model for Rack {
@@ -32,18 +33,19 @@ impl Model for Rack {
     ghost use Rattle.lobby_shelf.specs.declared.shelved.Shelved.{Shelved};
     ghost use Rattle.lobby_shelf.specs.Marks.{marks_row};
     ghost use Rattle.lobby_shelf.specs.Numbers.{AreInOrder};
+    ghost use Rattle.lobby_shelf.specs.Shelf.{most_stored};
 
     ghost Value = { List Shelved };
 
     ghost view = { λ rack. rack.games.items };
 
     ghost invariant = { λ rack. record {
-      within : vec_len rack.games ≤ 10000;
-      room : 10000 ≤ vec_capacity rack.games;
+      within : vec_len rack.games ≤ most_stored;
+      room : most_stored ≤ vec_capacity rack.games;
       order : AreInOrder rack.games.items;
       marks : rack.marks.items ≡ map marks_row rack.games.items;
-      marks_within : vec_len rack.marks ≤ 10000;
-      marks_room : 10000 ≤ vec_capacity rack.marks;
+      marks_within : vec_len rack.marks ≤ most_stored;
+      marks_room : most_stored ≤ vec_capacity rack.marks;
     } };
 }
 
@@ -63,7 +65,7 @@ impl Rack {
     /// The games, in the order of their numbers.
     pub(crate) fn rows(&self) -> &[Shelved]
         ensures rows { result.now ≡ self.now }
-        ensures within { length self.now ≤ 10000 }
+        ensures within { length self.now ≤ most_stored }
         ensures order { AreInOrder self.now }
     {
         self.games.as_slice()
@@ -93,11 +95,11 @@ impl Rack {
     pub(crate) fn insert(&mut self, number: u64, game: StoredGame)
         requires positive { 1 ≤ number }
         requires unused { is_used self.old number ≡ false }
-        requires room { length self.old < 10000 }
+        requires room { length self.old < most_stored }
         ensures { self.new ≡ with_game (record { number = number; game = game }) self.old }
     {
         let place = self.place(number);
-        let marks = Marks::of(game.names.as_slice());
+        let marks = PlayerMarks::of(game.names.as_slice());
         let _room = self.games.insert(place, Shelved { number, game });
         let _room = self.marks.insert(place, marks);
     }

@@ -2,9 +2,10 @@ use Rattle.std.proofs.Common.{◌≡◌, ℕ, ◌+◌, ◌<◌, ◌≤◌, ◌++
 use Rattle.std.specs.List.{filter, insert}
 use Rattle.std.specs.Result.{IsOk, is_ok}
 use Rattle.std.specs.Vec.{vec_len}
-use Rattle.lobby_shelf.specs.declared.marks.Marks.{Marks}
+use Rattle.lobby_shelf.specs.declared.marks.PlayerMarks.{PlayerMarks}
 use Rattle.lobby_shelf.specs.declared.shelved.Shelved.{Shelved}
 use Rattle.lobby_shelf.specs.Numbers.{is_below, is_used, AreInOrder, with_game}
+use Rattle.lobby_shelf.specs.Shelf.{most_stored}
 use Rattle.std.proofs.lemmas.List.{length-map}
 use Rattle.lobby_shelf.specs.Marks.{marks_of, marks_row}
 use Rattle.lobby_shelf.proofs.Marked.{insert-map}
@@ -23,7 +24,7 @@ went_in : {E X : Type 0} (r : Result (Unit {0}) E) (xs ys zs : List X) → IsOk 
 went_in (Ok v) xs ys zs ok is = is
 went_in (Err e) xs ys zs ok is = let bad : false ≡ true = ok in cc
 
-grown : {E : Type 0} (r : Result (Unit {0}) E) (n m : ℕ) → n < 10000 → m ≡ cond (is_ok r) (n + 1) n → m ≤ 10000
+grown : {E : Type 0} (r : Result (Unit {0}) E) (n m : ℕ) → n < most_stored → m ≡ cond (is_ok r) (n + 1) n → m ≤ most_stored
 grown (Ok v) n m short is = omega (arith, short, is)
 grown (Err e) n m short is = omega (arith, short, is)
 
@@ -31,7 +32,7 @@ pub returns : goal.returns
 returns c =
     let new : Shelved = record { number = c.args.number; game = c.args.game } in
     let len : length c.self.inside.games.items ≡ vec_len c.self.inside.games = search rules in
-    let short : length c.self.inside.games.items < 10000 = subst (λ (l : List Shelved). length l < 10000) (sym c.self.view_is) c.requires.room in
+    let short : length c.self.inside.games.items < most_stored = subst (λ (l : List Shelved). length l < most_stored) (sym c.self.view_is) c.requires.room in
     let room = c.self.invariant.room in
     let ok = c.insert-room.ensures.succeeds (omega (arith, len, room, short)) in
     let unused = subst (λ (l : List Shelved). is_used l c.args.number ≡ false) (sym c.self.view_is) c.requires.unused in
@@ -44,7 +45,7 @@ pub invariant_of-self : goal.invariant_of-self
 invariant_of-self c =
     let new : Shelved = record { number = c.args.number; game = c.args.game } in
     let len : length c.self.inside.games.items ≡ vec_len c.self.inside.games = search rules in
-    let short : length c.self.inside.games.items < 10000 = subst (λ (l : List Shelved). length l < 10000) (sym c.self.view_is) c.requires.room in
+    let short : length c.self.inside.games.items < most_stored = subst (λ (l : List Shelved). length l < most_stored) (sym c.self.view_is) c.requires.room in
     let room = c.self.invariant.room in
     let more = c.insert-room.ensures.capacity in
     let unused = subst (λ (l : List Shelved). is_used l c.args.number ≡ false) (sym c.self.view_is) c.requires.unused in
@@ -52,7 +53,7 @@ invariant_of-self c =
     let fits = c.ranges.number.fits in
     let place = c.place-place.result in
     let marks_len : vec_len c.self.inside.marks ≡ length c.self.inside.marks.items = search rules in
-    let marked = marks_len ∙ ap (λ (l : List Marks). length l) c.self.invariant.marks ∙ length-map c.self.inside.games.items marks_row in
+    let marked = marks_len ∙ ap (λ (l : List PlayerMarks). length l) c.self.invariant.marks ∙ length-map c.self.inside.games.items marks_row in
     let beside = c.self.invariant.marks_room in
     let ok = c.insert-room.ensures.succeeds (omega (arith, len, room, short)) in
     let marks_ok = c.insert-room-2.ensures.succeeds (omega (arith, marked, beside, short)) in
