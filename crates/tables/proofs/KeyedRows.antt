@@ -1,7 +1,6 @@
 -- Rows behind their keys: what a look-up finds there, and what each change of such a list leaves.
-use Rattle.std.proofs.Common.{◌≡◌, ◌+◌, ℕ, zero, suc, Bool, true, false, not, cond, List, [], ◌∷◌, ◌++◌, Option, None, Some, length, ltb, map, slice_get, take, position, unwrap_or, refl, sym, ap, subst, ◌∙◌, arith}
-use Rattle.std.specs.Cmp.{IsEquivalence}
-use Rattle.std.specs.List.{AllByRecursion, IsDistinct, filter, find, insert, position_or_len, remove}
+use Rattle.std.proofs.Common.{◌≡◌, ◌+◌, ℕ, zero, suc, Bool, true, false, not, cond, List, [], ◌∷◌, ◌++◌, Option, None, Some, length, ltb, map, slice_get, position, unwrap_or, refl, sym, ap, subst, ◌∙◌, arith}
+use Rattle.std.specs.List.{filter, find, insert, position_or_len, remove}
 use Rattle.std.specs.Map.{keys_of, lookup, remove_entry, set_value, values_of}
 use Rattle.std.specs.Map.Calls.{RetainsPairs}
 use Rattle.std.specs.Option.{option_map_or}
@@ -170,18 +169,3 @@ change_first-none test f (x ∷ xs) none =
       | true ↦ λ h. absurd (none-some _ (sym h))
       | false ↦ λ h. ap (λ l. x ∷ l) (change_first-none test f xs h)
     ] none
-
--- of rows with distinct keys, none before an item has its key
-module _ {K T : Type 0} (eq : K → K → Bool) (laws : IsEquivalence eq) (key_of : T → K) where
-  apart_at : (k : K) (rows : List T) (i : ℕ) (row : T) → AllByRecursion (λ y. eq k y ≡ false) (map key_of rows) → slice_get rows i ≡ Some row → eq k (key_of row) ≡ false
-  apart_at k [] i row all at = absurd (none-some _ at)
-  apart_at k (r ∷ rows) zero row all at = let same : r ≡ row = ap (λ o. unwrap_or o r) at in sym (ap (λ x. eq k (key_of x)) same) ∙ all.0
-  apart_at k (r ∷ rows) (suc i) row all at = apart_at k rows i row all.1 at
-
-  pub new_behind : (rows : List T) (i : ℕ) (row : T) → IsDistinct eq (map key_of rows) → slice_get rows i ≡ Some row → find (λ other. eq (key_of row) (key_of other)) (take i rows) ≡ None
-  unfolding IsDistinct
-  new_behind [] i row apart at = absurd (none-some _ at)
-  new_behind (r ∷ rows) zero row apart at = refl
-  new_behind (r ∷ rows) (suc i) row apart at =
-      ap (λ t. cond t (Some r) (find (λ other. eq (key_of row) (key_of other)) (take i rows))) (laws.symm (key_of row) (key_of r) ∙ apart_at (key_of r) rows i row apart.0 at)
-      ∙ new_behind rows i row apart.1 at

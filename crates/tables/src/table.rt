@@ -8,7 +8,7 @@ ghost use Rattle.tables.specs.Rows.{AreApart, change_first, has_key};
 use crate::keyed::{Keyed, Parted};
 use collections::{Change, Predicate};
 use indexmap::IndexMap;
-use memory::{Duplicate, NoMemory};
+use memory::NoMemory;
 use std::alloc::Global;
 use std::hash::Hash;
 use std::marker::Model;
@@ -214,26 +214,4 @@ impl<K: Eq + Hash + Copy + Drop, T: Keyed<K> + Drop> Table<K, T> {
             self.rows = IndexMap::new(*self.rows.allocator());
         }
     }
-}
-
-impl<K: Eq + Hash + Copy + Drop, T: Keyed<K> + Duplicate + Drop> Duplicate for Table<K, T> {
-    fn duplicate(&self) -> Result<Self, NoMemory> {
-        let rows = self.as_slice();
-        copy_of(*self.rows.allocator(), rows)
-    }
-}
-
-/// A table of copies of these rows, of which no two have one key.
-fn copy_of<K: Eq + Hash + Copy + Drop, T: Keyed<K> + Duplicate + Drop>(
-    alloc: Global,
-    rows: &[T],
-) -> Result<Table<K, T>, NoMemory>
-    requires { AreApart K.eq T.key_of rows.now }
-    ensures { IfOk result (λ copies. copies ≡ rows.now) }
-{
-    let mut copies = Table::with_room(alloc, rows.len())?;
-    for row in rows {
-        copies.push(row.duplicate()?)?;
-    }
-    Ok(copies)
 }
