@@ -237,6 +237,7 @@ impl Position {
     }
 
     /// Whether a man on some square would shield the king.
+    #[tactic(auto, using(crate::proofs::StateLemmas::shielded))]
     fn can_be_shielded(&self, guard: &Guard) -> bool
         requires { IsGuard self.now guard.now }
         ensures some { IsTrue result → CanBeShielded self.now }
