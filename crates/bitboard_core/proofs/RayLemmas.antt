@@ -12,6 +12,7 @@ use Rattle.bitboard_core.specs.Stops.{IsUpStop, IsDownStop}
 use Rattle.bitboard_core.specs.declared.tables.TheConstants.{NORTH, EAST, SOUTH, WEST, NORTH_EAST, NORTH_WEST, SOUTH_EAST, SOUTH_WEST}
 use Rattle.bitboard_core.proofs.TableFacts.{north_is, east_is, south_is, west_is, north_east_is, north_west_is, south_east_is, south_west_is}
 use Rattle.bitboard_core.proofs.SetLemmas.{table_of-at, bit_at-set_of, bit_if-true, bit_if-of_true}
+use Rattle.chess_model.proofs.Squares.{file-lt, rank-lt, toward-lt}
 use Rattle.chess_model.proofs.Weights.{square_at-parts}
 
 -- the coordinate after k of d steps
@@ -19,9 +20,6 @@ toward-leads : (s : Sense) (x y k d : ℕ) → Leads s x y d → k ≤ d → Lea
 toward-leads Rises x y k d h l = omega (arith, h)
 toward-leads Stays x y k d h l = omega (arith, h)
 toward-leads Falls x y k d h l = omega (arith, h)
-
-pub toward-lt : (x y k : ℕ) → x < 8 → y < 8 → toward x y k < 8
-toward-lt x y k a b = omega arith
 
 -- the coordinate to which k steps lead is the one on the way to that after d steps
 toward-is : (s : Sense) (x y z k d : ℕ) → Leads s x y d → Leads s x z k → k ≤ d → z ≡ toward x y k
@@ -93,12 +91,6 @@ file_of-square_at f r l = omega arith
 
 pub rank_of-square_at : (f r : ℕ) → f < 8 → rank_of (square_at f r) ≡ r
 rank_of-square_at f r l = omega arith
-
-pub file-lt : (s : ℕ) → file_of s < 8
-file-lt s = omega arith
-
-pub rank-lt : (s : ℕ) → s < 64 → rank_of s < 8
-rank-lt s l = omega arith
 
 -- a way that goes somewhere: after k steps the distance is k
 abbrev Goes : Sense → Sense → Type 0

@@ -20,8 +20,9 @@ use Rattle.bitboard_core.specs.Rays.{Sense, Rises, Stays, Falls, leads, Leads, I
 use Rattle.bitboard_core.specs.Strikers.{IsOccupied, IsStruckSet, IsPushSet}
 use Rattle.bitboard_core.proofs.SetLemmas.{bit_at-set_of, bit_if-true, bit_if-of_true, Has-or, Has-or_left, Has-or_right, Has-and, Has-and_both}
 use Rattle.bitboard_core.proofs.TableFacts.{knight_is, king_is, white_strikes_is, black_strikes_is, white_ahead_is, black_ahead_is}
-use Rattle.bitboard_core.proofs.RayLemmas.{toward-lt, file-lt, rank-lt, Decides-leads, at_table}
+use Rattle.bitboard_core.proofs.RayLemmas.{Decides-leads, at_table}
 use Rattle.chess_model.proofs.ChessLaws.{Clear-near}
+use Rattle.chess_model.proofs.Squares.{along-lt}
 
 -- empty squares of a placement, and bits that aren't set
 
@@ -32,12 +33,6 @@ none_of (Some m) e = absurd (omega (arith, e))
 bit_of_none : (man : Option Man) → man ≡ None → bit_if (is_some man) ≡ 0
 bit_of_none None e = refl
 bit_of_none (Some m) e = cc
-
-pub along-lt : (a t k : ℕ) → a < 64 → t < 64 → along a t k < 64
-along-lt a t k la lt =
-    let p = toward-lt (file_of a) (file_of t) k (file-lt a) (file-lt t) in
-    let q = toward-lt (rank_of a) (rank_of t) k (rank-lt a la) (rank-lt t lt) in
-    omega (arith, p, q)
 
 clear_of_open : (P : Placement) (occupied a t : ℕ) → IsOccupied P occupied → a < 64 → t < 64 → IsOpenIn occupied a t → Clear P a t
 clear_of_open P occupied a t all la lt way = record {

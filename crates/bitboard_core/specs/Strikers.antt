@@ -5,6 +5,7 @@ use Rattle.chess_model.specs.declared.man.Colour.TheVariants.{White, Black}
 use Rattle.chess_model.specs.declared.man.Kind.{Kind}
 use Rattle.chess_model.specs.declared.man.Kind.TheVariants.{Pawn, Knight, Bishop, Rook, Queen, King}
 use Rattle.chess_model.specs.declared.man.Man.{Man}
+use Rattle.chess_model.specs.AllMoves.{kind_place}
 use Rattle.chess_model.specs.Placement.{Placement}
 use Rattle.chess_model.specs.Reach.{Strikes, Advances, Reaches}
 use Rattle.chess_model.specs.Attacked.{StrikesFrom}
@@ -13,14 +14,6 @@ use Rattle.bitboard_core.specs.declared.sides.Side.{Side}
 use Rattle.bitboard_core.specs.Sets.{Has, IsSetOf}
 
 -- the place of the men of a colour and kind among the twelve sets: White's P N B R Q K, then Black's
-abbrev pub kind_place : Kind → ℕ
-kind_place Pawn = 0
-kind_place Knight = 1
-kind_place Bishop = 2
-kind_place Rook = 3
-kind_place Queen = 4
-kind_place King = 5
-
 abbrev pub side_place : Colour → ℕ
 side_place White = 0
 side_place Black = 6

@@ -1,9 +1,10 @@
 //! A placement as sets of squares, by kind and colour, and how half-moves change it.
 ghost use Rattle.std.specs.Prelude.{◌≡◌, ◌≢◌, ℕ, ◌<◌, IsSome, Some, None, slice_set, replicate};
 ghost use Rattle.chess_model.specs.Placement.{man_at};
+ghost use Rattle.chess_model.specs.AllMoves.{kind_place};
 ghost use Rattle.chess_model.specs.Men.{is_held_by};
 ghost use Rattle.bitboard_core.specs.Sets.{IsSetOf};
-ghost use Rattle.bitboard_core.specs.Strikers.{side_place, kind_place, man_place, IsOccupied, AreMenOf, IsStruckSet, IsStrikerSet, IsReachSet, IsReachOf, AreSetsOf};
+ghost use Rattle.bitboard_core.specs.Strikers.{side_place, man_place, IsOccupied, AreMenOf, IsStruckSet, IsStrikerSet, IsReachSet, IsReachOf, AreSetsOf};
 
 use crate::sides::{Side, strikers};
 use crate::squares::square_of;

@@ -12,6 +12,7 @@ pub mod MovesListed
 pub mod NoMoreMen
 pub mod OnFree
 pub mod SoundPositions
+pub mod Squares
 pub mod StandsAfter
 pub mod StatesTold
 pub mod TestsDecide

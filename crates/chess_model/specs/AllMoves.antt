@@ -41,18 +41,18 @@ promotion_place (Some Bishop) = 3
 promotion_place (Some Knight) = 4
 promotion_place (Some k) = 5
 
--- the place of a kind in the order of drops
-abbrev pub drop_place : Kind → ℕ
-drop_place Pawn = 0
-drop_place Knight = 1
-drop_place Bishop = 2
-drop_place Rook = 3
-drop_place Queen = 4
-drop_place King = 5
+-- the place of a kind of man, as drops and sets of men are ordered
+abbrev pub kind_place : Kind → ℕ
+kind_place Pawn = 0
+kind_place Knight = 1
+kind_place Bishop = 2
+kind_place Rook = 3
+kind_place Queen = 4
+kind_place King = 5
 
 -- the place of a half-move among all that there could be
 abbrev pub move_place : Move → ℕ
 move_place (Plain a b promo) = 5 * (64 * a + b) + promotion_place promo
 move_place (Castle false) = 20480
 move_place (Castle true) = 20481
-move_place (Drop k to) = 20482 + (64 * drop_place k + to)
+move_place (Drop k to) = 20482 + (64 * kind_place k + to)

@@ -1,22 +1,19 @@
 -- Worked examples: what the definitions give in positions that everybody knows.
-use Rattle.std.specs.Prelude.{◌≡◌, ℕ, true, false, List, [], ◌∷◌, map, Some, None}
+use Rattle.std.specs.Prelude.{◌≡◌, ℕ, true, false, List, [], ◌∷◌, Some, None}
 use Rattle.chess_model.specs.declared.man.Colour.TheVariants.{White, Black}
 use Rattle.chess_model.specs.declared.man.Kind.TheVariants.{Pawn, Rook, Queen, King}
 use Rattle.chess_model.specs.declared.moves.Move.{Move}
 use Rattle.chess_model.specs.declared.moves.Move.TheVariants.{Plain, Castle}
 use Rattle.chess_model.specs.declared.variant.Variant.TheVariants.{Chess, Crazyhouse, Bughouse}
 use Rattle.chess_model.specs.Placement.{Placement, man_at, unpromoted, array_of}
-use Rattle.chess_model.specs.MoveList.{HalfMove, place_from, history}
+use Rattle.chess_model.specs.MoveList.{place_from, history}
+use Rattle.chess_model.specs.Claims.{alone_on}
 use Rattle.chess_model.specs.RightsAndCounts.{right_stands, en_passant_after, quiet_count}
 use Rattle.chess_model.specs.Holdings.{count_in, hand_after}
 
 -- a plain move without promotion
 abbrev pub go : ℕ → ℕ → Move
 go a b = Plain a b None
-
--- half-moves of one board
-abbrev pub on_board : ℕ → List Move → List HalfMove
-on_board b ms = map (λ m. record { board = b; what = m }) ms
 
 -- 1 e4
 abbrev pub king_pawn : List Move
@@ -52,14 +49,14 @@ pub record WorkedExamples : Type 0 where
   pub array_king : man_at (array_of Chess) 4 ≡ unpromoted White King
   pub array_pawn : man_at (array_of Bughouse) 52 ≡ unpromoted Black Pawn
   pub pawn_on_e4 : man_at (placed king_pawn) 28 ≡ unpromoted White Pawn
-  pub e3_passed : en_passant_after (history Chess (on_board 1 king_pawn) 1) ≡ Some 20
+  pub e3_passed : en_passant_after (history Chess (alone_on 1 king_pawn) 1) ≡ Some 20
   pub d5_empty : man_at (placed passing) 35 ≡ None
-  pub quiet_bishops : quiet_count (history Chess (on_board 1 before_castling) 1) ≡ 2
+  pub quiet_bishops : quiet_count (history Chess (alone_on 1 before_castling) 1) ≡ 2
   pub castled_rook : man_at (place_from Chess (placed before_castling) White (Castle false ∷ [])) 5
       ≡ unpromoted White Rook
-  pub right_gone : right_stands Chess (history Chess (on_board 1 rook_returned) 1) White false ≡ false
-  pub right_left : right_stands Chess (history Chess (on_board 1 rook_returned) 1) White true ≡ true
-  pub queen_as_pawn : hand_after Crazyhouse (on_board 1 promoted_and_taken) 1 Black ≡
+  pub right_gone : right_stands Chess (history Chess (alone_on 1 rook_returned) 1) White false ≡ false
+  pub right_left : right_stands Chess (history Chess (alone_on 1 rook_returned) 1) White true ≡ true
+  pub queen_as_pawn : hand_after Crazyhouse (alone_on 1 promoted_and_taken) 1 Black ≡
       record { pawns = 1; knights = 0; bishops = 0; rooks = 0; queens = 0 }
-  pub partner_gets_pawn : count_in (hand_after Bughouse (on_board 1 pawn_taken) 2 Black) Pawn ≡ 1
-  pub taker_gets_none : count_in (hand_after Bughouse (on_board 1 pawn_taken) 1 White) Pawn ≡ 0
+  pub partner_gets_pawn : count_in (hand_after Bughouse (alone_on 1 pawn_taken) 2 Black) Pawn ≡ 1
+  pub taker_gets_none : count_in (hand_after Bughouse (alone_on 1 pawn_taken) 1 White) Pawn ≡ 0

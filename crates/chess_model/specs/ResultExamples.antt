@@ -8,7 +8,8 @@ use Rattle.chess_model.specs.declared.states.State.TheVariants.{Safe, Check, Mat
 use Rattle.chess_model.specs.declared.variant.Variant.{Variant}
 use Rattle.chess_model.specs.declared.variant.Variant.TheVariants.{Chess, Crazyhouse, Bughouse}
 use Rattle.chess_model.specs.Position.{Position, position_after}
-use Rattle.chess_model.specs.Examples.{go, on_board}
+use Rattle.chess_model.specs.Claims.{alone_on}
+use Rattle.chess_model.specs.Examples.{go}
 use Rattle.chess_model.specs.WordExamples.{StandingMan, white, black, board, start, empty_hand}
 use Rattle.chess_model.specs.AllMoves.{allowed_moves}
 use Rattle.chess_model.specs.Result.{result}
@@ -16,7 +17,7 @@ use Rattle.chess_model.specs.Claims.{same_position, is_threefold}
 
 -- 1 f3 e5 2 g4 Qh4
 abbrev pub fools_mate : Position
-fools_mate = position_after Chess (on_board 1 (go 13 21 ∷ go 52 36 ∷ go 14 30 ∷ go 59 31 ∷ [])) 1
+fools_mate = position_after Chess (alone_on 1 (go 13 21 ∷ go 52 36 ∷ go 14 30 ∷ go 59 31 ∷ [])) 1
 
 -- White: Kh1, pawns g2 and h2; Black: Ka8, a rook on e1 that gives check along the rank
 abbrev pub back_rank_check : Variant → Hand → Position
@@ -66,8 +67,8 @@ pub record ResultExamples : Type 0 where
   pub twenty_moves : length (allowed_moves start) ≡ 20
 
 pub record ClaimExamples : Type 0 where
-  pub twice : is_threefold Chess (on_board 1 knights_out_and_back) 1 ≡ false
-  pub thrice : is_threefold Chess (on_board 1 third_time) 1 ≡ true
+  pub twice : is_threefold Chess (alone_on 1 knights_out_and_back) 1 ≡ false
+  pub thrice : is_threefold Chess (alone_on 1 third_time) 1 ≡ true
   -- the square e3 counts where a black pawn may take on it
   pub uncounted : same_position (pawn_on_e4 (Some 20) []) (pawn_on_e4 None []) ≡ true
   pub counted : same_position (pawn_on_e4 (Some 20) (black Pawn 27 ∷ [])) (pawn_on_e4 None (black Pawn 27 ∷ [])) ≡ false

@@ -12,7 +12,8 @@ use Rattle.chess_model.specs.Reach.{IsForward, IsStraight, IsDiagonal, IsKnightS
 use Rattle.chess_model.specs.Attacked.{StrikesAs, IsAttacked, IsInCheckOn, IsKingSafe}
 use Rattle.chess_model.proofs.ChessLaws.{opposite-opposite}
 use Rattle.rules_laws.specs.Mirror.{turned, recoloured, mirrored_men}
-use Rattle.rules_laws.proofs.Turning.{turned-lt, rank-turned, turned-turned, turned-differs, files-turned, ranks-turned, distance-turned, along-lt, along-turned}
+use Rattle.chess_model.proofs.Squares.{along-lt}
+use Rattle.rules_laws.proofs.Turning.{turned-lt, rank-turned, turned-turned, turned-differs, files-turned, ranks-turned, distance-turned, along-turned}
 
 -- men
 

@@ -27,7 +27,8 @@ use Rattle.chess_model.proofs.HomeRanks.{home_rank_of, files_of}
 use Rattle.chess_model.proofs.NoMoreMen.{taking_square-lt, homes}
 use Rattle.rules_laws.specs.Mirror.{turned, recoloured, mirrored_men, mirrored_rights, mirrored, mirrored_move, ColoursMayBeExchanged}
 use Rattle.rules_laws.proofs.MenTurned.{recoloured-twice, AreTurned, mirrored_at, length-mirrored, AreTurned-mirrored, empty-turned, held-turned, held-from, forward-turned, step-turned, clear-turned, strikes-turned, attacked-turned, attacked-from, safe-turned, safe-from}
-use Rattle.rules_laws.proofs.Turning.{turned-lt, turned-square, file-turned, rank-turned, file-le, rank-le, turned-turned, turned-differs, files-turned, distance-turned, along-lt, along-turned}
+use Rattle.chess_model.proofs.Squares.{along-lt}
+use Rattle.rules_laws.proofs.Turning.{turned-lt, turned-square, file-turned, rank-turned, file-le, rank-le, turned-turned, turned-differs, files-turned, distance-turned, along-turned}
 
 -- reach
 

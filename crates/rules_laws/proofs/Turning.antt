@@ -69,12 +69,6 @@ square-lt f r hf hr = omega arith
 pub turned-square : (f r : ℕ) → f ≤ 7 → r ≤ 7 → turned (square_at f r) ≡ square_at f (7 - r)
 turned-square f r hf hr = omega (arith, turned-on (square_at f r) (square-lt f r hf hr))
 
-pub along-lt : (a b k : ℕ) → a < 64 → b < 64 → along a b k < 64
-along-lt a b k ha hb =
-    square-lt (toward (file_of a) (file_of b) k) (toward (rank_of a) (rank_of b) k)
-    (toward-le (file_of a) (file_of b) k (file-le a) (file-le b))
-    (toward-le (rank_of a) (rank_of b) k (rank-le a ha) (rank-le b hb))
-
 pub along-turned : (a b k : ℕ) → a < 64 → b < 64 → along (turned a) (turned b) k ≡ turned (along a b k)
 along-turned a b k ha hb =
     let f : ℕ = toward (file_of a) (file_of b) k in

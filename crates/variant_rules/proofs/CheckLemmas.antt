@@ -19,7 +19,7 @@ use Rattle.variant_rules.specs.Checks.{IsBare}
 use Rattle.variant_rules.proofs.LineLemmas.{Fills, distance-along, still-strikes}
 use Rattle.chess_model.proofs.NoMoreMen.{IsStep-differs}
 use Rattle.chess_model.proofs.ChessLaws.{Strikes-back, opposite-opposite}
-use Rattle.bitboard_core.proofs.StepLemmas.{along-lt}
+use Rattle.chess_model.proofs.Squares.{along-lt}
 
 pub has_or_not : (set t : ℕ) → Has set t ⊎ (¬ Has set t)
 has_or_not set t = elim (cases_order (bit_at set t) 1) [

@@ -8,10 +8,10 @@ use Rattle.chess_model.specs.declared.man.Kind.TheVariants.{Pawn, Knight, Bishop
 use Rattle.chess_model.specs.Squares.{file_of, rank_of, square_at, files_apart, ranks_apart, distance, toward, along}
 use Rattle.chess_model.specs.Placement.{Placement, man_at, opposite}
 use Rattle.chess_model.specs.Reach.{IsStep, Clear, IsOpen, Strikes}
-use Rattle.bitboard_core.proofs.RayLemmas.{toward-lt, file_of-square_at, rank_of-square_at, file-lt}
-use Rattle.bitboard_core.proofs.StepLemmas.{along-lt}
+use Rattle.bitboard_core.proofs.RayLemmas.{file_of-square_at, rank_of-square_at}
 use Rattle.chess_model.proofs.Captures.{forward-near}
 use Rattle.chess_model.proofs.ChessLaws.{Clear-near, Strikes-back, opposite-opposite}
+use Rattle.chess_model.proofs.Squares.{along-lt, file-lt, toward-lt}
 
 -- the coordinates of a square along the way
 
