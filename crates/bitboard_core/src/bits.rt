@@ -82,6 +82,7 @@ fn kind_of(k: Kind) -> usize
 
 impl Bits {
     /// The empty board.
+    #[tactic(auto, using(crate::proofs::BitsLemmas::kept_empty))]
     pub fn empty() -> Bits
         ensures { result ≡ replicate 64 None }
     {
