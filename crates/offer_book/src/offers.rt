@@ -63,6 +63,7 @@ impl Offers {
 
     /// The seat accepts the earliest offer of another seat that it lacks. True exactly where now every seat has that
     /// offer standing; then it is cleared. Refuses with `NoSuchOffer` where there is no such offer.
+    #[tactic(auto, using(crate::proofs::Keeping::earliest_lacking))]
     pub fn accept(&mut self, seat: u8) -> Result<(Offer, bool), Refusal>
         requires { seat < self.old.seats }
         ensures answer { result ≡ answer_of (accepting self.old seat) }
