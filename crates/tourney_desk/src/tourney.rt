@@ -78,6 +78,7 @@ impl Tourney {
     /// Starts the tourney and gives the number of rounds: over all of them every two players meet exactly once, and the
     /// numbers of a player's White and Black games differ by at most 1. Takes the memory for all results. Refuses with
     /// `TourneyStarted` where it has started, and else with `TooFewPlayers` where fewer than two have joined.
+    #[tactic(auto, using(crate::proofs::Balance::is_fair))]
     pub fn start(&mut self) -> Result<u8, Fail>
         ensures effect { Takes (starting self.old) self.old self.new result }
         ensures fair { OnOk result (IsFair (length self.new.players)) }
