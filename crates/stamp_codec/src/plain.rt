@@ -98,6 +98,7 @@ fn are_pads(filled: &[u8], before: usize) -> bool
 }
 
 /// The bytes before the first mark, and those behind it; `None` where there is no mark.
+#[tactic(auto, using(std::proofs::lemmas::Grind::common_steps))]
 fn cut_at(bytes: &[u8], mark: u8) -> Option<(&[u8], &[u8])>
     ensures parts { IfSome result (λ parts. bytes.now ≡ parts.0.now ++ mark ∷ parts.1.now) }
     ensures unmarked { IfSome result (λ parts. AllByRecursion (λ b. b ≢ mark) parts.0.now) }
