@@ -10,6 +10,7 @@ use memory::NoMemory;
 use std::alloc::Global;
 
 /// The handle that the bytes spell.
+#[tactic(auto, using(fics_words::proofs::HandleTests::handle_is))]
 pub(crate) fn handle_of(bytes: &[u8]) -> Option<Handle>
     ensures { result ≡ handle_of bytes.now }
 {
