@@ -15,10 +15,11 @@ use Rattle.pgn_book.specs.declared.game.PgnResult.TheVariants.{White, Black, Dra
 use Rattle.pgn_book.specs.Bytes.{is_word_byte}
 use Rattle.pgn_book.specs.Games.{result_text, on_board, position_of}
 use Rattle.pgn_book.specs.Export.{number_at, move_tokens, laid, movetext}
-use Rattle.pgn_book.specs.Laws.{LinesFit, lines_of}
+use Rattle.pgn_book.specs.Laws.{LinesFit}
 use Rattle.pgn_book.proofs.Laying.{allowed_at}
 use Rattle.pgn_book.proofs.PrettyWords.{IsPlain, allowed_on_squares, pretty_plain, plain_word}
 use Rattle.pgn_book.proofs.ExportRead.{decimal_digits, digits_word}
+use Rattle.fics_words.specs.Pieces.{pieces}
 use Rattle.fics_words.proofs.HandleTests.{at_least}
 use Rattle.pgn_book.specs.Lexing.{is_of_line}
 
@@ -34,7 +35,7 @@ AllShort tokens = AllByRecursion IsShort tokens
 record FitsFrom (column : ℕ) (text : List ℕ) : Type 0 where
   first : List ℕ
   others : List (List ℕ)
-  lines : lines_of text ≡ first ∷ others
+  lines : pieces text ≡ first ∷ others
   fits : column + length first ≤ 79
   short : AllByRecursion (λ line. length line ≤ 79) others
 
@@ -47,7 +48,7 @@ byte_fits column b text h f =
     record {
       first = b ∷ f.first;
       others = f.others;
-      lines = ap (λ (t : Bool). cond t ([] ∷ lines_of text) (onto_first b (lines_of text))) (not-true (b == 10) h) ∙ ap (onto_first b) f.lines;
+      lines = ap (λ (t : Bool). cond t ([] ∷ pieces text) (onto_first b (pieces text))) (not-true (b == 10) h) ∙ ap (onto_first b) f.lines;
       fits = omega arith;
       short = f.short;
     }

@@ -1,6 +1,7 @@
 -- What the grammar and the export form mean for each other.
-use Rattle.std.specs.Prelude.{◌≡◌, ℕ, ◌≤◌, ◌==◌, true, List, [], ◌∷◌, ◌++◌, length, Option, Some, None}
-use Rattle.std.specs.List.{AllByRecursion, slice_split}
+use Rattle.std.specs.Prelude.{◌≡◌, ℕ, ◌≤◌, true, List, [], ◌∷◌, ◌++◌, length, Option, Some, None}
+use Rattle.std.specs.List.{AllByRecursion}
+use Rattle.fics_words.specs.Pieces.{pieces}
 use Rattle.pgn_book.specs.declared.game.PgnGame.{PgnGame}
 use Rattle.pgn_book.specs.Games.{Reads}
 use Rattle.pgn_book.specs.Export.{movetext, export_text, IsExportable}
@@ -32,10 +33,6 @@ pub record ReadsInPieces : Type 0 where
 abbrev pub ReadsExportable : Type 0
 ReadsExportable = (text : List ℕ) (games : List PgnGame) → Reads text games → AllByRecursion IsExportable games
 
--- the lines of a text
-abbrev pub lines_of : List ℕ → List (List ℕ)
-lines_of text = slice_split (λ b. b == 10) text
-
 -- no line of an exported movetext is longer than 79 bytes
 abbrev pub LinesFit : Type 0
-LinesFit = (g : PgnGame) → IsExportable g → AllByRecursion (λ line. length line ≤ 79) (lines_of (movetext g))
+LinesFit = (g : PgnGame) → IsExportable g → AllByRecursion (λ line. length line ≤ 79) (pieces (movetext g))

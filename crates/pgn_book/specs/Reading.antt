@@ -7,7 +7,7 @@ use Rattle.chess_model.specs.declared.moves.Move.{Move}
 use Rattle.chess_model.specs.declared.moves.MoveWord.{MoveWord}
 use Rattle.chess_model.specs.Position.{Position}
 use Rattle.chess_model.specs.WordAnswer.{word_answer}
-use Rattle.move_reader.specs.Reading.{reading}
+use Rattle.move_reader.specs.Reading.{is_empty, reading}
 use Rattle.pgn_book.specs.declared.game.PgnResult.{PgnResult}
 use Rattle.pgn_book.specs.declared.game.PgnResult.TheVariants.{White, Black, Draw, Open}
 use Rattle.pgn_book.specs.declared.game.PgnGame.{PgnGame}
@@ -157,13 +157,9 @@ signed book b =
     if b == 91 then opened book.stage book else if b == 93 then closed book.stage book
     else passed_over book.stage book
 
-abbrev pub is_nothing : List ℕ → Bool
-is_nothing [] = true
-is_nothing (b ∷ word) = false
-
 abbrev pub glyphed : Book → List ℕ → Taken
 glyphed book word =
-    if is_nothing word then fails
+    if is_empty word then fails
     else if list_all is_digit word then passed_over book.stage book
     else fails
 
