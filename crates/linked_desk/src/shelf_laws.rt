@@ -10,6 +10,7 @@ pub fn shelved_games_replay()
 /// A game that replays is restored as it is stored: with its terms, players, half-moves and charges, and with clocks
 /// that run from the moment of resuming. So a game that was kept goes on from where it was left: each board has the
 /// same position, men in hand and clocks.
+#[tactic(auto, using(crate::proofs::Resuming::resuming_restores))]
 pub fn resuming_restores()
     ensures { ResumingRestores }
 {}
