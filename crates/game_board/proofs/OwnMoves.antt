@@ -46,3 +46,5 @@ before_own-all number (p ∷ q ∷ list) =
     chosen (has_own number (half_moves number (q ∷ list))) (half_move number p ∷ before_own number (half_moves number (q ∷ list))) [] (has_own-all number q list)
     ∙ ap (λ l. half_move number p ∷ l) (before_own-all number (q ∷ list))
     ∙ ap (λ n. half_moves number (take n (p ∷ q ∷ list))) (more (length list))
+
+pub ruleset last_own = (before_own-own, before_own-other)

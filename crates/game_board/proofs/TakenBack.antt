@@ -116,11 +116,17 @@ clock_of-shorter t c mover list p k same is_mover =
     ∙ ap (λ (cs : List Charge). record { minutes = t.minutes; increment = t.increment; charges = without_end x cs }) (charges_of-last c mover list p is_mover)
     ∙ ap (λ (cs : List Charge). record { minutes = t.minutes; increment = t.increment; charges = cs }) (without_end-append (charges_of c list) x)
 
+-- a half-move as it is kept, and what it is to the rules
+abbrev as_rules : Made → HalfMove
+as_rules h = record { board = h.board; what = h.what }
+
+pub length-made : (all : List Made) → length (made all) ≡ length all
+length-made all = length-map all as_rules
+
 -- the half-moves without the last
 pub made_shorter : (all : List Made) → made (take (length all - 1) all) ≡ take (length (made all) - 1) (made all)
 made_shorter all =
-    let f : Made → HalfMove = λ h. record { board = h.board; what = h.what } in
-    sym (take-map f (length all - 1) all) ∙ ap (λ n. take (n - 1) (made all)) (sym (length-map all f))
+    sym (take-map as_rules (length all - 1) all) ∙ ap (λ n. take (n - 1) (made all)) (sym (length-made all))
 
 pub half_moves_shorter : (number n : ℕ) (list : List Played) → take (length (half_moves number list) - n) (half_moves number list) ≡ half_moves number (take (length list - n) list)
 half_moves_shorter number n list =

@@ -100,6 +100,7 @@ pub fn scores_are_true()
 
 /// What a board shows as its last half-move is its own last one, read in the position before it: what was made on the
 /// partner's board since then changes nothing of that.
+#[tactic(auto, using(crate::proofs::OwnMoves::last_own))]
 pub fn the_last_own_half_move_is_shown()
     ensures own { (number : ℕ) (before : List HalfMove) (m : Move)
         → before_own number (before ++ record { board = number; what = m } ∷ []) ≡ before }

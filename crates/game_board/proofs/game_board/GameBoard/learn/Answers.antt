@@ -1,7 +1,7 @@
 use Rattle.std.proofs.Common.{◌≡◌, ◌-◌, List, [], ◌∷◌, ◌++◌, length, length-append, sym, ap, subst, ◌∙◌, arith}
 use Rattle.std.specs.Prelude.{slice_get}
 use Rattle.std.specs.Option.{option_map}
-use Rattle.std.proofs.lemmas.List.{map-append, length-map}
+use Rattle.std.proofs.lemmas.List.{map-append}
 use Rattle.chess_model.specs.declared.variant.Variant.{Variant}
 use Rattle.chess_model.specs.declared.variant.Variant.TheVariants.{Bughouse}
 use Rattle.chess_model.specs.Allowed.{Allowed, IsLegal}
@@ -18,12 +18,9 @@ use Rattle.game_board.specs.Learn.{partner_position}
 use Rattle.game_board.proofs.OwnMoves.{before_own-other}
 use Rattle.game_board.proofs.PairHands.{not_king_if, room_if}
 use Rattle.game_board.proofs.Received.{boards_differ, with_captured-variant, Stands-other}
+use Rattle.game_board.proofs.TakenBack.{length-made}
 use Rattle.game_board.proofs.game_board.GameBoard.learn.Goals as goal
 use Rattle.chess_model.proofs.LegalLists.{IsLegal-append}
-
--- a half-move as it is kept, and what it is to the rules
-abbrev as_rules : Made → HalfMove
-as_rules h = record { board = h.board; what = h.what }
 
 pub give-requires-clause-not_king : goal.give-requires-clause-not_king
 give-requires-clause-not_king c =
@@ -55,7 +52,7 @@ give-requires-clause-room c =
 pub push-requires : goal.push-requires
 push-requires c =
     let i = c.self.inside in
-    let many : length (made i.all) ≡ length i.all = length-map i.all as_rules in
+    let many : length (made i.all) ≡ length i.all = length-made i.all in
     omega (arith, c.requires.room, many, ap (λ (b : Board). length b.all) c.self.view_is, ap (λ (b : Board). length b.list) c.self.view_is, c.self.invariant.counted, c.self.invariant.most)
 
 pub invariant_of-self : goal.invariant_of-self
@@ -76,7 +73,7 @@ invariant_of-self c =
     let stands : Stands c.give.new.position (T ++ far ∷ []) i.number =
     subst (λ (q : Position). Stands q (T ++ far ∷ []) i.number) (sym c.give.ensures)
     (Stands-other i.position T i.number c.args.what c.args.man (c.self.invariant.variant ∙ pair) man_is c.self.invariant.stands) in
-    let many : length (made i.all) ≡ length i.all = length-map i.all as_rules in
+    let many : length (made i.all) ≡ length i.all = length-made i.all in
     record {
       stands = subst (λ (U : List HalfMove). Stands c.give.new.position U i.number) (sym more) stands;
       first = c.self.invariant.first;

@@ -7,7 +7,6 @@ use Rattle.chess_model.specs.Position.{Position, position_after, Stands}
 use Rattle.chess_model.specs.Allowed.{IsLegal}
 use Rattle.clock_ledger.specs.Charges.{IsChargeable}
 use Rattle.variant_rules.specs.Undos.{IsUndoOf}
-use Rattle.game_board.specs.declared.played.Made.{Made}
 use Rattle.game_board.specs.declared.played.Played.{Played}
 use Rattle.game_board.specs.declared.played.Step.{Step}
 use Rattle.game_board.specs.Board.{Board, half_move, half_moves, made, mover_after}
@@ -16,12 +15,8 @@ use Rattle.game_board.specs.Charges.{clock_of}
 use Rattle.game_board.specs.Steps.{AreSteps}
 use Rattle.game_board.proofs.Movers.{moves_of-half_moves}
 use Rattle.game_board.proofs.Steps.{position_after-stands, last_shown-steps}
-use Rattle.game_board.proofs.TakenBack.{made_left, Stands-legal, IsLegal-shorter, AreSteps-shorter, last_undo, last_mover, has_charge, clock_of-shorter}
+use Rattle.game_board.proofs.TakenBack.{length-made, made_left, Stands-legal, IsLegal-shorter, AreSteps-shorter, last_undo, last_mover, has_charge, clock_of-shorter}
 use Rattle.game_board.proofs.game_board.GameBoard.take_last_back.Goals as goal
-
--- a half-move as it is kept, and what it is to the rules
-abbrev as_rules : Made → HalfMove
-as_rules h = record { board = h.board; what = h.what }
 
 pub unmake-requires : goal.unmake-requires
 unmake-requires c =
@@ -102,7 +97,7 @@ invariant_of-self-2 c =
       own = own;
       alone = λ h. left;
       others = let same : length (made c.pop-made.new.self) ≡ length (half_moves i.number rest) = ap length left in
-          omega (arith, same, length-map c.pop-made.new.self as_rules, length-map rest (half_move i.number));
+          omega (arith, same, length-made c.pop-made.new.self, length-map rest (half_move i.number));
       each = shorter.each;
       shown = last_shown-steps i.terms.variant i.number rest before shorter
           ∙ ap (λ (T : List HalfMove). last_shown i.terms.variant i.number T rest) (sym left);
