@@ -159,3 +159,5 @@ pub go_played : (t : Terms) (boards : List Board) (board : BoardNumber) (moment 
     GoOn (boards_after boards board moment stamp (word_at (slice_get boards (place board)) c word))
 go_played t boards board moment c word stamp s goes there =
     go_answered t boards board moment c word stamp s goes (word_at (slice_get boards (place board)) c word) refl there
+
+pub ruleset each_goes_on = (go_start, go_played, go_acked)

@@ -71,3 +71,5 @@ restored_is t boards moment s =
     let of : AreOf t (halves_of boards) moment found.0 =
     record { sound = at.sound; made = at.made; fresh = replayed_fresh t (halves_of boards) moment found.0 s.halves found.1 } in
     found.1 ∙ ap Some (pointwise (resumed_at moment) found.0 boards (at.sound.numbers ∙ sym s.numbers) (same_at t moment found.0 boards of s))
+
+pub ruleset boards_replayed = (replayed_exactly, replayed_boards, restored_is)

@@ -163,3 +163,5 @@ bounds_of t (b ∷ c ∷ []) s =
       second = omega (arith, second, two_is, short_two);
     }
 bounds_of t (b ∷ c ∷ d ∷ more) s = absurd (never_three t.variant b c d more s.numbers)
+
+pub ruleset halves_told = (all_of, each_of, bounds_of)
