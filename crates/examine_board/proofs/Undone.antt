@@ -60,3 +60,5 @@ forward_keeps e after n made = sym (ap (λ (f : ExamState). f.list) (forward_is 
 
 pub back_keeps : (e after : ExamState) (n : ℕ) → backed e n ≡ Ok after → after.list ≡ e.list
 back_keeps e after n made = sym (ap (λ (f : ExamState). f.list) (back_is e after n made).1)
+
+pub ruleset steps_undone = (back_undoes, forward_undoes, forward_keeps, back_keeps)
