@@ -5,11 +5,11 @@ use Rattle.std.specs.Prelude.{◌==◌}
 use Rattle.std.specs.List.{find, position}
 use Rattle.std.proofs.Math.ListN.{set}
 use Rattle.std.proofs.lemmas.List.Filters.{length-filter_both}
-use Rattle.fics_words.proofs.Causes.{first_none}
 use Rattle.tables.specs.Rows.{change_at, change_first}
 use Rattle.lobby_state.specs.declared.member.Member.{Member}
 use Rattle.lobby_state.specs.Lobby.{is_session}
 use Rattle.lobby_shelf.proofs.Requests.{turned}
+use Rattle.tables.proofs.Firsts.{change_first-none}
 use Rattle.tables.proofs.Placed.{changed_at, find-missing, position-within}
 
 -- a write of what stands there changes nothing
@@ -41,13 +41,7 @@ pub change_first-found : {X : Type 0} (p : X → Bool) (f : X → X) (xs : List 
     → position p xs ≡ Some i → slice_get xs i ≡ Some x → change_first p f xs ≡ set xs i (f x)
 change_first-found p f xs i x here at = sym (changed_at p f xs i here) ∙ change_at-set f xs i x at
 
-change_first-none : {X : Type 0} (p : X → Bool) (f : X → X) (xs : List X) → find p xs ≡ None → change_first p f xs ≡ xs
-change_first-none p f [] none = refl
-change_first-none p f (x ∷ xs) none =
-    let step = first_none (p x) x (find p xs) none in
-    ap (λ t. cond t (f x ∷ xs) (x ∷ change_first p f xs)) step.0 ∙ ap (λ l. x ∷ l) (change_first-none p f xs step.1)
-
--- and nothing changes where none passes
+-- nothing changes where none passes
 pub change_first-missing : {X : Type 0} (p : X → Bool) (f : X → X) (xs : List X) → position p xs ≡ None → change_first p f xs ≡ xs
 change_first-missing p f xs nowhere = change_first-none p f xs (find-missing p xs nowhere)
 

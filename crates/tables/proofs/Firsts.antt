@@ -1,6 +1,7 @@
 -- For callers: the first item that passes a test, whether there is one, and a change of it.
-use Rattle.std.proofs.Common.{◌≡◌, ◌||◌, Bool, true, false, cond, List, [], ◌∷◌, None, Some, Result, Ok, Err, OnErr, length, suc, is_some, refl, ap, ◌∙◌}
+use Rattle.std.proofs.Common.{◌≡◌, ◌||◌, Bool, true, false, cond, List, [], ◌∷◌, None, Some, Result, Ok, Err, OnErr, length, suc, is_some, refl, sym, ap, ◌∙◌}
 use Rattle.std.specs.List.{find, list_any}
+use Rattle.std.proofs.lemmas.Option.{none-some}
 use Rattle.tables.specs.Rows.{change_first}
 use Rattle.collections.proofs.Tests.{none_found}
 
@@ -29,3 +30,12 @@ length-change_first p f (x ∷ xs) =
       | true ↦ refl
       | false ↦ ap suc (length-change_first p f xs)
     ]
+
+-- where no item passes, none is changed
+pub change_first-none : {X : Type 0} (test : X → Bool) (f : X → X) (xs : List X) → find test xs ≡ None → change_first test f xs ≡ xs
+change_first-none test f [] none = refl
+change_first-none test f (x ∷ xs) none =
+    elim (test x) as (λ t. cond t (Some x) (find test xs) ≡ None → cond t (f x ∷ xs) (x ∷ change_first test f xs) ≡ x ∷ xs) [
+      | true ↦ λ h. absurd (none-some _ (sym h))
+      | false ↦ λ h. ap (λ l. x ∷ l) (change_first-none test f xs h)
+    ] none

@@ -1,8 +1,7 @@
 -- Rows behind their keys: what a look-up finds there, and what each change of such a list leaves.
-use Rattle.std.proofs.Common.{◌≡◌, ◌+◌, ℕ, zero, suc, Bool, true, false, not, cond, List, [], ◌∷◌, ◌++◌, Option, None, Some, length, ltb, map, slice_get, position, unwrap_or, refl, sym, ap, subst, ◌∙◌, arith}
+use Rattle.std.proofs.Common.{◌≡◌, ◌+◌, ℕ, zero, suc, Bool, true, false, not, cond, List, [], ◌∷◌, ◌++◌, Option, None, Some, length, ltb, map, slice_get, position, unwrap_or, refl, sym, ap, ◌∙◌, arith}
 use Rattle.std.specs.List.{filter, find, insert, position_or_len, remove}
 use Rattle.std.specs.Map.{keys_of, lookup, remove_entry, set_value, values_of}
-use Rattle.std.specs.Map.Calls.{RetainsPairs}
 use Rattle.std.specs.Option.{option_map_or}
 use Rattle.std.proofs.lemmas.Option.{none-some}
 use Rattle.indexmap.specs.IndexMap.{IndexMap, get, insert_entry, insert_index, move_index, set_value_at}
@@ -148,24 +147,3 @@ module _ {K T : Type 0} (key_of : T → K) where
     pub written-in : (es : List (K × T)) (place : ℕ) (row : T) → keyed key_of (values_of es) ≡ es → slice_get (values_of es) place ≡ Some row
         → set_value_at es place (f row) ≡ keyed key_of (change_at place f (values_of es))
     written-in es place row same at = ap (λ es. set_value_at es place (f row)) (sym same) ∙ written-keyed (values_of es) place row at
-
-    -- a change of each, by a closure that keeps no state
-    module _ {F : Type 0} (R : F → K → T → Bool → T → F → Type 0) (g : F) (says : (k : K) (v : T) (b : Bool) (w : T) (g' : F) → R g k v b w g' → (b ≡ true) × (w ≡ f v) × (g' ≡ g)) where
-      changed_each : (rows : List T) (kept : List (K × T)) → RetainsPairs R g (keyed key_of rows) kept → kept ≡ keyed key_of (map f rows)
-      changed_each [] kept h = h
-      changed_each (row ∷ rows) kept h =
-          let s = says (key_of row) row h.0 h.1 h.2 h.4 in
-          let rest = changed_each rows h.3 (subst (λ g. RetainsPairs R g (keyed key_of rows) h.3) s.2 h.5) in
-          h.6 ∙ (λ j. cond (s.0 j) ((key_of row, s.1 j) ∷ rest j) (rest j)) ∙ ap (λ k. (k, f row) ∷ keyed key_of (map f rows)) (sym (keeps row))
-
-      pub changed_each_of : (rows : List T) (es kept : List (K × T)) → keyed key_of rows ≡ es → RetainsPairs R g es kept → kept ≡ keyed key_of (map f rows)
-      changed_each_of rows es kept same h = changed_each rows kept (subst (λ es. RetainsPairs R g es kept) (sym same) h)
-
--- where no item passes, none is changed
-pub change_first-none : {X : Type 0} (test : X → Bool) (f : X → X) (xs : List X) → find test xs ≡ None → change_first test f xs ≡ xs
-change_first-none test f [] none = refl
-change_first-none test f (x ∷ xs) none =
-    elim (test x) as (λ t. cond t (Some x) (find test xs) ≡ None → cond t (f x ∷ xs) (x ∷ change_first test f xs) ≡ x ∷ xs) [
-      | true ↦ λ h. absurd (none-some _ (sym h))
-      | false ↦ λ h. ap (λ l. x ∷ l) (change_first-none test f xs h)
-    ] none

@@ -1,5 +1,5 @@
 //! A list of rows that are found by a key.
-ghost use Rattle.std.specs.Prelude.{◌≡◌, ◌↔◌, ◌<◌, ◌≤◌, Some, slice_get, [], ◌∷◌, ◌++◌, length, map, not, IsTrue, true, IfOk, None, OnOk, OnErr, option_copied, option_map};
+ghost use Rattle.std.specs.Prelude.{◌≡◌, ◌↔◌, ◌<◌, ◌≤◌, Some, slice_get, [], ◌∷◌, ◌++◌, length, not, IsTrue, true, IfOk, None, OnOk, OnErr, option_copied, option_map};
 ghost use Rattle.std.specs.Borrow.{sem};
 ghost use Rattle.std.specs.Option.{option_copied_mut};
 ghost use Rattle.std.specs.List.{filter, find, insert, list_any, position};
@@ -189,21 +189,6 @@ impl<K: Eq + Hash + Copy + Drop, T: Keyed<K> + Drop> Table<K, T> {
         if let Some(row) = self.rows.get_mut(&key) {
             change.change(row);
         }
-    }
-
-    /// Changes each row. The change must leave the keys as they are.
-    pub fn change_each<C: Change<T>>(&mut self, change: &C)
-        requires { (row : T) → T.key_of (C.changed change.now row) ≡ T.key_of row }
-        ensures { self.new ≡ map (C.changed change.now) self.old }
-    {
-        self.rows.retain(
-            |_key: &K, row: &mut T| -> bool
-                ensures { (result ≡ true) × (row.new ≡ C.changed change.entry.now row.old) }
-            {
-                change.change(row);
-                true
-            },
-        );
     }
 
     /// Gives the memory back where no row is left.

@@ -3,7 +3,8 @@ use Rattle.std.specs.List.{find}
 use Rattle.std.specs.Map.{lookup, set_value, values_of}
 use Rattle.std.specs.Option.{option_copied_mut}
 use Rattle.tables.specs.Rows.{change_first, has_key, keyed}
-use Rattle.tables.proofs.KeyedRows.{are_keyed, are_rows, changed-keyed, change_first-none, lookup-keyed}
+use Rattle.tables.proofs.Firsts.{change_first-none}
+use Rattle.tables.proofs.KeyedRows.{are_keyed, are_rows, changed-keyed, lookup-keyed}
 use Rattle.tables.proofs.table.Table.change.Goals.{in-Some, in_default}
 use Rattle.tables.proofs.table.Table.change.Given as given
 use Rattle.tables.proofs.table.Table.change.Goals as goal
