@@ -63,7 +63,8 @@ impl Model for Channels {
 impl Channels {
     ghost use Rattle.std.specs.Prelude.{◌≡◌, []};
     ghost use Rattle.fics_words.specs.Effect.{Takes, answer_of, state_of};
-    ghost use Rattle.channel_feed.specs.Channels.{is_in, joining, leaving_channel, without_player};
+    ghost use Rattle.channel_feed.specs.Channels.{is_in, is_same, joining, leaving_channel, without_player};
+    ghost use Rattle.tables.specs.Rows.{AreApart};
 
     /// Nobody is in a channel; takes no memory.
     pub fn new(alloc: Global) -> Channels
@@ -80,6 +81,14 @@ impl Channels {
         ensures { result ≡ is_in self.now who channel }
     {
         self.rows.has(Membership { who, channel })
+    }
+
+    /// Who is in which channel, in the order of joining. No two rows say the same.
+    pub fn rows(&self) -> &[Membership]
+        ensures rows { result.now ≡ self.now }
+        ensures apart { AreApart is_same (λ row. row) self.now }
+    {
+        self.rows.as_slice()
     }
 
     /// The player joins the channel. Refuses with `OnList` where it is in it, and else with `ListFull` where it is in
