@@ -80,7 +80,7 @@ was_told test line xs i x heard lines more e is was reads put =
     ∙ sym (change_at-set (hearing test line) xs i x e)
 
 -- a line that was put last is taken back
-taken_back : (line : List ℕ) (m : Member) → is_full m ≡ false → record m { waiting = without_last (with_line line m).waiting } ≡ m
+pub taken_back : (line : List ℕ) (m : Member) → is_full m ≡ false → record m { waiting = without_last (with_line line m).waiting } ≡ m
 taken_back line m room =
     ap (λ (lines : List (List ℕ)). record m { waiting = lines }) (without_last-with_line line m.waiting room)
 

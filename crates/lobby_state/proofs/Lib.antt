@@ -17,6 +17,7 @@ pub mod KeepsRegistration
 pub mod KeepsMatch
 pub mod KeepsPost
 pub mod Broadcasting
+pub mod ByRows
 pub mod LinesKept
 pub mod Follows
 pub mod Sayings

@@ -27,6 +27,7 @@ pub mod Shout
 pub mod Tell
 pub mod Channel
 pub mod TellChannel
+pub mod Hearers
 pub mod InChannel
 pub mod Var
 pub mod Where

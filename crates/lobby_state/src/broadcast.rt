@@ -33,7 +33,8 @@ impl Roster {
         }) }
         ensures err { OnErr result (self.new ≡ self.old) }
     {
-        say(self.alloc, &mut self.members, test, name, wording, text)
+        let line = said_line(self.alloc, name, wording, text)?;
+        broadcast(&mut self.members, test, &line)
     }
 
     /// Says something to the member of this session, where it is one and fewer than 512 lines wait for it: who says it,
@@ -70,27 +71,6 @@ pub(crate) fn tell_session(members: &mut Members, session: u32, line: Line) -> R
     };
     members.waiting_mut(place).push(line)?;
     Ok(())
-}
-
-/// Says something to each of these members whom the test names and for whom fewer than 512 lines wait, and answers how
-/// many members that are. Running out of memory changes nothing.
-pub(crate) fn say<P: Predicate<Member>>(
-    alloc: Global,
-    members: &mut Members,
-    test: &P,
-    name: Handle,
-    wording: &[u8],
-    text: &[u8],
-) -> Result<u16, NoMemory>
-    requires wording { IsWording wording.now }
-    requires text { IsText text.now }
-    ensures told { IfOk result (λ told. told ≡ heard (P.passes test.now) members.old) }
-    ensures ok { OnOk result
-        (members.new ≡ broadcast (P.passes test.now) (said name wording.now text.now) members.old) }
-    ensures err { OnErr result (members.new ≡ members.old) }
-{
-    let line = said_line(alloc, name, wording, text)?;
-    broadcast(members, test, &line)
 }
 
 /// Puts a copy of the line behind those that wait for each member whom the test names and for whom fewer than 512

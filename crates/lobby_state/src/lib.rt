@@ -29,6 +29,7 @@ mod game;
 mod games;
 mod go_board;
 mod going;
+mod hearers;
 mod in_channel;
 mod in_use;
 mod inbox;

@@ -1,34 +1,16 @@
 //! TellChannel: a member says something to all others in a channel.
-ghost use Rattle.std.specs.Prelude.{◌≡◌, ◌≤◌, IfOk, length, ◌&&◌};
+ghost use Rattle.std.specs.Prelude.{◌≡◌, ◌≤◌, IfOk, length};
 ghost use Rattle.fics_words.specs.Effect.{Takes};
 ghost use Rattle.fics_words.specs.Line.{most_text_bytes};
-ghost use Rattle.lobby_state.specs.TellChannel.{channel_words, hears_channel, tell_channel_effect};
+ghost use Rattle.lobby_state.specs.TellChannel.{channel_words, tell_channel_effect};
 
 use crate::acts::LobbyReply;
-use crate::broadcast::say;
-use crate::member::Member;
+use crate::hearers::{Others, tell_others};
 use crate::roster::Roster;
-use channel_feed::Channels;
-use collections::Predicate;
+use crate::said::said_line;
 use fics_words::{Fail, Line, Refusal, write_number};
 use memory::NoMemory;
 use std::alloc::Global;
-
-/// A member of another session who is in the channel.
-#[derive(Clone, Copy)]
-struct HearsChannel<'a> {
-    channels: &'a Channels,
-    session: u32,
-    channel: u8,
-}
-
-impl<'a> Predicate<Member> for HearsChannel<'a> {
-    ghost passes = { λ test member. hears_channel test.channels.now test.session test.channel member };
-
-    fn passes(&self, member: &Member) -> bool {
-        member.session != self.session && self.channels.has(member.session, self.channel)
-    }
-}
 
 impl Roster {
     /// The member says the text to all others in the channel. The causes of a refusal, in order: the session isn't a
@@ -50,19 +32,9 @@ impl Roster {
         }
         let name = caller.name;
         let wording = channel_words(self.alloc, channel)?;
-        let others = HearsChannel {
-            channels: &self.channels,
-            session,
-            channel,
-        };
-        let told = say(
-            self.alloc,
-            &mut self.members,
-            &others,
-            name,
-            &wording,
-            text.bytes(),
-        )?;
+        let line = said_line(self.alloc, name, &wording, text.bytes())?;
+        let others = Others { session, channel };
+        let told = tell_others(&mut self.members, &self.channels, others, &line)?;
         Ok(LobbyReply::Told(told))
     }
 }
