@@ -120,6 +120,7 @@ impl OneServer {
 }
 
 /// The desks 1 to 128, all of them vacant.
+#[tactic(auto, using(crate::proofs::Serving::vacant_push))]
 fn vacant_desks(alloc: Global) -> Result<Listed<Desk>, NoMemory>
     ensures { IfOk result (λ desks. desks ≡ vacant_from 1 desk_count) }
 {
