@@ -27,6 +27,7 @@ pub fn courses()
 {}
 
 /// A session that has entered, or comes in, leaves by an input only where that asks to quit.
+#[tactic(auto, using(crate::proofs::Quitting::only_quit))]
 pub fn only_quit_leaves()
     ensures { (input : Input) (before after : MemoryState) (session moment : ℕ) (made : Log) (text : List ℕ)
         → Follows (input_course input before) session moment made text after → is_gone before ≡ false
@@ -35,6 +36,7 @@ pub fn only_quit_leaves()
 
 /// Every input of a session that has entered, but one to which nothing is answered and one that asks to quit, ends with
 /// the round.
+#[tactic(auto, using(crate::proofs::Endings::input_ends))]
 pub fn inputs_end_with_the_round()
     ensures { (input : Input) (before after : MemoryState) (session moment : ℕ) (made : Log) (text : List ℕ)
         → Follows (input_course input before) session moment made text after → has_entered before ≡ true
@@ -42,6 +44,7 @@ pub fn inputs_end_with_the_round()
 {}
 
 /// A line of the login makes at most one act, and that asks to come in.
+#[tactic(auto, using(crate::proofs::Turning::input_of_login))]
 pub fn the_login_makes_one_act()
     ensures { (input : Input) (before after : MemoryState) (session moment : ℕ) (made : Log) (text : List ℕ)
         → Follows (input_course input before) session moment made text after → has_entered before ≡ false
@@ -49,6 +52,7 @@ pub fn the_login_makes_one_act()
 {}
 
 /// Behind each half-move that is accepted of who gives a simul stands that to its next place.
+#[tactic(auto, using(crate::proofs::Turning::input_turns))]
 pub fn givers_turn_behind_half_moves()
     ensures { (input : Input) (before after : MemoryState) (session moment : ℕ) (made : Log) (text : List ℕ)
         → Follows (input_course input before) session moment made text after → TurnsBehind before made }

@@ -63,6 +63,7 @@ fn take_handle(
 }
 
 /// The handle of these bytes, if they are one.
+#[tactic(auto, using(fics_words::proofs::HandleTests::handle_is))]
 fn handle_of(bytes: &[u8]) -> Option<Handle>
     ensures { result ≡ handle_of bytes.now }
 {
