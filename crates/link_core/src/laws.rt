@@ -11,6 +11,7 @@ pub fn served_links_are_their_own()
 
 /// On a link that counted no fault, and where memory was enough, everything that the link had to give was answered in
 /// full, up to its end or up to an answered quit, by the acts of the session's course for it.
+#[tactic(auto, using(crate::proofs::Answering::answers_each_line))]
 pub fn each_line_is_answered()
     ensures { AnswersEachLine }
 {}
