@@ -25,7 +25,7 @@ use Rattle.link_core.specs.Serving.{ServesLink}
 use Rattle.link_core.specs.Steps.{Behind, EndsReading, OnFault, Stand, Stops}
 use Rattle.link_core.specs.Talk.{IsShown}
 use Rattle.link_core.proofs.Tales.{where_then}
-use Rattle.link_core.proofs.Talking.{prefix_more}
+use Rattle.link_core.proofs.Talking.{prefix_further}
 
 -- who followed a course passed over nothing
 passes_follows : (mark : Bool) (course : Course) (session moment : ℕ) (es : Log) (text : List ℕ) (memory : MemoryState) → Follows course session moment es text memory → Passes mark course session moment es
@@ -74,7 +74,7 @@ module _ (shows : ℕ → Bool) (start now : Stand) (new : RunnerState) (link : 
     memory = l.memory;
     talked = l.talked;
     taken_first = l.taken_first;
-    made_first = prefix_more l.made made left l.made_first;
+    made_first = prefix_further l.made made left l.made_first;
     written_first = l.written_first;
     at = where_then start.link now.link link l.at closes (λ x y z p q. ap (λ (t : Tale). t.at_read) q ∙ p);
   })

@@ -8,6 +8,7 @@ use Rattle.edge_traits.specs.declared.link.Heard.TheVariants as heard
 use Rattle.edge_traits.specs.Link.{Byte, Extent, Pause, Reads, Sign, Tale, is_ended, signs_of}
 use Rattle.edge_traits.specs.WhereTold.{WhereTold}
 use Rattle.histories.specs.History.{IsPrefix}
+use Rattle.histories.proofs.Histories.{prefix_more, prefix_refl}
 use Rattle.line_reader.specs.declared.incoming.Incoming.{Incoming}
 use Rattle.line_reader.specs.Reader.{GiveSame, Gives, Reader, fresh, lines_of, rest_of}
 use Rattle.one_server.specs.Running.{IsKnown, Log, Made, RunnerState}
@@ -29,7 +30,7 @@ use Rattle.link_core.specs.Steps.{AfterAnswer, AfterStep, AfterWrite, AnsweredPa
 use Rattle.link_core.specs.Talk.{Answers, IsShown, Talks, joined}
 use Rattle.link_core.proofs.Arriving.{behind_reader, bytes_more, bytes_pause, come_bytes, come_end, come_pause, fed_lines, fed_rest}
 use Rattle.link_core.proofs.Tales.{where_map, where_then, tells_more, written_none}
-use Rattle.link_core.proofs.Talking.{HasLast, joined_then, last_of, prefix_append, prefix_more, prefix_refl, talks_then}
+use Rattle.link_core.proofs.Talking.{HasLast, joined_then, last_of, prefix_further, talks_then}
 
 -- the texts that a session has written, its opening among them
 abbrev pub said : List (List ℕ) → List ℕ
@@ -69,8 +70,8 @@ module _ (shows : ℕ → Bool) (start : Stand) where
     memory = l.memory;
     talked = l.talked;
     taken_first = l.taken_first;
-    made_first = prefix_more l.made made now l.made_first;
-    written_first = prefix_more (said l.pieces) written put l.written_first;
+    made_first = prefix_further l.made made now l.made_first;
+    written_first = prefix_further (said l.pieces) written put l.written_first;
     at = where_then start.link there here l.at w (λ x y z p q. ap (λ (t : Tale). t.at_read) q ∙ p);
   })
 
@@ -282,7 +283,7 @@ module _ (shows : ℕ → Bool) (start : Stand) where
           pieces = h.pieces;
           memory = now.memory;
           talked = subst (λ (l : List Input). Talks shows start.state.number l newcomer h.made h.pieces now.memory) (sym all) h.talked;
-          taken_first = prefix_append taken signs;
+          taken_first = prefix_more taken signs;
           made_first = prefix_refl h.made;
           written_first = prefix_refl (said h.pieces);
           at = where_then start.link now.link link h.tells r (λ x y z p q.

@@ -6,14 +6,8 @@ use Rattle.session_core.specs.declared.input.Input.{Input}
 use Rattle.session_core.specs.Memory.{MemoryState}
 use Rattle.link_core.specs.Talk.{Answers, Talks, joined}
 
-pub prefix_refl : {T : Type 0} (xs : List T) → IsPrefix xs xs
-prefix_refl xs = ([], append-nil xs)
-
-pub prefix_append : {T : Type 0} (xs ys : List T) → IsPrefix xs (xs ++ ys)
-prefix_append xs ys = (ys, refl)
-
-pub prefix_more : {T : Type 0} (xs ys more : List T) → IsPrefix xs ys → IsPrefix xs (ys ++ more)
-prefix_more xs ys more p = (p.0 ++ more, sym (append_assoc xs p.0 more) ∙ ap (λ l. l ++ more) p.1)
+pub prefix_further : {T : Type 0} (xs ys more : List T) → IsPrefix xs ys → IsPrefix xs (ys ++ more)
+prefix_further xs ys more p = (p.0 ++ more, sym (append_assoc xs p.0 more) ∙ ap (λ l. l ++ more) p.1)
 
 module _ (shows : ℕ → Bool) (session : ℕ) where
   -- behind inputs that were answered another one was
