@@ -5,6 +5,7 @@ use Rattle.std.specs.List.{AllByRecursion}
 use Rattle.std.proofs.lemmas.Bool.{eqb-false, lt-ltb, le-ltb}
 use Rattle.std.proofs.lemmas.List.{append_cancel_left}
 use Rattle.edge_traits.specs.Pairs.{Records}
+use Rattle.fics_words.proofs.Each.{each-back, each-front}
 use Rattle.lobby_shelf.specs.Facts.{IsShelf, OrdersRise}
 use Rattle.lobby_shelf.specs.Shelf.{saved}
 use Rattle.lobby_shelf.specs.Wanted.{StoreMap, table_with}
@@ -51,15 +52,6 @@ unfolding behind_first
 no_more [] y e = refl
 no_more (x ∷ []) y e = let bad : y ∷ [] ≡ [] = ap behind_first e in cc
 no_more (x ∷ (z ∷ xs)) y e = let bad : z ∷ (xs ++ y ∷ []) ≡ [] = ap behind_first e in cc
-
-module _ {X : Type 0} (P : X → Type 0) where
-  all_front : (xs ys : List X) → AllByRecursion P (xs ++ ys) → AllByRecursion P xs
-  all_front [] ys all = tt
-  all_front (x ∷ xs) ys all = (all.0, all_front xs ys all.1)
-
-  all_back : (xs ys : List X) → AllByRecursion P (xs ++ ys) → AllByRecursion P ys
-  all_back [] ys all = all
-  all_back (x ∷ xs) ys all = all_back xs ys all.1
 
 -- ---- histories
 
@@ -127,8 +119,8 @@ split_none old mid new same p q none =
     let both : none.gained ≡ p.0 ++ q.0 = append_cancel_left old.seen none.gained (p.0 ++ q.0)
     (sym none.is ∙ sym q.1 ∙ ap (λ (l : Log). l ++ q.0) (sym p.1) ∙ append_assoc old.seen p.0 q.0) in
     let all = subst (AllByRecursion (IsNoOthers old.number)) both none.none in (
-      record { gained = p.0; is = sym p.1; none = all_front (IsNoOthers old.number) p.0 q.0 all },
-      record { gained = q.0; is = sym q.1; none = subst (λ (n : ℕ). AllByRecursion (IsNoOthers n) q.0) (sym same) (all_back (IsNoOthers old.number) p.0 q.0 all) },
+      record { gained = p.0; is = sym p.1; none = each-front (IsNoOthers old.number) p.0 q.0 all },
+      record { gained = q.0; is = sym q.1; none = subst (λ (n : ℕ). AllByRecursion (IsNoOthers n) q.0) (sym same) (each-back (IsNoOthers old.number) p.0 q.0 all) },
     )
 
 pub agreed_then : (t0 t1 t2 : Option Records) (s0 s1 s2 : RunnerState) (one two : Log) → Made s0 one s1 → Made s1 two s2
@@ -212,7 +204,7 @@ module _ (moment : ℕ) (orders carried left : List Order) (before after_all : R
       let mine = calls_gained old new (e ∷ []) ran.grew known (others ++ e ∷ []) is in
       let nobody = no_more (calls_of old.number others) e (sym (calls_own old.number others e refl) ∙ mine) in
       let unsaved = not_saved old.number others (subst (AllByRecursion NotSaved) (sym nobody) tt)
-      (all_front (IsNoOthers old.number) others (e ∷ []) (subst (AllByRecursion (IsNoOthers old.number)) gained none.none)) in
+      (each-front (IsNoOthers old.number) others (e ∷ []) (subst (AllByRecursion (IsNoOthers old.number)) gained none.none)) in
       let legal = legal_front house (state_seen old) others (e ∷ []) (legal_gained old new (e ∷ []) ran.grew (others ++ e ∷ []) is) in
       let led = leads_log (state_seen old) others (whole_seen old whole known) legal unsaved in
       let r = led.0 in
