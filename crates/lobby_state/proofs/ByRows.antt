@@ -7,13 +7,13 @@ use Rattle.std.proofs.Math.Bool.{and-false}
 use Rattle.std.proofs.lemmas.Bool.{and_parts, eq-eqb, eqb-true, not-true, or_from}
 use Rattle.std.proofs.lemmas.Cmp.{nat_eq_equiv}
 use Rattle.std.proofs.lemmas.List.Sums.{sum_by-cons}
-use Rattle.tables.specs.Rows.{AreApart}
+use Rattle.tables.specs.Rows.{AreApart, change_first}
 use Rattle.tables.proofs.Placed.{find-found, find-missing}
 use Rattle.channel_feed.specs.declared.channels.Membership.{Membership}
 use Rattle.channel_feed.specs.Channels.{is_in, is_row, is_same}
 use Rattle.lobby_state.specs.declared.member.Member.{Member}
 use Rattle.lobby_state.specs.Broadcast.{broadcast, heard, hears, hearing}
-use Rattle.lobby_state.specs.Change.{change_first, holds}
+use Rattle.lobby_state.specs.Holds.{holds}
 use Rattle.lobby_state.specs.Hearers.{from_next, has_room, is_other, less_one_line}
 use Rattle.lobby_state.specs.Lobby.{is_session}
 use Rattle.lobby_state.specs.Match.{is_full, with_line}

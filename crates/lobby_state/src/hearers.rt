@@ -3,11 +3,10 @@
 ghost use Rattle.std.specs.Prelude.{◌≡◌, ◌≤◌, IfOk, OnErr, OnOk, length};
 ghost use Rattle.channel_feed.specs.Channels.{is_same};
 ghost use Rattle.lobby_state.specs.Broadcast.{broadcast, heard};
-ghost use Rattle.lobby_state.specs.Change.{change_first};
+ghost use Rattle.tables.specs.Rows.{AreApart, change_first};
 ghost use Rattle.lobby_state.specs.Hearers.{from_next, has_room, is_other, less_one_line};
 ghost use Rattle.lobby_state.specs.Lobby.{is_session};
 ghost use Rattle.lobby_state.specs.TellChannel.{hears_channel};
-ghost use Rattle.tables.specs.Rows.{AreApart};
 
 use crate::members::Members;
 use channel_feed::{Channels, Membership};

@@ -1,5 +1,5 @@
 use Rattle.std.proofs.Common.{sym, ap, ◌∙◌, arith}
-use Rattle.lobby_state.specs.Change.{change_first}
+use Rattle.tables.specs.Rows.{change_first}
 use Rattle.lobby_state.specs.Hearers.{less_one_line}
 use Rattle.lobby_state.specs.Lobby.{is_session}
 use Rattle.lobby_state.specs.TellChannel.{hears_channel}

@@ -2,8 +2,7 @@ use Rattle.std.proofs.Common.{sym, ap, ◌∙◌}
 use Rattle.channel_feed.specs.Waiting.{without_last}
 use Rattle.lobby_state.specs.Hearers.{less_one_line}
 use Rattle.lobby_state.specs.Lobby.{is_session}
-use Rattle.lobby_state.proofs.First.{change_first-missing}
-use Rattle.lobby_state.proofs.Lent.{changed_there}
+use Rattle.lobby_state.proofs.Lent.{change_first-missing, changed_there}
 use Rattle.lobby_state.proofs.hearers.take_back.Goals as goal
 
 pub returns-in-Some : goal.returns-in-Some
