@@ -4,8 +4,9 @@ use Rattle.std.specs.Prelude.{All, Option}
 use Rattle.std.specs.Option.{option_map_or}
 use Rattle.std.proofs.lemmas.List.Elements.{All-cons, All-nil}
 use Rattle.cmd_lines.specs.LineCommand.{LineCommand, bad_in, first_bad, last_state, line_answer}
+use Rattle.cmd_lines.specs.Lines.{is_written}
 use Rattle.cmd_bot.specs.BotLines.{bot_lines}
-use Rattle.cmd_bot.specs.Inputs.{Give, IsFirstBad, is_written}
+use Rattle.cmd_bot.specs.Inputs.{Give, IsFirstBad}
 use Rattle.cmd_bot.proofs.GamesGiven.{Give-given, Give-good}
 
 module _ {S : Type 0} (command : LineCommand S) where

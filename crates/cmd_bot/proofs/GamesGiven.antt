@@ -16,11 +16,12 @@ use Rattle.chess_model.specs.Result.{is_end, result}
 use Rattle.chess_model.specs.WordAnswer.{word_answer}
 use Rattle.chess_model.proofs.WordsDecide.{word_answer-holds, word_answer-is}
 use Rattle.cmd_lines.specs.LineCommand.{first_bad, line_answer, state_after}
+use Rattle.cmd_lines.specs.Lines.{is_written}
 use Rattle.move_reader.specs.Reading.{reading}
 use Rattle.move_reader.proofs.Readings.{reading-again, reading-sound}
 use Rattle.cmd_bot.specs.BotLines.{BotState, answer_line, bot_lines, silent}
 use Rattle.cmd_bot.specs.Game.{BotGame, array_named, is_over, move_named, new_game, position_of, variant_named, with_drops, with_move, word_played}
-use Rattle.cmd_bot.specs.Inputs.{Follow, Give, IsNextMove, Names, is_written}
+use Rattle.cmd_bot.specs.Inputs.{Follow, Give, IsNextMove, Names}
 use Rattle.cmd_bot.proofs.Variants.{named_array}
 use Rattle.std.proofs.lemmas.Option.{same_Some}
 

@@ -4,9 +4,9 @@ use Rattle.std.specs.Io.KnownBytes.{Appends}
 use Rattle.cmd_lines.specs.Ends.{HasRead}
 use Rattle.cmd_lines.specs.Handling.{bad_line}
 use Rattle.cmd_lines.specs.LineCommand.{bad_in}
-use Rattle.cmd_lines.specs.Lines.{lines_come, lines_of}
+use Rattle.cmd_lines.specs.Lines.{is_written, lines_come, lines_of}
 use Rattle.cmd_bot.specs.BotLines.{BotState, bot_answer, bot_lines}
-use Rattle.cmd_bot.specs.Inputs.{Give, is_written}
+use Rattle.cmd_bot.specs.Inputs.{Give}
 
 -- the input has ended, its lines give a game, and the bot's answer in the position of that game was written, and
 -- nothing else

@@ -1,5 +1,5 @@
 -- What the lines of `bot` say, as a player reads them: a variant, and half-moves from its start.
-use Rattle.std.specs.Prelude.{◌≡◌, ◌≢◌, ℕ, ◌-◌, ◌<◌, ◌≤◌, Bool, true, false, List, [], ◌∷◌, length, filter, take, All, Some, None, ⊤}
+use Rattle.std.specs.Prelude.{◌≡◌, ◌≢◌, ℕ, ◌-◌, ◌<◌, ◌≤◌, false, List, [], ◌∷◌, length, filter, take, All, Some, None, ⊤}
 use Rattle.fics_words.specs.Line.{most_line_bytes}
 use Rattle.chess_model.specs.Limits.{most_halves}
 use Rattle.chess_model.specs.declared.moves.Move.{Move}
@@ -10,13 +10,9 @@ use Rattle.chess_model.specs.Answer.{IsAnswer}
 use Rattle.chess_model.specs.Result.{is_end, result}
 use Rattle.chess_model.specs.VariantWord.{IsNumbered, word_of}
 use Rattle.move_reader.specs.Spellings.{IsReading}
+use Rattle.cmd_lines.specs.Lines.{is_written}
 use Rattle.cmd_bot.specs.BotLines.{BotState}
 use Rattle.cmd_bot.specs.Game.{BotGame, new_game, position_of, with_move}
-
--- a line that isn't empty
-abbrev pub is_written : List ℕ → Bool
-is_written [] = false
-is_written (b ∷ bytes) = true
 
 -- the line names a variant of one board that the bot plays so many half-moves ahead
 pub record Names (depth : ℕ) (line : List ℕ) (variant : Variant) : Type 0 where

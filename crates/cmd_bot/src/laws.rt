@@ -3,11 +3,12 @@
 ghost use Rattle.std.specs.Prelude.{◌≡◌, ◌≤◌, ℕ, List, All, None, Option, Some, filter, length};
 ghost use Rattle.fics_words.specs.Line.{most_line_bytes};
 ghost use Rattle.cmd_lines.specs.LineCommand.{bad_in, last_state};
+ghost use Rattle.cmd_lines.specs.Lines.{is_written};
 ghost use Rattle.cmd_lines.specs.declared.end.End.{End};
 ghost use Rattle.cmd_bot.specs.BotEnds.{BotEnds};
 ghost use Rattle.cmd_bot.specs.BotLines.{BotState, bot_lines};
 ghost use Rattle.cmd_bot.specs.BotText.{AnswersGame, TellsBadLine, WritesNothing};
-ghost use Rattle.cmd_bot.specs.Inputs.{Give, IsFirstBad, is_written};
+ghost use Rattle.cmd_bot.specs.Inputs.{Give, IsFirstBad};
 
 /// An input has no bad line exactly where its lines, without the empty ones, name a variant and half-moves that are
 /// accepted in turn; and these give the game in whose position the bot answers. A line of more than 1,023 bytes is bad.

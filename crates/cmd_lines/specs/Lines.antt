@@ -1,5 +1,5 @@
 -- The lines of a text of bytes.
-use Rattle.std.specs.Prelude.{◌≡◌, ◌≢◌, ℕ, Bool, false, ◌==◌, if◌then◌else◌, List, [], filter, All}
+use Rattle.std.specs.Prelude.{◌≡◌, ◌≢◌, ℕ, Bool, true, false, ◌==◌, if◌then◌else◌, List, [], ◌∷◌, filter, All}
 use Rattle.std.specs.List.{join_with_byte}
 use Rattle.fics_words.specs.Pieces.{is_kept, pieces, but_last, last_of}
 
@@ -10,6 +10,11 @@ HasNoLineFeed part = All (λ c. (c == 10) ≡ false) part
 -- the lines of a text that has come to its end: the piece behind the last line feed is a line too
 abbrev pub lines_of : List ℕ → List (List ℕ)
 lines_of text = pieces (filter is_kept text)
+
+-- a line that isn't empty
+abbrev pub is_written : List ℕ → Bool
+is_written [] = false
+is_written (byte ∷ bytes) = true
 
 -- what stands behind the last line feed
 abbrev pub last_line : List ℕ → List ℕ

@@ -6,6 +6,7 @@ use Rattle.fics_words.specs.Line.{IsLine}
 use Rattle.histories.specs.History.{Legal}
 use Rattle.histories.proofs.Histories.{legal_back}
 use Rattle.cmd_lines.specs.Handling.{AfterAnswering, IsOutsideAt, Takes}
+use Rattle.cmd_lines.specs.Lines.{is_written}
 use Rattle.one_server.specs.declared.part.Part.{Part}
 use Rattle.one_server.specs.House.{house}
 use Rattle.one_server.specs.Running.{Log}
@@ -17,7 +18,7 @@ use Rattle.replay_core.specs.Order.{Arrival, MayCome, left_of}
 use Rattle.replay_core.specs.Attendance.{IsAfter}
 use Rattle.replay_core.specs.SeatLine.{IsSeatLine, players_of, seat_text}
 use Rattle.session_core.specs.Memory.{MemoryState, newcomer}
-use Rattle.cmd_replay.specs.Evening.{EveningState, Does, HasDone, HasMade, AfterLeaving, AreMemories, IsClosed, IsNext, IsNoNext, IsOrdered, KeepsOrder, LeaveInOrder, MayFollow, Reached, Row, Seats, Comes, arrivals_of, history_of, is_written, final_moment, left_by, line_of, opening_parts, parts_after, quit_of, remembered, seated_by, seated_from, seating_acts}
+use Rattle.cmd_replay.specs.Evening.{EveningState, Does, HasDone, HasMade, AfterLeaving, AreMemories, IsClosed, IsNext, IsNoNext, IsOrdered, KeepsOrder, LeaveInOrder, MayFollow, Reached, Row, Seats, Comes, arrivals_of, history_of, final_moment, left_by, line_of, opening_parts, parts_after, quit_of, remembered, seated_by, seated_from, seating_acts}
 use Rattle.cmd_replay.specs.EveningLinesProof.{no_snoc, none_has, one_line_more}
 use Rattle.cmd_replay.specs.EveningsProof.{came-append, seated-push}
 use Rattle.cmd_replay.proofs.Memories.{one_memory, seated_memories, new_memories}

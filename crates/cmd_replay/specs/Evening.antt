@@ -1,5 +1,5 @@
 -- An evening: the lines of a script, each with what it made of the server and what it wrote. This server's own.
-use Rattle.std.specs.Prelude.{◌≡◌, ◌≢◌, ℕ, ◌+◌, ◌-◌, ◌==◌, ◌≤◌, Bool, true, false, if◌then◌else◌}
+use Rattle.std.specs.Prelude.{◌≡◌, ◌≢◌, ℕ, ◌+◌, ◌-◌, ◌==◌, ◌≤◌, Bool, false, if◌then◌else◌}
 use Rattle.std.specs.Prelude.{List, [], ◌∷◌, ◌++◌, map, filter, fold, length, Option, None, Some, slice_get, slice_set}
 use Rattle.std.specs.List.{range_with_len}
 use Rattle.std.specs.Option.{option_map_or}
@@ -36,6 +36,7 @@ use Rattle.session_core.specs.Going.{departing}
 use Rattle.session_core.specs.Inputs.{answer_text, input_course}
 use Rattle.session_core.specs.Memory.{MemoryState, is_gone, newcomer, seated}
 use Rattle.session_core.specs.Texts.{opening_text}
+use Rattle.cmd_lines.specs.Lines.{is_written}
 use Rattle.cmd_replay.specs.Tagged.{tagged}
 
 -- ---- what an event does
@@ -216,11 +217,6 @@ FollowInOrder before (row ∷ later) = MayFollow before row × FollowInOrder (be
 -- the rows of an evening up to here
 abbrev pub IsEvening : List Row → Type 0
 IsEvening rows = FollowInOrder [] rows
-
--- a line that isn't empty
-abbrev pub is_written : List ℕ → Bool
-is_written [] = false
-is_written (byte ∷ bytes) = true
 
 -- ---- the end
 

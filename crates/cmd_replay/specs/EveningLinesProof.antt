@@ -9,8 +9,9 @@ use Rattle.replay_core.specs.declared.order.Attendance.{Attendance}
 use Rattle.replay_core.specs.Order.{Arrival}
 use Rattle.replay_core.specs.Attendance.{IsAfter, presence_of}
 use Rattle.session_core.specs.Memory.{MemoryState, newcomer}
-use Rattle.cmd_replay.specs.Evening.{Row, Seats, Comes, AreMemories, EveningState, IsOrdered, Reached, IsEvening, MayFollow, is_written, line_of, entries_of, text_of_row, history_of, transcript_of, arrivals_of, final_moment, opening_parts, remembered, seated_by}
+use Rattle.cmd_replay.specs.Evening.{Row, Seats, Comes, AreMemories, EveningState, IsOrdered, Reached, IsEvening, MayFollow, line_of, entries_of, text_of_row, history_of, transcript_of, arrivals_of, final_moment, opening_parts, remembered, seated_by}
 use Rattle.cmd_lines.specs.Handling.{AreLines, IsOutside}
+use Rattle.cmd_lines.specs.Lines.{is_written}
 use Rattle.cmd_replay.specs.EveningsProof.{evening_step, history-push, transcript-push, lines-append, one_evening}
 
 -- ---- what is kept of the order of some lines

@@ -6,9 +6,9 @@ use Rattle.edge_traits.specs.Source.{most_reads}
 use Rattle.one_server.specs.House.{house}
 use Rattle.one_server.specs.Running.{Log}
 use Rattle.cmd_lines.specs.Ends.{HasRead}
-use Rattle.cmd_replay.specs.Evening.{Row, Reached, IsEvening, LeaveInOrder, is_written, line_of, history_of, transcript_of, arrivals_of, final_moment, left_by, opening_parts, remembered}
+use Rattle.cmd_replay.specs.Evening.{Row, Reached, IsEvening, LeaveInOrder, line_of, history_of, transcript_of, arrivals_of, final_moment, left_by, opening_parts, remembered}
 use Rattle.cmd_lines.specs.HandlerEnds.{ArePartAnswered, AreStopped}
-use Rattle.cmd_lines.specs.Lines.{lines_come}
+use Rattle.cmd_lines.specs.Lines.{is_written, lines_come}
 use Rattle.cmd_lines.specs.declared.end.End.{End}
 use Rattle.cmd_lines.specs.declared.end.End.TheVariants.{Done, ReadFault, WriteFault, Memory, BadLine, Spent}
 
