@@ -19,6 +19,7 @@ pub fn one_evening()
 {}
 
 /// The lines of an evening: an empty line changes nothing, and a prefix of an evening is an evening.
+#[tactic(auto, using(crate::specs::EveningLinesProof::reached_lines))]
 pub fn lines_of_evenings()
     ensures { AreLines Reached }
 {}
