@@ -47,6 +47,7 @@ impl Feeder for Tidier {
 }
 
 /// Reads the source to its end, and writes the exports of the games of its bytes: one write a read.
+#[tactic(auto, using(crate::proofs::Steps::cut_at_once))]
 pub fn tidy<S: Source, K: Sink>(alloc: Global, source: &mut S, sink: &mut K) -> End
     ensures ends { TidyEnds (S.left source.old) (S.left source.new) (K.written sink.old) (K.written sink.new) result }
     ensures read_cause { OnReadFault result (Rose (S.faults source.old) (S.faults source.new)) }
