@@ -55,6 +55,7 @@ fn read_result(rest: &[u8]) -> Option<TourneyLine>
 }
 
 /// The handle that the bytes spell.
+#[tactic(auto, using(fics_words::proofs::HandleTests::handle_is))]
 fn read_handle(bytes: &[u8]) -> Option<Handle>
     ensures { result ≡ handle_of bytes.now }
 {
