@@ -40,6 +40,7 @@ pub enum RunCommand {
 }
 
 /// Reads the words. Those of a job that isn't done here are `Usage` too.
+#[tactic(auto, using(crate::proofs::Named::on_fail))]
 pub(crate) fn read_command(alloc: Global, words: &[String]) -> Result<RunCommand, JobFail>
     ensures command { IfOk result (Names words.now) }
     ensures within { IfOk result IsWithin }
