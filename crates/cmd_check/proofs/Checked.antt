@@ -1,13 +1,13 @@
 -- How a check ends, by whether its store could be opened.
 use Rattle.std.proofs.Common.{◌≡◌, ℕ, List, [], length, Option, None, Some, refl, sym, subst, inl, inr}
-use Rattle.std.specs.Prelude.{IfSome, take}
+use Rattle.std.specs.Prelude.{IfSome}
 use Rattle.std.specs.FinMap as map
 use Rattle.std.specs.Io.KnownBytes.{Appends}
 use Rattle.std.proofs.KnownBytes.{Appends-trans}
 use Rattle.edge_traits.specs.Pairs.{Records}
-use Rattle.edge_traits.specs.Sink.{AppendsFront}
 use Rattle.cmd_lines.specs.declared.end.End.{End}
 use Rattle.cmd_lines.specs.declared.end.End.TheVariants.{Done, ReadFault, WriteFault, Memory, BadLine, Spent}
+use Rattle.cmd_lines.proofs.Sending.{AppendsFront-behind}
 use Rattle.lobby_load.specs.BadRows.{IsAccount, IsGame, IsGoodStore}
 use Rattle.lobby_load.specs.Loaded.{HasCount, HasSizes}
 use Rattle.lobby_state.specs.Lobby.{LobbyState}
@@ -25,10 +25,6 @@ counted (Some told) lobby accounts games good sized a g = (
   subst (λ (n : ℕ). HasCount IsGame n (map.entries told)) (sym g) sized.games,
 )
 
--- a beginning that was written behind nothing
-front_behind : (a b c : Option (List ℕ)) (line : List ℕ) → Appends a b [] → AppendsFront b c line → AppendsFront a c line
-front_behind a b c line nothing front = (front.0, Appends-trans a b c [] (take front.0 line) nothing front.1)
-
 -- the line of the counts was written, or a beginning of it
 pub told : (table : Option Records) (a b c : Option (List ℕ)) (accounts games : ℕ) (end : End) → AreCounts table accounts games → Appends a b []
     → WritesLine (check_line accounts games) b c end → CheckEnds table a c (Read end)
@@ -36,8 +32,8 @@ told table a b c accounts games Done counts nothing wrote =
     record { accounts = accounts; games = games; counts = counts; wrote = Appends-trans a b c [] (check_line accounts games) nothing wrote }
 told table a b c accounts games ReadFault counts nothing wrote = absurd wrote
 told table a b c accounts games WriteFault counts nothing wrote =
-    inr (check_line accounts games, inl (accounts, games, counts, refl), front_behind a b c (check_line accounts games) nothing wrote)
+    inr (check_line accounts games, inl (accounts, games, counts, refl), AppendsFront-behind a b c [] (check_line accounts games) nothing wrote)
 told table a b c accounts games Memory counts nothing wrote =
-    inr (check_line accounts games, inl (accounts, games, counts, refl), front_behind a b c (check_line accounts games) nothing wrote)
+    inr (check_line accounts games, inl (accounts, games, counts, refl), AppendsFront-behind a b c [] (check_line accounts games) nothing wrote)
 told table a b c accounts games BadLine counts nothing wrote = absurd wrote
 told table a b c accounts games Spent counts nothing wrote = absurd wrote

@@ -6,7 +6,7 @@ use Rattle.edge_traits.specs.Pairs.{Records}
 use Rattle.edge_traits.specs.Sink.{AppendsFront}
 use Rattle.cmd_lines.specs.declared.end.End.{End}
 use Rattle.cmd_lines.specs.declared.end.End.TheVariants.{Done, ReadFault, WriteFault, Memory, BadLine, Spent}
-use Rattle.lobby_load.specs.Telling.{IsFirstBad, bad_record_line}
+use Rattle.lobby_load.specs.Telling.{IsBadTold, IsFirstBad, bad_record_line}
 use Rattle.cmd_store.specs.declared.outcome.Outcome.{Outcome}
 use Rattle.cmd_store.specs.declared.outcome.Outcome.TheVariants.{Read, BadRecord, KeeperFault, NoGame}
 use Rattle.cmd_check.specs.Counts.{AreCounts, check_line}
@@ -26,12 +26,6 @@ pub record IsChecked (table : Option Records) (written written' : Option (List �
   pub games : ℕ
   pub counts : AreCounts table accounts games
   pub wrote : Appends written written' (check_line accounts games)
-
--- a record of the store is bad, and the line of the least bad key was written
-pub record IsBadTold (table : Option Records) (written written' : Option (List ℕ)) : Type 0 where
-  pub key : List ℕ
-  pub first : IsFirstBad table key
-  pub wrote : Appends written written' (bad_record_line key)
 
 -- what is written of the store: the line of its counts where it is good, and else that of its least bad key
 abbrev pub IsTextOf : Option Records → List ℕ → Type 0

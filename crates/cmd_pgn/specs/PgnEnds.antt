@@ -6,7 +6,7 @@ use Rattle.edge_traits.specs.Pairs.{Records}
 use Rattle.edge_traits.specs.Sink.{AppendsFront}
 use Rattle.lobby_shelf.specs.declared.shelved.Shelved.{Shelved}
 use Rattle.cmd_lines.specs.declared.end.End.TheVariants.{Done, WriteFault, Memory}
-use Rattle.lobby_load.specs.Telling.{IsFirstBad, WroteFront, bad_record_line}
+use Rattle.lobby_load.specs.Telling.{IsBadTold, WroteFront}
 use Rattle.cmd_store.specs.declared.outcome.Outcome.{Outcome}
 use Rattle.cmd_store.specs.declared.outcome.Outcome.TheVariants as outcome
 use Rattle.cmd_pgn.specs.Exports.{exports}
@@ -23,12 +23,6 @@ pub record AreBegun (table : Option Records) (old new : Option (List ℕ)) : Typ
   pub games : List Shelved
   pub stored : AreStoreGames table games
   pub text : AppendsFront old new (exports games)
-
--- the line was written that tells of the least bad key
-pub record IsBadTold (table : Option Records) (old new : Option (List ℕ)) : Type 0 where
-  pub key : List ℕ
-  pub bad : IsFirstBad table key
-  pub text : Appends old new (bad_record_line key)
 
 -- at its end exactly the exports of the store's chess games were written; at a fault of writing, and out of memory, a
 -- beginning of these, or of the line that tells of a bad record; at a bad record this line; and nothing else ends it

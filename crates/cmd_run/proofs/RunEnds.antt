@@ -218,7 +218,7 @@ is_complete-pgn table written written' Q R (Read Memory) good h q r no_write no_
 is_complete-pgn table written written' Q R (Read BadLine) good h q r no_write no_keeper = absurd h
 is_complete-pgn table written written' Q R (Read Spent) good h q r no_write no_keeper = absurd h
 is_complete-pgn None written written' Q R BadRecord good h q r no_write no_keeper = absurd good
-is_complete-pgn (Some told) written written' Q R BadRecord good h q r no_write no_keeper = absurd (good.none_bad h.key h.bad.bad)
+is_complete-pgn (Some told) written written' Q R BadRecord good h q r no_write no_keeper = absurd (good.none_bad h.key h.first.bad)
 is_complete-pgn table written written' Q R KeeperFault good h q r no_write no_keeper = absurd (no_keeper r)
 is_complete-pgn table written written' Q R NoGame good h q r no_write no_keeper = absurd h
 

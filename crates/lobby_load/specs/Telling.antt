@@ -21,6 +21,12 @@ IsFirstBad table key = IfSome table (λ told. IsLeastBad told key)
 abbrev pub WroteFront : Option Records → Option (List ℕ) → Option (List ℕ) → Type 0
 WroteFront table old new = (key : List ℕ) × IsFirstBad table key × AppendsFront old new (bad_record_line key)
 
+-- a record of the store is bad, and the line of the least bad key was written
+pub record IsBadTold (table : Option Records) (old new : Option (List ℕ)) : Type 0 where
+  pub key : List ℕ
+  pub first : IsFirstBad table key
+  pub wrote : Appends old new (bad_record_line key)
+
 -- what was written as a store was opened: nothing, unless a record is bad; the line of the least bad key; and a
 -- beginning of that line where the write failed or memory ran out at it
 abbrev pub Tells : {A : Type 0} → Option Records → Option (List ℕ) → Option (List ℕ) → Result A StoreFault
