@@ -3,3 +3,4 @@ pub mod KeyedRows
 pub mod Placed
 pub mod Firsts
 pub mod PutLast
+pub mod Sifting

@@ -1,9 +1,10 @@
 //! A list of rows that are found by a key.
-ghost use Rattle.std.specs.Prelude.{◌≡◌, ◌↔◌, ◌<◌, ◌≤◌, Some, slice_get, [], ◌∷◌, ◌++◌, length, not, IsTrue, true, IfOk, None, OnOk, OnErr, option_copied, option_map};
+ghost use Rattle.std.specs.Prelude.{◌≡◌, ◌↔◌, ◌<◌, ◌≤◌, Some, slice_get, [], ◌∷◌, ◌++◌, length, not, IsTrue, true, IfOk, None, OnOk, OnErr, option_copied, option_map, remove, drop};
 ghost use Rattle.std.specs.Borrow.{sem};
 ghost use Rattle.std.specs.Option.{option_copied_mut};
 ghost use Rattle.std.specs.List.{filter, find, insert, list_any, position};
 ghost use Rattle.tables.specs.Rows.{AreApart, change_first, has_key};
+ghost use Rattle.tables.specs.Sifting.{BeginPassing};
 
 use crate::keyed::{Keyed, Parted};
 use collections::{Change, Predicate};
@@ -12,6 +13,9 @@ use memory::NoMemory;
 use std::alloc::Global;
 use std::hash::Hash;
 use std::marker::Model;
+
+/// The most rows that are taken out one by one. Where more go, all that stay are put together anew.
+const FEW: usize = 4;
 
 /// Rows in an order, each found by its key. Contracts see the list of them.
 #[derive(Drop)]
@@ -170,8 +174,39 @@ impl<K: Eq + Hash + Copy + Drop, T: Keyed<K> + Drop> Table<K, T> {
         self.rows.shift_remove(&key)
     }
 
-    /// Keeps the rows that pass `test`, in their order.
+    /// Keeps the rows that pass `test`, in their order. Where few go, each row is tested once.
     pub fn retain<P: Predicate<T>>(&mut self, test: &P)
+        ensures { self.new ≡ filter (P.passes test.now) self.old }
+    {
+        self.sift(0, FEW, test);
+    }
+
+    // `retain`, where the rows before `place` pass. Up to `few` rows are taken out one by one.
+    fn sift<P: Predicate<T>>(&mut self, place: usize, few: usize, test: &P)
+        requires { BeginPassing (P.passes test.now) place self.old }
+        ensures { self.new ≡ filter (P.passes test.now) self.old }
+    {
+        let Some(ahead) = failing_ahead(self.as_slice(), place, test) else {
+            return;
+        };
+        if few == 0 {
+            self.retain_all(test);
+            return;
+        }
+        let next = place + ahead;
+        self.remove_at(next);
+        self.sift(next, few - 1, test);
+    }
+
+    // Takes out the row at `place`; the later ones move up.
+    fn remove_at(&mut self, place: usize)
+        ensures { self.new ≡ remove self.old place }
+    {
+        self.rows.shift_remove_index(place);
+    }
+
+    // `retain`, by putting together anew what stays.
+    fn retain_all<P: Predicate<T>>(&mut self, test: &P)
         ensures { self.new ≡ filter (P.passes test.now) self.old }
     {
         self.rows.retain(
@@ -199,4 +234,19 @@ impl<K: Eq + Hash + Copy + Drop, T: Keyed<K> + Drop> Table<K, T> {
             self.rows = IndexMap::new(*self.rows.allocator());
         }
     }
+}
+
+// How far behind `from` the first row is that fails `test`, or `None` where all from there on pass.
+fn failing_ahead<T, P: Predicate<T>>(rows: &[T], from: usize, test: &P) -> Option<usize>
+    requires { from ≤ length rows.now }
+    ensures { result ≡ position (λ row. not (P.passes test.now row)) (drop from rows.now) }
+{
+    first_failing(&rows[from..], test)
+}
+
+// The place of the first row that fails `test`, or `None` where all pass.
+fn first_failing<T, P: Predicate<T>>(rows: &[T], test: &P) -> Option<usize>
+    ensures { result ≡ position (λ row. not (P.passes test.now row)) rows.now }
+{
+    rows.iter().position(|row| !test.passes(row))
 }

@@ -2,7 +2,7 @@ use Rattle.std.proofs.Common.{sym, ap, ◌∙◌, rules}
 use Rattle.std.specs.List.{filter}
 use Rattle.indexmap.proofs.CallerLemmas.{filter-RetainsPairs}
 use Rattle.tables.proofs.KeyedRows.{are_keyed, are_rows, filter-keyed}
-use Rattle.tables.proofs.table.Table.retain.Goals as goal
+use Rattle.tables.proofs.table.Table.retain_all.Goals as goal
 
 pub invariant_of-self : goal.invariant_of-self
 invariant_of-self g c =

@@ -1,0 +1,4 @@
+use Rattle.tables.proofs.table.Table.+sift.Given as goal
+
+abbrev pub decreases-sift : goal.decreases-sift
+decreases-sift g l = l.few
