@@ -8,6 +8,7 @@ ghost use Rattle.serve_core.specs.StewardLaws.{MakesEachTurn, MakesStewardsActs,
 /// number with what it had to give, taken or left, was written the opening or counted a fault, and unless it counted
 /// one all that came over it, up to its end or up to an answered quit, was answered in full. So no link was hung up
 /// unserved, none was exchanged for another, and no line was dropped.
+#[tactic(auto, using(crate::proofs::Returning::each_comes_back))]
 pub fn each_link_comes_back_as_its_own()
     ensures { EachComesBack }
 {}
