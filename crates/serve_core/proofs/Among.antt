@@ -10,15 +10,6 @@ pub in_last : {T : Type 0} (x : T) (xs ys : List T) → In x (xs ++ x ∷ ys)
 in_last x [] ys = inl refl
 in_last x (z ∷ xs) ys = inr (in_last x xs ys)
 
-in_further : {T : Type 0} (x z : T) (xs ys : List T) → In x xs ⊎ In x ys → In x (z ∷ xs) ⊎ In x ys
-in_further x z xs ys (inl p) = inl (inr p)
-in_further x z xs ys (inr p) = inr p
-
-pub in_cases : {T : Type 0} (x : T) (xs ys : List T) → In x (xs ++ ys) → In x xs ⊎ In x ys
-in_cases x [] ys p = inr p
-in_cases x (z ∷ xs) ys (inl e) = inl (inl e)
-in_cases x (z ∷ xs) ys (inr p) = in_further x z xs ys (in_cases x xs ys p)
-
 pub in_map_left : {T : Type 0} (f : T → ℕ) (m : ℕ) (xs ys : List T) → In m (map f xs) → In m (map f (xs ++ ys))
 in_map_left f m [] ys p = absurd p
 in_map_left f m (z ∷ xs) ys (inl e) = inl e

@@ -26,10 +26,10 @@ use Rattle.serve_core.specs.Working.{Due, IsPaid}
 use Rattle.serve_core.specs.Keeping.{Comes, IsOwed, Underway, due_number, supply_after}
 use Rattle.serve_core.specs.Serving.{IsUnused}
 use Rattle.serve_core.specs.Sessions.{CameAs, CameBack, HadSession}
-use Rattle.serve_core.proofs.Among.{in_last, in_cases, in_map_left, in_map_last, in_rest, in_map_rest, one_less, one_longer}
+use Rattle.serve_core.proofs.Among.{in_last, in_map_left, in_map_last, in_rest, in_map_rest, one_less, one_longer}
 use Rattle.serve_core.proofs.Telling.{told_then, told_and, told_as, came_stays, came_new, came_back_stays, came_count, came_out, back_came, back_stays, back_new, back_count, back_out}
 use Rattle.serve_core.proofs.Turning.{turn_home, turn_number, turn_splits}
-use Rattle.turn_table.proofs.Among.{split_on}
+use Rattle.turn_table.proofs.Among.{in_append, split_on}
 
 -- ---- whether memory ran out
 
@@ -122,7 +122,7 @@ module _ {C : Type 0} (shows : C → ℕ → Bool) (hall : TableId) (clock : C) 
     kept_came = record {
       here = k.here;
       first = k.first;
-      owed = λ due p. owed_came due (in_cases due waiting (d ∷ []) p);
+      owed = λ due p. owed_came due (in_append due waiting (d ∷ []) p);
       served = λ j p. served_then (shows clock) j.number j.calls (supply ≡ Short) (supply ≡ Short) door door' (Comes d.link) goes (came_stays d.link) (came_back_stays d.link) (λ e. e) (k.served j p);
       numbers = λ m low high. split_on m (pass.splits + 1) (λ e. inr (number_new m e)) (λ n. numbers_came m (k.numbers m low (omega (arith, high, n))));
       came = told_then door door' (Comes d.link) (λ tale. length tale.came ≡ pass.splits) (λ tale. length tale.came ≡ pass.splits + 1) (came_count d.link pass.splits) goes k.came;
@@ -223,7 +223,7 @@ module _ {C : Type 0} (shows : C → ℕ → Bool) (hall : TableId) (clock : C) 
             here = ap (λ (p : PassState). p.home) joins.same ∙ k.here;
             first = ap (λ (p : PassState). p.number) joins.same ∙ k.first;
             owed = λ due p. owed_still due (k.owed due (in_rest due d one two p));
-            served = λ j p. served_still j (in_cases j pass.joined (record { number = given.number; calls = given.made } ∷ []) (subst (λ (xs : List (Joined Timed Reply)). In j xs) grown p));
+            served = λ j p. served_still j (in_append j pass.joined (record { number = given.number; calls = given.made } ∷ []) (subst (λ (xs : List (Joined Timed Reply)). In j xs) grown p));
             numbers = λ m low high. numbers_still m (k.numbers m low (omega (arith, high, splits)));
             came = told_then door door' (TakesBack given.number link) (λ tale. length tale.came ≡ pass.splits) (λ tale. length tale.came ≡ new.splits) (λ a b e n. back_count given.number link pass.splits a b e n ∙ sym splits) goes k.came;
             out = told_then door door' (TakesBack given.number link) (λ tale. length tale.back + length (one ++ d ∷ two) ≡ length tale.came) (λ tale. length tale.back + length (one ++ two) ≡ length tale.came)
