@@ -11,10 +11,8 @@ use Rattle.test_turn.specs.declared.bump.Bump.{Bump}
 use Rattle.test_turn.specs.declared.bump.Bump.TheVariants.{First, Both}
 use Rattle.test_turn.specs.Counters.{counters}
 use Rattle.test_turn.specs.Worked.{weigh, MadeMany}
+use Rattle.test_turn.proofs.SeenOnce.{W}
 use Rattle.test_turn.proofs.Weighing.{each, both, counts, sums, weigh_sessions}
-
-abbrev W : Type 0
-W = View ℕ Bump ℕ
 
 abbrev zeros : List ℕ
 zeros = 0 ∷ 0 ∷ []
