@@ -24,7 +24,7 @@ use Rattle.lobby_shelf.proofs.Meaning.{saved-first}
 use Rattle.lobby_shelf.proofs.Rising.{next_number-least}
 
 -- orders one after another
-table_with-append : (table : StoreMap) (first rest : List Order) → table_with table (first ++ rest) ≡ table_with (table_with table first) rest
+pub table_with-append : (table : StoreMap) (first rest : List Order) → table_with table (first ++ rest) ≡ table_with (table_with table first) rest
 table_with-append table [] rest = refl
 table_with-append table (order ∷ orders) rest = table_with-append (with_order table order) orders rest
 
@@ -163,7 +163,7 @@ twice table orders key = elim (once orders key) [
 ]
 
 -- tables that hold the same under a key still do after the same orders
-same_table : (one other : StoreMap) (orders : List Order) (key : List ℕ) → one key ≡ other key → table_with one orders key ≡ table_with other orders key
+pub same_table : (one other : StoreMap) (orders : List Order) (key : List ℕ) → one key ≡ other key → table_with one orders key ≡ table_with other orders key
 same_table one other [] key same = same
 same_table one other (order ∷ orders) key same =
     same_table (with_order one order) (with_order other order) orders key (ap (λ r. cond (bytes_eq order.key key) order.bytes r) same)

@@ -13,20 +13,10 @@ use Rattle.edge_traits.specs.Keeper.{HasPut, HasRemoved}
 use Rattle.edge_traits.specs.Pairs.{Records, keys_order}
 use Rattle.edge_traits.specs.declared.keeper.Kept.{Kept}
 use Rattle.edge_traits.specs.declared.keeper.Kept.TheVariants.{Done, Failed, Memory}
-use Rattle.lobby_shelf.specs.Wanted.{StoreMap, table_with, with_order}
+use Rattle.lobby_shelf.specs.Wanted.{StoreMap, table_with}
 use Rattle.lobby_shelf.specs.declared.order.Order.{Order}
+use Rattle.lobby_shelf.proofs.Leading.{same_table, table_with-append}
 use Rattle.lobby_store.specs.Carrying.{Carries, CarriesOne, held}
-
--- orders one after another
-pub table_with-append : (table : StoreMap) (first rest : List Order) → table_with table (first ++ rest) ≡ table_with (table_with table first) rest
-table_with-append table [] rest = refl
-table_with-append table (order ∷ orders) rest = table_with-append (with_order table order) orders rest
-
--- tables that hold the same under a key still do after the same orders
-pub same_table : (one other : StoreMap) (orders : List Order) (key : List ℕ) → one key ≡ other key → table_with one orders key ≡ table_with other orders key
-same_table one other [] key same = same
-same_table one other (order ∷ orders) key same =
-    same_table (with_order one order) (with_order other order) orders key (ap (λ r. cond (bytes_eq order.key key) order.bytes r) same)
 
 -- no orders, and more of them
 pub carries_none : (table : Option Records) → Carries table table []

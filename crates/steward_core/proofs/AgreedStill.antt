@@ -19,7 +19,7 @@ use Rattle.histories.proofs.Steps.{after_alone}
 use Rattle.lobby_state.specs.Lobby.{LobbyState}
 use Rattle.lobby_store.specs.Agreeing.{AgreesWith}
 use Rattle.lobby_store.specs.Carrying.{held}
-use Rattle.lobby_store.proofs.OrdersOut.{same_table, table_with-append}
+use Rattle.lobby_shelf.proofs.Leading.{same_table, table_with-append}
 use Rattle.one_server.specs.declared.act.Timed.{Timed}
 use Rattle.one_server.specs.declared.part.Part.{Part}
 use Rattle.one_server.specs.declared.part.Part.TheVariants.{Lobby as TheLobby}
