@@ -12,6 +12,7 @@ pub mod Closing
 pub mod Writing
 pub mod Opening
 pub mod ServeEnds
+pub mod Unopened
 pub mod Returning
 pub mod DesksOver
 pub mod GoodEnds

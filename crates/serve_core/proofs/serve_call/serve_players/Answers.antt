@@ -1,10 +1,11 @@
-use Rattle.std.proofs.Common.{inl, inr}
+use Rattle.std.proofs.Common.{inl, inr, ap}
 use Rattle.one_server.specs.Whole.{opened}
 use Rattle.serve_core.specs.Opening.{IsLoaded}
 use Rattle.serve_core.specs.Outside.{Sheet, Store}
 use Rattle.serve_core.specs.Text.{whole_text}
 use Rattle.serve_core.proofs.Opening.{appends_from, front_from, served_from, some_as, table_agrees}
 use Rattle.serve_core.proofs.ServeEnds.{told_from}
+use Rattle.serve_core.proofs.Unopened.{none_as, none_opened}
 use Rattle.serve_core.proofs.serve_call.serve_players.Goals as goal
 use Rattle.cmd_lines.proofs.Rounds.{Rose-since}
 
@@ -41,6 +42,18 @@ returns-in-Ok-clause-table g c =
     let none = c.in-Ok.ensures.tells in
     let loads : IsLoaded old.table lobby = record { opening = c.in-Ok.ensures.opening; spelled = c.in-Ok.ensures.spelled; holds = c.in-Ok.ensures.loaded; good = c.in-Ok.ensures.good } in
     some_as s.result.1 _ _ (λ h p. table_agrees (g.C.Clock.shows c.args.clock.now) lobby end door before later old new h.1 loads (served_from (g.C.Clock.shows c.args.clock.now) (opened lobby) end door before mid later old loaded new h.1 none c.in-Ok.ensures.write_calm store.unchanged store.keeper_counted p)) s.ensures.served
+
+pub returns-in-Ok-clause-no_hall : goal.returns-in-Ok-clause-no_hall
+returns-in-Ok-clause-no_hall g c =
+    let s = c.serve_lobby-end in
+    let before : Sheet = record { written = g.K.Sink.written c.args.sink.now; faults = g.K.Sink.faults c.args.sink.now } in
+    let mid : Sheet = record { written = g.K.Sink.written c.open_store.new.sink; faults = g.K.Sink.faults c.open_store.new.sink } in
+    let later : Sheet = record { written = g.K.Sink.written s.new.sink; faults = g.K.Sink.faults s.new.sink } in
+    let old : Store = record { table = g.P.Keeper.table c.args.keeper.now; faults = g.P.Keeper.faults c.args.keeper.now } in
+    let loaded : Store = record { table = g.P.Keeper.table c.open_store.new.keeper; faults = g.P.Keeper.faults c.open_store.new.keeper } in
+    let new : Store = record { table = g.P.Keeper.table s.new.keeper; faults = g.P.Keeper.faults s.new.keeper } in
+    none_opened s.result.1 s.result.0 c.status.result old loaded new before mid later c.status.ensures c.in-Ok.ensures.tells c.in-Ok.ensures.write_calm
+    c.open_store.ensures.unchanged s.ensures.no_hall (none_as s.result.1 (λ same. ap g.P.Keeper.table same) s.ensures.keeper_stays) s.ensures.write_told
 
 pub returns-in-Ok-clause-ends : goal.returns-in-Ok-clause-ends
 returns-in-Ok-clause-ends g c =
