@@ -15,7 +15,8 @@ is_other session channel row = not (row.who == session) && (row.channel == chann
 -- the rows from the first such row on
 abbrev pub from_next : ℕ → ℕ → List Membership → List Membership
 from_next session channel [] = []
-from_next session channel (row ∷ rows) = cond (is_other session channel row) (row ∷ rows) (from_next session channel rows)
+from_next session channel (row ∷ rows) =
+    cond (is_other session channel row) (row ∷ rows) (from_next session channel rows)
 
 -- the session is a member's for whom fewer than 512 lines wait
 abbrev pub has_room : ℕ → List Member → Bool
