@@ -16,17 +16,17 @@ pub struct Challenge {
 
 /// Who challenges whom.
 #[derive(Clone, Copy, PartialEq, Eq, Hash)]
-pub(crate) struct Pair {
+pub(crate) struct ChallengeKey {
     pub(crate) from: u32,
     pub(crate) to: u32,
 }
 
 /// A challenge is found by whose it is.
-impl Keyed<Pair> for Challenge {
+impl Keyed<ChallengeKey> for Challenge {
     ghost key_of = { λ challenge. record { from = challenge.from; to = challenge.to } };
 
-    fn key(&self) -> Pair {
-        Pair {
+    fn key(&self) -> ChallengeKey {
+        ChallengeKey {
             from: self.from,
             to: self.to,
         }

@@ -1,6 +1,6 @@
 //! The challenges that stand.
 
-use crate::challenge::{ByPlayer, Challenge, Pair, ToPlayer, WithoutPlayer};
+use crate::challenge::{ByPlayer, Challenge, ChallengeKey, ToPlayer, WithoutPlayer};
 use collections::{Predicate, find};
 use memory::NoMemory;
 use std::alloc::Global;
@@ -11,7 +11,7 @@ use tables::Table;
 /// player.
 #[derive(Drop)]
 pub struct MatchBook {
-    rows: Table<Pair, Challenge>,
+    rows: Table<ChallengeKey, Challenge>,
 }
 
 impl Model for MatchBook {
@@ -56,7 +56,7 @@ impl MatchBook {
         ensures { result ≡ challenge_to self.now from to }
     {
         match from {
-            Some(from) => self.rows.get(Pair { from, to }).copied(),
+            Some(from) => self.rows.get(ChallengeKey { from, to }).copied(),
             None => find(self.rows.as_slice(), &ToPlayer(to)).copied(),
         }
     }
@@ -73,7 +73,7 @@ impl MatchBook {
         ensures found { result ≡ list_any (is_between from to) self.old }
         ensures after { self.new ≡ without_between from to self.old }
     {
-        let removed = self.rows.remove(Pair { from, to });
+        let removed = self.rows.remove(ChallengeKey { from, to });
         self.rows.shrink();
         removed.is_some()
     }
