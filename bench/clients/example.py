@@ -14,7 +14,7 @@ import sys
 
 sys.dont_write_bytecode = True
 sys.path.insert(0, os.path.join(os.path.dirname(os.path.realpath(__file__)), "..", "..", "companions"))
-from ficslink import Ended, LinkError, Member, Refusal, Turn, lines  # noqa: E402
+from ficslink import Ended, LinkError, Member, RefusalError, Turn, lines  # noqa: E402
 
 SQUARES = [file + rank for rank in "87654321" for file in "abcdefgh"]
 TOO_MANY_MOVES = 12
@@ -43,7 +43,7 @@ async def step(member, game):
             await member.move(game, word)
             print(member.name, word, flush=True)
             return
-        except Refusal as why:
+        except RefusalError as why:
             if why.number == TOO_MANY_MOVES:  # 1,200 half-moves were played, and no more can be
                 await member.act(game, "resign")
 

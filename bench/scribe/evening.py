@@ -9,7 +9,7 @@ from collections.abc import Iterable
 from pathlib import Path
 from random import Random
 
-from ficslink.errors import Refusal
+from ficslink.errors import RefusalError
 from ficslink.link import Link
 from judge import Dark, Played
 from players import PATIENCE, Game, Manner, Player
@@ -168,7 +168,7 @@ class Evening:
         await until(are_seen)
         try:
             desks = {(it.game + 1) // 2 for it in (await self.looker.link.ask("games")).lines}
-        except Refusal as refusal:
+        except RefusalError as refusal:
             raise ValueError("no list of games") from refusal
         if len(desks) != BOARDS:
             self.faults.append(f"{len(desks)} boards at once")

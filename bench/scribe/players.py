@@ -6,7 +6,7 @@ from dataclasses import dataclass
 from random import Random
 
 from engine_bot.last_resort import tried
-from ficslink.errors import LinkError, Refusal
+from ficslink.errors import LinkError, RefusalError
 from ficslink.link import Link
 from ficslink.pace import Pace
 from moves import words
@@ -37,7 +37,7 @@ class Player:
             try:
                 answer = await self.link.ask(self.name)
                 break
-            except Refusal as refusal:
+            except RefusalError as refusal:
                 await self.link.close()
                 if refusal.number not in PASS_BY_WAITING:
                     raise
@@ -145,7 +145,7 @@ class Game:
                 await white.say(f"match {black.name} {self.terms} white")
                 await black.say(f"accept {white.name}")
                 break
-            except Refusal as refusal:
+            except RefusalError as refusal:
                 if refusal.number not in PASS_BY_WAITING:
                     raise
             await asyncio.sleep(AGAIN)
@@ -155,7 +155,7 @@ class Game:
         """Those on the same side, where they aren't partners yet: who has left has none any more."""
         (one, two), (three, four) = self.boards
         for it, other in ((one, four), (two, three)):
-            with suppress(Refusal):
+            with suppress(RefusalError):
                 await it.say(f"partner {other.name}")
                 await other.say(f"partner {it.name}")
 
@@ -191,7 +191,7 @@ class Game:
                 await mover.say(word, other.name)
                 self.made += 1
                 return True
-            except Refusal as refusal:
+            except RefusalError as refusal:
                 if refusal.number in GAME_IS_OVER:
                     await mover.say("")
                     return True
@@ -214,7 +214,7 @@ class Game:
 
     async def _say_to_opponent(self, player: Player, line: str) -> None:
         opponent = next(other for pair in self.boards for it, other in (pair, pair[::-1]) if it is player)
-        with suppress(Refusal):  # it is over already, as where the last half-move was mate
+        with suppress(RefusalError):  # it is over already, as where the last half-move was mate
             await player.say(line, opponent.name)
         await player.say("")
 
@@ -260,7 +260,7 @@ class Game:
                 await one.say(f"resume {other.name}")
                 await other.say(f"resume {one.name}")
                 break
-            except Refusal as refusal:
+            except RefusalError as refusal:
                 if refusal.number not in PASS_BY_WAITING:
                     raise
             await asyncio.sleep(AGAIN)
@@ -275,6 +275,6 @@ class Game:
             return
         caller = self.boards[0][latest.board.side == "W"]
         while not self.is_over:
-            with suppress(Refusal):
+            with suppress(RefusalError):
                 await caller.say("flag")
             await asyncio.sleep(0.5)

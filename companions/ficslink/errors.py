@@ -1,6 +1,6 @@
 """What goes wrong, each by a name of its own."""
 
-from .refusals import CAUSES
+from .refusals import Refusal
 
 
 class LinkError(Exception):
@@ -35,16 +35,15 @@ class PasswordWanted(LinkError):
     """The name has an account, and no password was given."""
 
 
-class Refusal(LinkError):
-    """The server refused a line: `number` and `name` as in its table, and the cause in words where it is known."""
+class RefusalError(LinkError):
+    """The server refused a line: `number` and `name` as in its table, `refusal` where it is one of those that are known."""
 
     def __init__(self, number: int, name: str) -> None:
         self.number, self.name = number, name
-        cause = self.cause
-        super().__init__(f"refused {number} {name}" + (f": {cause}" if cause else ""))
+        self.refusal = next((it for it in Refusal if (it.value, it.word) == (number, name)), None)
+        super().__init__(f"refused {number} {name}" + (f": {self.refusal.cause}" if self.refusal else ""))
 
     @property
     def cause(self) -> str:
         """The cause in words; nothing for a refusal that this library doesn't know."""
-        name, cause = CAUSES.get(self.number, ("", ""))
-        return cause if name == self.name else ""
+        return self.refusal.cause if self.refusal else ""

@@ -10,9 +10,8 @@ from string import Formatter
 
 from . import terms as spelled
 from .board import Board
-from .errors import Refusal
+from .errors import RefusalError
 from .line import Line, Listed, News, Reply, Unknown
-from .refusals import CAUSES
 from .terms import Terms
 
 _HANDLE = "[A-Za-z]{3,17}"
@@ -37,21 +36,21 @@ _NUMBERS = ("number", "game", "white_left", "black_left")
 
 @dataclass(frozen=True, slots=True)
 class Refused(Reply):
-    """The line was refused; `Refusal(number, name).cause` says why."""
+    """The line was refused; `RefusalError(number, name).cause` says why."""
 
     FORM = "refused {number} {name}"
     number: int
     name: str
 
     @property
-    def refusal(self) -> Refusal:
+    def refusal(self) -> RefusalError:
         """The refusal as an exception."""
-        return Refusal(self.number, self.name)
+        return RefusalError(self.number, self.name)
 
     @property
     def is_known(self) -> bool:
         """Whether number and name are of the table of refusals."""
-        return CAUSES.get(self.number, ("",))[0] == self.name
+        return self.refusal.refusal is not None
 
 
 @dataclass(frozen=True, slots=True)

@@ -124,7 +124,7 @@ class Link:
 
     async def ask(self, line: str) -> Answer:
         """Sends a line; its answer. Lines may be sent ahead: several tasks may ask at a time, and each is answered in
-        its turn. `Refusal` where the server refuses the line, `BadLine` where it can't be sent, `Closed` and `Silent`
+        its turn. `RefusalError` where the server refuses the line, `BadLine` where it can't be sent, `Closed` and `Silent`
         where no answer comes. The answer to `quit` is the farewell."""
         spelled = texts.checked(line)
         if not self.is_open:

@@ -10,18 +10,18 @@ from types import TracebackType
 from . import texts
 from .answer import Answer
 from .board import Board
-from .errors import BadLine, Closed, LinkError, NoGame, NoServer, PasswordWanted, Refusal
+from .errors import BadLine, Closed, LinkError, NoGame, NoServer, PasswordWanted, RefusalError
 from .events import Began, CameAgain, Ended, Event, LinkLost, Moved, Offered, Turn
 from .game import OWN, PARTNERS, WATCHED, Game, offer_of
 from .line import Line, Listed, News, Reply, Unknown
 from .lines import (Continuing, Creating, Entered, GameListed, GameOver, Goodbye, Hands, OfferDeclined, TakenBack)
 from .link import PATIENCE, Link
 from .pace import PACE, Pace
+from .refusals import WAITABLE
 from .stream import Stream
 from .terms import Terms
 
 GUEST = "guest"
-HANDLE_TAKEN, HALL_FULL = 24, 25  # refusals that pass by waiting
 SQUARE = "[a-h][1-8]"
 MOVE = re.compile(rf"{SQUARE}-?{SQUARE}(?:=?[qrbnQRBN])?|[PNBRQ]@{SQUARE}|[Oo0]-[Oo0](?:-[Oo0])?[+#]?"
                   rf"|[NBRQK][a-h]?[1-8]?x?{SQUARE}[+#]?|(?:[a-h]x)?{SQUARE}(?:=[qrbnQRBN])?[+#]?")
@@ -61,7 +61,7 @@ class Member:
                     stamped: bool = False, settings: Sequence[str] = (), pace: Pace = PACE,
                     longest_pause: float = 60.0, patience: float = PATIENCE) -> "Member":
         """Goes in under a name, or as a guest without one. `settings` are lines that are said behind each entrance, as
-        `set shout 0`. `NoServer` where there is none, `Refusal` 22 to 25 where the login is refused, `PasswordWanted`
+        `set shout 0`. `NoServer` where there is none, `RefusalError` 22 to 25 where the login is refused, `PasswordWanted`
         where the name has an account and no password is given."""
         member = cls(host, port, name, password, stamped=stamped, settings=settings, pace=pace,
                      longest_pause=longest_pause, patience=patience)
@@ -121,7 +121,7 @@ class Member:
                 self._at = None
 
     async def move(self, game: Game, word: str) -> Answer:
-        """Makes a half-move, in the server's spelling or in that of engines. `Refusal` where it isn't allowed,
+        """Makes a half-move, in the server's spelling or in that of engines. `RefusalError` where it isn't allowed,
         `BadLine` where the word is none of a move."""
         if not MOVE.fullmatch(word):
             raise BadLine(f"{texts.shown(word)!r} is no word of a move")
@@ -213,8 +213,8 @@ class Member:
             try:
                 await self._come()
                 return
-            except Refusal as refusal:
-                if refusal.number not in (HANDLE_TAKEN, HALL_FULL):
+            except RefusalError as refusal:
+                if refusal.refusal not in WAITABLE:
                     raise
                 why: LinkError = refusal
             except PasswordWanted:

@@ -1,0 +1,86 @@
+"""The archive below `/games/`: pages, which are one file of the page, what they ask for as JSON, and games as PGN."""
+
+import asyncio
+import json
+import logging
+from concurrent.futures import ThreadPoolExecutor
+from urllib.parse import urlencode
+
+from aiohttp import web
+from ficsd_companions.archive.addresses import LAST, PAGE, place_of
+from ficsd_companions.archive.answers import Archive
+
+BEGINNING = "/games"
+SHELL = "games.html"
+A_LIST = 16  # requests as which a list counts, for which perhaps all games are looked through
+MOST_ASKED = 100  # characters of each thing that an address asks for
+ASKED = ("name", "other", "variant", "result", "before", "white", "black", "half-moves")
+
+logger = logging.getLogger("fics_web")
+
+
+class Archived:
+    """Answers by a thread of its own, so that nobody's move waits while files are read."""
+
+    def __init__(self, folder, pages, take):
+        """`take(request, n)` counts a request as n more of its address: whether that has so many."""
+        self.archive, self.pages, self.take = Archive(folder), pages, take
+        self.thread = ThreadPoolExecutor(1, "archive")
+
+    def add_routes(self, router):
+        router.add_get(BEGINNING, self.lead)
+        router.add_get(BEGINNING + "/{path:.*}", self.serve)
+
+    async def begin(self):
+        """Reads the archive before anybody asks for it."""
+        try:
+            await self.ask(self.archive.index.refresh)
+        except Exception:  # the page is served all the same
+            logger.exception("fics_web: the archive couldn't be read")
+
+    def end(self):
+        self.thread.shutdown(wait=False, cancel_futures=True)
+
+    def ask(self, question, *words):
+        return asyncio.get_running_loop().run_in_executor(self.thread, question, *words)
+
+    async def lead(self, _request):
+        raise web.HTTPMovedPermanently(BEGINNING + "/")
+
+    async def serve(self, request):
+        """A page, with status 404 where it has nothing to show; 404 alone for what is no place of the archive."""
+        place = place_of(request.match_info["path"])
+        if not place:
+            raise web.HTTPNotFound
+        asked = {name: request.query.get(name, "")[:MOST_ASKED] for name in ASKED}
+        if place.kind == LAST:
+            raise web.HTTPFound(await self.ask(self.address_of_last, asked))
+        if place.form == PAGE:
+            is_there = place.kind == "found" or await self.ask(self.archive.has, place)
+            return self.pages.answer(request, SHELL, 200 if is_there else 404)
+        return await (self.pgn(place) if place.form == "pgn" else self.told(request, place, asked))
+
+    async def told(self, request, place, asked):
+        """What a page shows, as JSON."""
+        if place.kind != "game" and not self.take(request, A_LIST):
+            raise web.HTTPTooManyRequests(text="too many requests from this address")
+        told = await self.ask(self.archive.told, place, asked)
+        if told is None:
+            raise web.HTTPNotFound
+        return web.Response(text=json.dumps(told, separators=(",", ":")), content_type="application/json")
+
+    async def pgn(self, place):
+        """A game as a file to take along."""
+        text = await self.ask(self.archive.pgn, place)
+        if text is None:
+            raise web.HTTPNotFound
+        name = f"{place.day}-{place.number}.pgn"
+        return web.Response(body=text, headers={"Content-Type": "application/x-chess-pgn; charset=utf-8",
+                                                "Content-Disposition": f'attachment; filename="{name}"'})
+
+    def address_of_last(self, asked):
+        """Where the game is that two have just ended, or as long as it isn't written all of theirs."""
+        game = self.archive.last(asked["white"], asked["black"])
+        if game and (game.result, str(game.half_moves)) == (asked["result"], asked["half-moves"]):
+            return f"{BEGINNING}/{game.link}"
+        return f"{BEGINNING}/?" + urlencode({"name": asked["white"], "other": asked["black"]})

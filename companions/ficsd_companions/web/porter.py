@@ -1,0 +1,79 @@
+"""Who may come: so many connections, and so many places for links, for all together and for each address."""
+
+from ficsd_companions.limits import descriptors
+from ficsd_companions.limits.addresses import Addresses
+
+from . import closes
+
+PLACES = 256
+WAITING = 512  # connections that are no tabs
+REFUSED_REQUESTS = 32  # as which a tab counts that isn't let in
+SPARE = 48  # files for the program itself, and for connections that are being closed
+
+
+class Porter:
+    """Counts connections and places. A connection of a trusted proxy counts for no address, and a place for the one
+    that the proxy names."""
+
+    def __init__(self, proxies, most_from_one):
+        self.proxies, self.addresses = proxies, Addresses(most_from_one)
+        self.places = PLACES
+        self.waiting = {}  # the gates of connections that are no tabs, the oldest first
+        files = descriptors.most(2 * PLACES + WAITING + SPARE)
+        self.most_waiting = max(SPARE, files - 2 * PLACES - SPARE)
+
+    # ---- connections ----
+
+    def lets_in(self, gate):
+        """Whether a connection may come. Where too many wait that are no tabs, the one that waits longest goes."""
+        address = self.counted(gate)
+        if address and (address.has_many_connections or not address.requests.has_one):
+            return False
+        if len(self.waiting) >= self.most_waiting:
+            next(iter(self.waiting)).abort()
+        self.waiting[gate] = address
+        if address:
+            address.connections += 1
+        return True
+
+    def counted(self, gate):
+        """The address for which a connection counts."""
+        return None if self.proxies.trusts(gate.peer) else self.addresses.of(gate.peer)
+
+    def has_tab(self, gate):
+        """A connection has become a tab, or is gone."""
+        if gate in self.waiting:
+            address = self.waiting.pop(gate)
+            if address:
+                address.connections -= 1
+
+    lets_out = has_tab
+
+    def visitor(self, request, gate):
+        """The address of who asks."""
+        return self.addresses.of(self.proxies.visitor(gate.peer, request.headers))
+
+    # ---- places ----
+
+    def refusal(self, address):
+        """Why the address gets no place now; none where it does. Who isn't let in and comes again at once is soon let
+        in no door."""
+        why = self.why_not(address)
+        if why:
+            address.requests.take(REFUSED_REQUESTS)
+        return why
+
+    def why_not(self, address):
+        if not self.places:
+            return closes.FULL
+        if address.has_many_links:
+            return closes.MANY_TABS
+        return None if address.coming.take() else closes.TOO_OFTEN
+
+    def give(self, address):
+        self.places -= 1
+        address.links += 1
+
+    def take_back(self, address):
+        self.places += 1
+        address.links -= 1
