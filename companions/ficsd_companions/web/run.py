@@ -12,15 +12,12 @@ import os
 import re
 import sys
 
-from ficsd_companions.cli.program import BESIDE
+from ficsd_companions.cli.program import PAGE
 
 try:
     from . import hall
 except ModuleNotFoundError as missing:
     sys.exit(f"fics_web: {missing}; Debian's package python3-aiohttp has it")
-
-
-PAGE = BESIDE / "page"
 
 
 def port(word):
