@@ -1,4 +1,4 @@
-"""Tests of fics_accounts, over stores that the server's program makes and takes, and over such as bench/store spells
+"""Tests of fics_accounts, over stores that the server's program makes and takes, and over such as the kit spells
 byte by byte. They are no part of the gate.
 
 usage: test_fics_accounts [--program FILE] [CLASS or CLASS.TEST ...]; FILE is a built ficsd, where it isn't the one that

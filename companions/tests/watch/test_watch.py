@@ -1,5 +1,5 @@
 """Tests of fics_watch, and of stop_server, by which a unit ends a server, over the server's program and over stores
-that bench/store spells byte by byte. They are no part of the gate.
+that the kit spells byte by byte. They are no part of the gate.
 
 usage: test_fics_watch [--program FILE] [CLASS or CLASS.TEST ...]; FILE is a built ficsd, where it isn't the one that
 `./ficsd` builds. It wants Debian's strace, by which a disk is slow. Ends with 0 where all of the tests hold.
@@ -39,7 +39,7 @@ def run(name, *words, ahead=(), **more):
 
 
 class Served(unittest.TestCase):
-    """A server over a store with accounts of whoever plays, whose password is that of bench/store."""
+    """A server over a store with accounts of whoever plays, whose password is that of the kit's records."""
 
     def setUp(self):
         folder = tempfile.TemporaryDirectory(ignore_cleanup_errors=True)

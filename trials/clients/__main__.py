@@ -1,4 +1,3 @@
-#!/usr/bin/env python3
 """Tries the go-between before the built program with what graphical clients do, as far as no person is needed, and the
 example of a client at the program itself.
 
@@ -9,7 +8,6 @@ example of a client at the program itself.
 - A bot: xboard's zippy with fairymax, in a window that nobody sees, plays ten games against a player of random moves.
 - The end: the server is ended, and the go-between has to end by itself.
 
-usage: try_clients.py [--program FILE] [--pairs N] [--games N] [--without-windows]; 60 pairs and 10 games without them.
 Ends with 0 only where nothing was lost. It isn't part of the gate.
 """
 
@@ -23,16 +21,18 @@ import sys
 import tempfile
 import threading
 import time
+from pathlib import Path
 
-HERE = os.path.dirname(os.path.abspath(__file__))
-sys.path[:0] = [HERE, os.path.join(HERE, "..", "serve"), os.path.join(HERE, "..")]
-sys.dont_write_bytecode = True
-from link import Link, free_port, started  # noqa: E402
-from measure import program_of  # noqa: E402
-from pairs import tries  # noqa: E402
+from ficslink import Refusal
+from tests.kit import paths
+from tests.kit.link import Link
+from tests.kit.ports import free_port
+from tests.kit.running import Run, Server
+from trials.squares import tries
 
-FACE = os.path.join(HERE, "..", "..", "companions", "fics_face")
-EXAMPLE = os.path.join(HERE, "example.py")
+EXAMPLE = [sys.executable, "-m", "trials.clients.example"]
+# of a word of a move that the server doesn't take
+OF_MOVES = {Refusal.AMBIGUOUS, Refusal.LEAVES_KING, Refusal.CASTLE_FORBIDDEN, Refusal.CANNOT_REACH}
 HALF_MOVES = 40
 GAME_SECONDS = 600
 END = r"^\{Game \d+ \(\w+ vs\. \w+\) .+\} (1-0|0-1|1/2-1/2|\*)"
@@ -40,21 +40,44 @@ BOARD = r"^<12> "
 GAMES_PATH = os.environ.get("PATH", "") + ":/usr/games"
 # what a client sends behind its login, and the line for which it waits
 EBOARD = (
-    ("set interface eboard 1.1.3/Linux", r"^interface set"), ("iset startpos 1", r"^startpos set\."),
-    ("iset defprompt 1", r"^defprompt set\."), ("iset ms 1", r"^ms set\."), ("iset premove 1", r"^premove set\."),
-    ("iset seekinfo 1", r"^<sc>"), ("iset seekremove 1", r"^seekremove set\."), ("iset lock 1", r"^lock set\."),
-    ("style 12", r"^Style 12 set\."), ("games", r"\d+ games displayed\."), ("sough", r"\d+ ads? displayed\."),
-    ("finger", r"^Finger of "), ("history", r"has no history games\."), ("allob 1", r"."), ("var", r"="),
+    ("set interface eboard 1.1.3/Linux", r"^interface set"),
+    ("iset startpos 1", r"^startpos set\."),
+    ("iset defprompt 1", r"^defprompt set\."),
+    ("iset ms 1", r"^ms set\."),
+    ("iset premove 1", r"^premove set\."),
+    ("iset seekinfo 1", r"^<sc>"),
+    ("iset seekremove 1", r"^seekremove set\."),
+    ("iset lock 1", r"^lock set\."),
+    ("style 12", r"^Style 12 set\."),
+    ("games", r"\d+ games displayed\."),
+    ("sough", r"\d+ ads? displayed\."),
+    ("finger", r"^Finger of "),
+    ("history", r"has no history games\."),
+    ("allob 1", r"."),
+    ("var", r"="),
 )
 PYCHESS = (
-    ("iset block 1", r"^block set\."), ("2 iset defprompt 1", r"defprompt set\."), ("3 iset ms 1", r"ms set\."),
-    ("4 set interface PyChess 1.0.3", r"interface set"), ("5 showlist", "Lists:"), ("6 iset seekinfo 1", r"<sc>"),
-    ("7 iset pendinfo 1", r"pendinfo set\."), ("8 stored", r"has no adjourned games\."),
-    ("9 history", r"has no history games\."), ("10 journal", r"has no journal entries\."), ("11 news", r"news items"),
-    ("12 help channel_list", "channels only for their designated topics"), ("13 who IbslwBzSLx", "layers displayed"),
-    ("14 games /bslwBzSLx", r"games displayed\."), ("15 date", r"^GMT"), ("16 follow", r"not following"),
-    ("17 showlist censor", r"-- censor list: 0 \w+ --"), ("18 primary", r"."), ("19 seek 5 0 u  m 0-9999", r"index \d"),
-    ("20 iset seekremove 1", r"seekremove set\."), ("21 unseek", r"<sr> \d"),
+    ("iset block 1", r"^block set\."),
+    ("2 iset defprompt 1", r"defprompt set\."),
+    ("3 iset ms 1", r"ms set\."),
+    ("4 set interface PyChess 1.0.3", r"interface set"),
+    ("5 showlist", "Lists:"),
+    ("6 iset seekinfo 1", r"<sc>"),
+    ("7 iset pendinfo 1", r"pendinfo set\."),
+    ("8 stored", r"has no adjourned games\."),
+    ("9 history", r"has no history games\."),
+    ("10 journal", r"has no journal entries\."),
+    ("11 news", r"news items"),
+    ("12 help channel_list", "channels only for their designated topics"),
+    ("13 who IbslwBzSLx", "layers displayed"),
+    ("14 games /bslwBzSLx", r"games displayed\."),
+    ("15 date", r"^GMT"),
+    ("16 follow", r"not following"),
+    ("17 showlist censor", r"-- censor list: 0 \w+ --"),
+    ("18 primary", r"."),
+    ("19 seek 5 0 u  m 0-9999", r"index \d"),
+    ("20 iset seekremove 1", r"seekremove set\."),
+    ("21 unseek", r"<sr> \d"),
 )
 
 
@@ -140,14 +163,15 @@ class Pair(threading.Thread):
             if match[0] == "<12> ":
                 player.say("")  # an end of the game comes with the board or not at all
                 player.until_prompt("fics% ")
-                return next((it for it in player.lines[player.read - 1:] if re.match(END, it)), None)
+                return next((it for it in player.lines[player.read - 1 :] if re.match(END, it)), None)
         raise ValueError("no move is allowed, and the game isn't over")
 
     def count(self, names, players):
         """What each player should have been sent, and was not, or twice."""
         for n, player in enumerate(players):
-            plies = [2 * (int(it.split()[26]) - 1) + (it.split()[9] == "B")
-                     for it in player.lines if it.startswith("<12>")]
+            plies = [
+                2 * (int(it.split()[26]) - 1) + (it.split()[9] == "B") for it in player.lines if it.startswith("<12>")
+            ]
             if plies != list(range(self.half_moves + 1)):
                 self.wrong.append(f"pair {self.n}: {names[n]} saw the half-moves {plies}")
             told = [it for it in player.lines if "tells you: " in it]
@@ -175,7 +199,7 @@ def try_example(port):
     for games in ([[port]], [[port, "Exbert"], [port, "Exanna", "Exbert"]]):
         playing = []
         for words in games:
-            playing.append(subprocess.Popen([EXAMPLE, *words], stdout=subprocess.PIPE, text=True))
+            playing.append(subprocess.Popen([*EXAMPLE, *words], stdout=subprocess.PIPE, text=True))
             time.sleep(2)  # who is challenged has to be in
         for it in playing:
             try:
@@ -205,17 +229,17 @@ def play_bot(link, name):
     start_bot(link, name)
     words, board = [], None
     while True:
-        match = link.until(r"^<12> |^refused \d+|" + END, GAME_SECONDS)
+        match = link.until(r"^<12> |^refused (?P<number>\d+)|" + END, GAME_SECONDS)
         if match[0].startswith("{"):
             return match.string
         if match[0] == "<12> ":
             link.until_prompt("fics% ")
-            if any(re.match(END, it) for it in link.lines[link.read:]):
+            if any(re.match(END, it) for it in link.lines[link.read :]):
                 continue
             board = match.string.split()
             words = tries(match.string)
             random.shuffle(words)
-        elif match[0] not in ("refused 1", "refused 2", "refused 3", "refused 9"):
+        elif int(match["number"]) not in OF_MOVES:
             return match.string
         if board and board[19] == "1" and words:
             link.say(words.pop())
@@ -224,17 +248,37 @@ def play_bot(link, name):
 def try_bot(server_port, face_port, games, folder):
     """Lets zippy play; the games that didn't end on the board."""
     display_read, display_write = os.pipe()
-    window = subprocess.Popen(["Xvfb", "-displayfd", str(display_write), "-screen", "0", "800x600x24"],
-                              pass_fds=[display_write], stderr=subprocess.DEVNULL)
+    window = subprocess.Popen(
+        ["Xvfb", "-displayfd", str(display_write), "-screen", "0", "800x600x24"],
+        pass_fds=[display_write],
+        stderr=subprocess.DEVNULL,
+    )
     display = ":" + os.read(display_read, 20).decode().strip()
     start = os.path.join(folder, "zippy.ini")
     with open(start, "w", encoding="ascii") as file:
         file.write("Zippy\n\n")
     bot = subprocess.Popen(
-        ["xboard", "-zp", "-ics", "-icshost", "localhost", "-icsport", str(face_port), "-icslogon", start,
-         "-fcp", shutil.which("fairymax", path=GAMES_PATH), "-autoflag", "-xponder"],
+        [
+            "xboard",
+            "-zp",
+            "-ics",
+            "-icshost",
+            "localhost",
+            "-icsport",
+            str(face_port),
+            "-icslogon",
+            start,
+            "-fcp",
+            shutil.which("fairymax", path=GAMES_PATH),
+            "-autoflag",
+            "-xponder",
+        ],
         env={**os.environ, "DISPLAY": display, "HOME": folder, "PATH": GAMES_PATH},
-        stdin=subprocess.PIPE, stdout=subprocess.DEVNULL, stderr=subprocess.DEVNULL, cwd=folder)
+        stdin=subprocess.PIPE,
+        stdout=subprocess.DEVNULL,
+        stderr=subprocess.DEVNULL,
+        cwd=folder,
+    )
     wrong = []
     try:
         link = Link(server_port)
@@ -245,7 +289,7 @@ def try_bot(server_port, face_port, games, folder):
             if link.until(r"^(Zippy|Random)$", 30)[0] == "Random":
                 # the names come in the order of the letters, so Zippy would stand behind
                 link.say("tell Zippy hello")
-                if link.until(r"^\(told|^refused 32")[0] == "(told":
+                if link.until(rf"^\(told|^refused {Refusal.NO_SUCH_PLAYER:d} ")[0] == "(told":
                     break
         for n in range(games):
             end = play_bot(link, "Zippy")
@@ -265,38 +309,40 @@ def try_bot(server_port, face_port, games, folder):
 
 
 def main():
-    words = argparse.ArgumentParser(description=__doc__.split("\n\n")[0])
-    words.add_argument("--program", help="the built program; without it the one that ./ficsd has built")
-    words.add_argument("--pairs", type=int, default=60)
-    words.add_argument("--games", type=int, default=10)
+    words = argparse.ArgumentParser(prog="trial clients", description=__doc__.split("\n\n")[0])
+    words.add_argument("--program", type=Path, default=paths.program, metavar="FILE", help="the server's program")
+    words.add_argument("--pairs", type=int, default=60, metavar="N", help="%(default)s without it")
+    words.add_argument("--games", type=int, default=10, metavar="N", help="of the bot, %(default)s without it")
     words.add_argument("--without-windows", action="store_true", help="leave xboard out")
     chosen = words.parse_args()
-    needed = [] if chosen.without_windows else [
-        it for it in ("xboard", "Xvfb", "fairymax") if not shutil.which(it, path=GAMES_PATH)]
+    needed = (
+        []
+        if chosen.without_windows
+        else [it for it in ("xboard", "Xvfb", "fairymax") if not shutil.which(it, path=GAMES_PATH)]
+    )
     if needed:
         raise SystemExit(f"{', '.join(needed)} isn't installed; --without-windows leaves the bot out")
-    program = program_of(["", chosen.program] if chosen.program else [""])
-    server_port, face_port = free_port(), free_port()
-    server = started([program, "serve", "--port", str(server_port)])
-    face = started([FACE, "--server", f"127.0.0.1:{server_port}", "--listen", str(face_port)])
+    paths.program = chosen.program.resolve()
+    server, face_port = Server(), free_port()
+    face = Run(paths.companion("fics_face"), "--server", server.address, "--listen", face_port)
+    face.begin()
     try:
         wrong = try_forms(face_port)
         print(f"forms: {len(EBOARD) + len(PYCHESS)} lines of clients")
         wrong += try_crowd(face_port, chosen.pairs)
-        wrong += try_example(server_port)
+        wrong += try_example(server.port)
         if not chosen.without_windows:
             with tempfile.TemporaryDirectory() as folder:
-                wrong += try_bot(server_port, face_port, chosen.games, folder)
+                wrong += try_bot(server.port, face_port, chosen.games, folder)
     finally:
         server.terminate()
-        server.wait()
     try:
-        status = face.wait(30)
-        if status or face.stdout.read() != "closed\n":
+        status = face.rest()
+        if status or face.out[-1:] != ["closed"]:
             wrong.append(f"end: the go-between ended with {status}")
     except subprocess.TimeoutExpired:
         wrong.append("end: the go-between didn't end")
-        face.kill()
+        face.end()
     print("\n".join(wrong) or "nothing was lost")
     return 1 if wrong else 0
 

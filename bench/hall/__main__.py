@@ -1,19 +1,15 @@
-#!/usr/bin/env python3
 """Acts answered a second over the server of one thread and over the hall, and what a member does in a full hall, by
-`pace_hall`.
-
-Usage: bench.py [PROGRAM]
-"""
+`pace_hall`."""
 
 import os
 import subprocess
 import sys
 import time
+from collections.abc import Iterator
 
-sys.path.insert(0, os.path.join(os.path.dirname(os.path.abspath(__file__)), ".."))
-from measure import TOP, machine
+from bench.measure import machine, program_for
 
-PROGRAM = os.path.join(TOP, "crates", "pace_hall", "out", "pace_hall")
+Run = tuple[float, float, int]  # its seconds, those of processors, and the acts that it says it made
 THREADS = [1, 2, 4, 8]
 LOOK_ROUNDS = 50_000
 MOVE_ROUNDS = 600
@@ -22,7 +18,7 @@ DEEDS = {"enter": 2_000, "match": 2_000, "start": 2_000, "post": 2_000, "partner
 RUNS = 5
 
 
-def run(program, words):
+def run(program: str, words: list[object]) -> Run:
     """Runs the program once on these words: the seconds, the processor seconds, and the acts that it says it made."""
     start = time.perf_counter()
     process = subprocess.Popen([program, *map(str, words)], stdout=subprocess.PIPE, text=True)
@@ -34,20 +30,20 @@ def run(program, words):
     return seconds, used.ru_utime + used.ru_stime, int(said.split()[0])
 
 
-def least(program, words):
+def least(program: str, words: list[object]) -> Run:
     """The least seconds and the least processor seconds of some runs on these words, and the acts that are made."""
     runs = [run(program, words) for _ in range(RUNS)]
     return min(row[0] for row in runs), min(row[1] for row in runs), runs[0][2]
 
 
-def pace(program, place, what, threads, tables, rounds):
+def pace(program: str, place: str, what: str, threads: int, tables: int, rounds: int) -> tuple[int, float, float]:
     """The acts of a job, and the seconds and processor seconds that they take beyond the seating and the start."""
     start, idle, _ = least(program, [place, what, threads, tables, 0])
     whole, busy, acts = least(program, [place, what, threads, tables, rounds])
     return acts, whole - start, busy - idle
 
 
-def cases():
+def cases() -> Iterator[tuple[str, str, str, int, int, int]]:
     """Each case: its name, the place, what is done, the threads, the tables of each, and the rounds at each."""
     yield "looks: one server", "server", "looks", 1, 1, LOOK_ROUNDS
     for threads in THREADS:
@@ -59,7 +55,7 @@ def cases():
         yield f"moves: hall, {threads} apart", "apart", "moves", threads, 128 // threads, MOVE_ROUNDS
 
 
-def full_hall(program):
+def full_hall(program: str) -> None:
     """Prints what each deed takes in a full hall, beyond what it takes to fill the hall."""
     print(f"{'in a full hall':<28}{'rounds':>10}{'us of processor a round':>26}")
     _, filled, _ = least(program, ["full", "enter", 0])
@@ -68,13 +64,11 @@ def full_hall(program):
         print(f"{deed:<28}{rounds:>10}{1e6 * (busy - filled) / rounds:>26.2f}", flush=True)
 
 
-def main():
-    program = os.path.abspath(sys.argv[1]) if len(sys.argv) > 1 else PROGRAM
-    if not os.access(program, os.X_OK):
-        sys.exit(f"bench: {program} isn't there; `rt run` in crates/pace_hall builds it")
-    print(f"{machine()}, load {os.getloadavg()[0]:.1f}")
+def main() -> None:
+    program = program_for("pace_hall", __doc__)
+    print(machine())
     print(f"{'case':<28}{'acts':>10}{'seconds':>10}{'acts/s':>12}{'pace':>8}{'us of processor':>17}{'cost':>8}")
-    base = {}
+    base: dict[str, tuple[float, float]] = {}
     for name, place, what, threads, tables, rounds in cases():
         acts, seconds, busy = pace(program, place, what, threads, tables, rounds)
         first = base.setdefault(what, (acts / seconds, busy / acts))

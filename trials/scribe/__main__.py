@@ -1,10 +1,8 @@
-#!/usr/bin/env python3
 """Plays an evening of games by chance in all variants, has fics_scribe keep it, and holds the archive against what the
 players' own links saw, half-move by half-move. No part of the gate.
 
-usage: try_scribe.py [PROGRAM] [--games N] [--kills N] [--seed N] [--keep FOLDER]
-  PROGRAM is the server's, where it isn't the one that `./ficsd` builds. Of N games (2000) a fifth, or as many
-  as are ended meanwhile, is played as the scribe is killed N times (20). It needs Debian's pgn-extract. Ends with 0 where nothing is lost, twice or changed.
+A fifth of the games, or as many as are ended meanwhile, is played as the scribe is killed. It needs Debian's
+pgn-extract. Ends with 0 where nothing is lost, twice or changed.
 """
 
 import argparse
@@ -22,14 +20,12 @@ import time
 from pathlib import Path
 from random import Random
 
-sys.dont_write_bytecode = True
-TOP = Path(__file__).resolve().parents[2]
-sys.path[:0] = [str(Path(__file__).resolve().parent), str(TOP / "bench"), str(TOP / "companions")]
-import kept  # noqa: E402
-import measure  # noqa: E402
-from evening import BOARDS, Evening  # noqa: E402
-from judge import Judge  # noqa: E402
-from players import Manner  # noqa: E402
+from tests.kit import paths
+
+from . import kept
+from .evening import BOARDS, Evening
+from .judge import Judge
+from .players import Manner
 
 AT_ONCE = Manner()
 EXTRACT = shutil.which("pgn-extract", path=os.environ["PATH"] + ":/usr/games") or "pgn-extract"
@@ -47,6 +43,7 @@ async def play(evening: Evening, games: int, kills: int) -> None:
     async def begin_together() -> None:
         await evening.all_boards()
         await together.wait()
+
     part = f"{BOARDS} boards at once"
     numbers = range(max(games // 5, BOARDS))
     await asyncio.gather(evening.play(part, tables, numbers, [AT_ONCE], together), begin_together())
@@ -69,7 +66,7 @@ def read_by_others(evening: Evening) -> list[str]:
             faults.append(f"pgn-extract reads {file.name}, with {count} games, as others: {read.stderr.strip()}")
         if is_whole:
             with open(file, "rb") as text:
-                done = subprocess.run([evening.program, "tidy"], stdin=text, capture_output=True, text=True, check=False)
+                done = subprocess.run([paths.program, "tidy"], stdin=text, capture_output=True, text=True, check=False)
             if done.returncode or words(done.stdout) != words(file.read_text()):
                 faults.append(f"tidy reads {file.name} as other games, status {done.returncode}")
         print(f"{file.name}: {count} games, read by pgn-extract{' and tidy' if is_whole else ''}")
@@ -91,20 +88,26 @@ def judge(evening: Evening, slack: float) -> list[str]:
 
 
 def main() -> int:
-    words_of_it = argparse.ArgumentParser(prog="try_scribe", description=__doc__.split("\n\n", maxsplit=1)[0])
-    words_of_it.add_argument("program", nargs="?", default=measure.PROGRAM, metavar="PROGRAM")
-    words_of_it.add_argument("--games", type=int, default=2000, metavar="N")
-    words_of_it.add_argument("--kills", type=int, default=20, metavar="N")
+    words_of_it = argparse.ArgumentParser(prog="trial scribe", description=__doc__.split("\n\n", maxsplit=1)[0])
+    words_of_it.add_argument("program", nargs="?", type=Path, default=paths.program, metavar="PROGRAM")
+    words_of_it.add_argument("--games", type=int, default=2000, metavar="N", help="%(default)s without it")
+    words_of_it.add_argument("--kills", type=int, default=20, metavar="N", help="%(default)s without it")
     words_of_it.add_argument("--seed", type=int, default=int(time.time()), metavar="N")
-    words_of_it.add_argument("--slack", type=float, default=2.0, metavar="S",
-                             help="the seconds before a kill and behind the next entrance in which half-moves may be "
-                                  "missed; 2 without, which is for a busy machine")
+    words_of_it.add_argument(
+        "--slack",
+        type=float,
+        default=2.0,
+        metavar="S",
+        help="the seconds before a kill and behind the next entrance in which half-moves may be "
+        "missed; 2 without, which is for a busy machine",
+    )
     words_of_it.add_argument("--keep", type=Path, metavar="FOLDER", help="where the archive stays")
     chosen = words_of_it.parse_args()
-    print(f"seed {chosen.seed}; {measure.machine()}", flush=True)
+    paths.program = chosen.program.resolve()
+    print(f"seed {chosen.seed}; {os.cpu_count()} processors, load {os.getloadavg()[0]:.1f}", flush=True)
     signal.signal(signal.SIGTERM, lambda *_: sys.exit(1))  # the server and the scribe end with it
     with tempfile.TemporaryDirectory(prefix="archive.") as folder:
-        evening = Evening(measure.program_of(["", chosen.program]), chosen.keep or Path(folder), chosen.seed)
+        evening = Evening(chosen.keep or Path(folder), chosen.seed)
         faults = asyncio.run(whole(evening, chosen))
         faults += judge(evening, chosen.slack) + read_by_others(evening)
         for it in faults:

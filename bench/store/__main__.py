@@ -1,25 +1,24 @@
-#!/usr/bin/env python3
 """Puts a second and loads of the program `pace_store`, and what becomes of a store on which things go wrong.
 
-Usage: try_store.py [PROGRAM]. PROGRAM is `crates/pace_store/out/pace_store` where none is named;
-`(cd crates/pace_store && rt run)` builds it. The command `sqlite3` is Debian's (`apt-get install sqlite3`); without it
-its lines are left out. It ends with 1 where something came otherwise than it should.
+The command `sqlite3` is Debian's (`apt-get install sqlite3`); without it its lines are left out. It ends with 1 where
+something came otherwise than it should.
 """
 
 import os
 import shutil
 import subprocess
-import sys
 import tempfile
 import threading
 import time
 
-sys.path.insert(0, os.path.join(os.path.dirname(os.path.abspath(__file__)), ".."))
-from measure import TOP, machine
+from bench.measure import files_of, machine, program_for
+from tests.kit.records import TABLE
+from trials.tale import Tale
 
 RECORDS = 10_000
 KILLS = 10
-wrong = []
+PROGRAM = program_for("pace_store", __doc__)
+tale = Tale()
 
 
 def run(*words):
@@ -30,24 +29,16 @@ def run(*words):
 
 
 def says(name, got, wanted):
-    """Prints what came, and notes it where it isn't what was wanted."""
-    good = got == wanted
-    if not good:
-        wrong.append(name)
-    print(f"{name}: {' / '.join(got)}" + ("" if good else f"  WRONG, wanted {' / '.join(wanted)}"))
+    """Prints what came, as a loss where it isn't what was wanted."""
+    tale.holds(
+        got == wanted, f"{name}: {' / '.join(got)}" + ("" if got == wanted else f", wanted {' / '.join(wanted)}")
+    )
 
 
 def sqlite(path, text):
     """The lines that the command `sqlite3` prints; an error is its last line."""
     done = subprocess.run(["sqlite3", path, text], capture_output=True, text=True)
     return (done.stdout + done.stderr).splitlines()
-
-
-def files_of(folder):
-    """Each file's name with its bytes and the moment of its last change."""
-    names = sorted(os.listdir(folder))
-    paths = [os.path.join(folder, name) for name in names]
-    return [(name, open(path, "rb").read(), os.stat(path).st_mtime_ns) for name, path in zip(names, paths)]
 
 
 def paces(folder):
@@ -80,8 +71,7 @@ def kills(folder):
         loaded, _ = run("load", path)
         count = int(loaded[0].split()[0]) if loaded[0].endswith(" records") else -1
         if count < least or read != loaded[:1]:
-            wrong.append("killed")
-            print(f"kill {turn}: {least} were said to be kept, read {read}, loaded {loaded}  WRONG")
+            tale.lost(f"kill {turn}: {least} were said to be kept, read {read}, loaded {loaded}")
     print(f"{KILLS} kills: up to {least} records said to be kept, and all found")
 
 
@@ -97,8 +87,7 @@ def busy(folder):
         said = max(len(lines) - 1, 0)
         read, _ = run("read", path)
         if not read[0].endswith(" records") or int(read[0].split()[0]) < said:
-            wrong.append("busy")
-            print(f"{said} were said to be kept, read {read}  WRONG")
+            tale.lost(f"{said} were said to be kept, read {read}")
     keeper.kill()
     keeper.wait()
     hearer.join()
@@ -113,7 +102,7 @@ def held(path):
     before = files_of(os.path.dirname(path))
     says("reader beside it", run("read", path)[0], [f"{RECORDS} records"])
     if files_of(os.path.dirname(path)) != before:
-        wrong.append("reader changed a file")
+        tale.lost("a reader changed a file")
     if shutil.which("sqlite3"):
         print(f"sqlite3 beside it: {' / '.join(sqlite(path, 'SELECT count(*) FROM records'))}")
     rest, _ = keeper.communicate()
@@ -128,14 +117,17 @@ def by_sqlite(folder, path):
     says("sqlite3 writes", sqlite(path, "INSERT INTO records VALUES (x'00', x'01'); VACUUM"), [])
     says("load after it", run("load", path)[0], [f"{RECORDS + 1} records", "closed: done"])
     made = os.path.join(folder, "made")
-    table = "CREATE TABLE records (key BLOB PRIMARY KEY NOT NULL, record BLOB NOT NULL) STRICT"
-    says("sqlite3 makes one", sqlite(made, table), [])
+    says("sqlite3 makes one", sqlite(made, TABLE), [])
     says("put into it", run("put", made, 2)[0], ["0 done", "1 done", "closed: done"])
     loose = os.path.join(folder, "loose")
     says("a table without a key", sqlite(loose, "CREATE TABLE records (key BLOB, record BLOB)"), [])
     says("put into that", run("put", loose, 1)[0], ["0 failed", "closed: done"])
     texts = os.path.join(folder, "texts")
-    says("keys that are text", sqlite(texts, "CREATE TABLE records (key, record); INSERT INTO records VALUES ('a', 'b')"), [])
+    says(
+        "keys that are text",
+        sqlite(texts, "CREATE TABLE records (key, record); INSERT INTO records VALUES ('a', 'b')"),
+        [],
+    )
     says("load of those", run("load", texts)[0], ["failed", "closed: done"])
 
 
@@ -144,7 +136,7 @@ def refused(folder, path):
     missing = os.path.join(folder, "nowhere")
     says("read where nothing is", run("read", missing)[0], ["failed"])
     if os.path.exists(missing):
-        wrong.append("reader made a file")
+        tale.lost("a reader made a file")
     inside = os.path.join(folder, "no_folder", "store")
     says("put into a folder that isn't there", run("put", inside, 1)[0], ["0 failed", "closed: done"])
     says("put into a folder", run("put", folder, 1)[0], ["0 failed", "closed: done"])
@@ -177,11 +169,8 @@ def main():
         held(path)
         by_sqlite(folder, path)
         refused(folder, path)
-    if wrong:
-        sys.exit(f"wrong: {', '.join(wrong)}")
+    tale.end()
 
 
-PROGRAM = sys.argv[1] if len(sys.argv) > 1 else os.path.join(TOP, "crates", "pace_store", "out", "pace_store")
-if not os.access(PROGRAM, os.X_OK):
-    sys.exit(f"bench: {PROGRAM} isn't there; `(cd crates/pace_store && rt run)` builds it")
-main()
+if __name__ == "__main__":
+    main()

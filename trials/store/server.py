@@ -5,50 +5,49 @@ import signal
 import subprocess
 import sys
 import time
+from pathlib import Path
 
-HERE = os.path.dirname(os.path.abspath(__file__))
-sys.path[:0] = [os.path.join(HERE, ".."), os.path.join(HERE, "..", "clients"), os.path.join(HERE, "..", "serve")]
-sys.dont_write_bytecode = True
-from bench import free_port  # noqa: E402
-from link import Link  # noqa: E402
-from measure import TOP  # noqa: E402
+from bench.measure import peak_of, processor_seconds
+from tests.kit import paths
+from tests.kit.link import Link
+from tests.kit.ports import free_port
 
 PATIENCE = 60
-PROVED = os.path.join(TOP, "crates", "fics_server", "out", "fics_server")
 
 
 class Program:
     """The words that run the program."""
 
-    def __init__(self, words, unproved):
+    def __init__(self, words: list[str], unproved: bool) -> None:
         self.words = words
         self.unproved = unproved  # it begins minutes later, and shows `ready` only where it ends by itself
 
-    def run(self, *words, given=""):
+    def run(self, *words: object, given: str = "") -> tuple[str, int]:
         """What a command writes, and its status."""
-        done = subprocess.run([*self.words, *map(str, words)], input=given, stdout=subprocess.PIPE,
-                              stderr=subprocess.DEVNULL, text=True)
+        done = subprocess.run(
+            [*self.words, *map(str, words)], input=given, stdout=subprocess.PIPE, stderr=subprocess.DEVNULL, text=True
+        )
         return done.stdout, done.returncode
 
-    def check(self, path):
+    def check(self, path: str) -> tuple[str, int]:
         """What `check` says of a store, and its status."""
         return self.run("check", "--store", path)
 
 
-def program_of(words):
+def program_of(words: list[str]) -> Program:
     """The program that the words of the call name: one of its own, the unproved one, or the built one."""
     if words == ["--unproved"]:
-        return Program([os.path.join(TOP, "ficsd"), "--unproved"], True)
-    program = os.path.abspath(words[0]) if words else PROVED
+        return Program([str(paths.TOP / "ficsd"), "--unproved"], True)
+    program = Path(words[0]).resolve() if words else paths.program
     if not os.access(program, os.X_OK):
-        sys.exit(f"{program} isn't there; `./ficsd board </dev/null` builds it")
-    return Program([program], False)
+        sys.exit(f"store: {program} isn't there; `./ficsd board </dev/null` builds it")
+    return Program([str(program)], False)
 
 
 class Server:
     """A server that was started, over a store where a path is given."""
 
-    def __init__(self, program, path=None, count=None):
+    def __init__(self, program: Program, path: str | None = None, count: int | None = None) -> None:
         self.program = program
         self.port = free_port()
         words = ["serve", "--port", self.port]
@@ -56,13 +55,18 @@ class Server:
         words += ["--count", count] if count else []
         self.start = time.monotonic()
         # so SIGXFSZ, which Python ignores, is ignored there too, and a write past a limit fails
-        self.process = subprocess.Popen([*program.words, *map(str, words)], stdin=subprocess.DEVNULL,
-                                        stdout=subprocess.PIPE, stderr=subprocess.DEVNULL, text=True,
-                                        restore_signals=False)
+        self.process = subprocess.Popen(
+            [*program.words, *map(str, words)],
+            stdin=subprocess.DEVNULL,
+            stdout=subprocess.PIPE,
+            stderr=subprocess.DEVNULL,
+            text=True,
+            restore_signals=False,
+        )
         self.first = self.wait_until_ready()
         self.seconds = time.monotonic() - self.start
 
-    def wait_until_ready(self):
+    def wait_until_ready(self) -> str:
         """What it has written once it listens or has ended."""
         if not self.program.unproved:
             return self.process.stdout.readline()
@@ -70,7 +74,7 @@ class Server:
             time.sleep(0.2)
         return ""
 
-    def pid(self):
+    def pid(self) -> int:
         """The process that serves: the program itself, which `rt try` has started where it is unproved."""
         pid = self.process.pid
         while self.program.unproved:
@@ -81,7 +85,7 @@ class Server:
             pid = int(children[-1])
         return pid
 
-    def knock(self, name, password=None):
+    def knock(self, name: str, password: str | None = None) -> Link:
         """Somebody who has said this handle, and a password where one is given."""
         link = Link(self.port)
         link.until_prompt("login: ")
@@ -91,42 +95,38 @@ class Server:
             link.say(password)
         return link
 
-    def enter(self, name, password=None):
+    def enter(self, name: str, password: str | None = None) -> Link:
         """Somebody who has come in under this handle."""
         link = self.knock(name, password)
         link.until(r"Entered as ")
         link.until_prompt("fics% ")
         return link
 
-    def ends(self):
+    def ends(self) -> tuple[str, int]:
         """All that it writes, and its status, once it has ended by itself."""
         rest, _ = self.process.communicate(timeout=10 * PATIENCE)
         return self.first + rest, self.process.returncode
 
-    def kill(self):
+    def kill(self) -> None:
         """Ends it as `kill -9` does, or as a machine whose power is cut."""
         os.kill(self.pid(), signal.SIGKILL)
         self.process.communicate()
 
-    def processor(self):
+    def processor(self) -> float:
         """The seconds of processors that it has used."""
-        with open(f"/proc/{self.pid()}/stat", encoding="ascii") as stat:
-            words = stat.read().rpartition(")")[2].split()
-        return (int(words[11]) + int(words[12])) / os.sysconf("SC_CLK_TCK")
+        return processor_seconds(self.pid())
 
-    def peak(self):
+    def peak(self) -> int:
         """Its greatest memory in KiB."""
-        with open(f"/proc/{self.pid()}/status", encoding="ascii") as status:
-            return next(int(line.split()[1]) for line in status if line.startswith("VmHWM:"))
+        return peak_of(self.pid())
 
 
-def is_listened_to(port):
+def is_listened_to(port: int) -> bool:
     """Whether somebody listens on the port of this machine."""
-    with open("/proc/net/tcp", encoding="ascii") as file:
-        return any(f"0100007F:{port:04X} 00000000:0000 0A" in line for line in file)
+    return f"0100007F:{port:04X} 00000000:0000 0A" in Path("/proc/net/tcp").read_text(encoding="ascii")
 
 
-def leave(*links):
+def leave(*links: Link) -> None:
     """Lets people quit."""
     for link in links:
         link.say("quit")
@@ -134,17 +134,11 @@ def leave(*links):
         link.link.close()
 
 
-def answers(link, line, *patterns):
+def answers(link: Link, line: str, *patterns: str) -> list[str]:
     """Says a line, and gives the lines that are found for the patterns, in their order."""
     link.say(line)
     return [link.until(it).string for it in patterns]
 
 
-def register(link, password):
+def register(link: Link, password: str) -> None:
     answers(link, f"register {password}", r"^Ok\.")
-
-
-def files_of(folder):
-    """Each file's name with its bytes and the moment of its last change."""
-    paths = [os.path.join(folder, name) for name in sorted(os.listdir(folder))]
-    return [(path, open(path, "rb").read(), os.stat(path).st_mtime_ns) for path in paths if os.path.isfile(path)]

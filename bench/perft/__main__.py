@@ -1,8 +1,6 @@
-#!/usr/bin/env python3
 """Leaves a second, and processor time beside Stockfish's, of the program `perft`.
 
-Usage: bench.py [PROGRAM]. PROGRAM is `crates/perft/out/perft` where none is named; `(cd crates/perft && rt run)` builds
-it. Stockfish is Debian's (`apt-get install stockfish`); without it, its columns are left out. Both programs count the
+Stockfish is Debian's (`apt-get install stockfish`); without it, its columns are left out. Both programs count the
 same lists on one thread each, one after the other, and both count the last half-moves of a list without making them.
 """
 
@@ -10,8 +8,7 @@ import os
 import subprocess
 import sys
 
-sys.path.insert(0, os.path.join(os.path.dirname(os.path.abspath(__file__)), ".."))
-from measure import TOP, machine
+from bench.measure import lines_with_seconds, machine, processor_seconds, program_for
 
 STOCKFISH = "/usr/games/stockfish"
 # each word makes the lists one half-move longer
@@ -39,33 +36,17 @@ POSITIONS = {
 }
 
 
-def processor_seconds(process):
-    """The processor time that a running process has taken, to a hundredth of a second."""
-    with open(f"/proc/{process.pid}/stat") as stat:
-        fields = stat.read().rsplit(")", 1)[1].split()
-    return (int(fields[11]) + int(fields[12])) / os.sysconf("SC_CLK_TCK")
-
-
-def our_counts(program):
-    """Each position's name with the length of its lists, their number, and the processor time of counting them."""
-    with subprocess.Popen([program, *LONGER], stdout=subprocess.PIPE, text=True) as process:
-        before = 0.0
-        for line in process.stdout:
-            name, length, found = line.split()
-            now = processor_seconds(process)
-            yield name, int(length), int(found), now - before
-            before = now
-
-
 class Stockfish:
     """A running Stockfish, whose start isn't measured."""
 
-    def __init__(self):
-        self.process = subprocess.Popen([STOCKFISH], stdin=subprocess.PIPE, stdout=subprocess.PIPE, text=True, bufsize=1)
+    def __init__(self) -> None:
+        self.process = subprocess.Popen(
+            [STOCKFISH], stdin=subprocess.PIPE, stdout=subprocess.PIPE, text=True, bufsize=1
+        )
         self.process.stdin.write("setoption name UCI_Chess960 value true\n")
         self.say("isready", "readyok")
 
-    def say(self, text, until):
+    def say(self, text: str, until: str) -> str:
         """Sends a line, and gives the first line of the answer that begins so."""
         self.process.stdin.write(text + "\n")
         for line in self.process.stdout:
@@ -73,31 +54,30 @@ class Stockfish:
                 return line
         sys.exit("bench: Stockfish ended")
 
-    def count(self, fen, length):
+    def count(self, fen: str, length: int) -> tuple[int, float]:
         """How many lists there are, and the processor time of counting them."""
         self.process.stdin.write(f"position fen {fen}\n")
         self.say("isready", "readyok")
-        before = processor_seconds(self.process)
+        before = processor_seconds(self.process.pid)
         line = self.say(f"go perft {length}", "Nodes searched:")
-        return int(line.split()[2]), processor_seconds(self.process) - before
+        return int(line.split()[2]), processor_seconds(self.process.pid) - before
 
-    def close(self):
+    def close(self) -> None:
         self.process.stdin.write("quit\n")
         self.process.wait()
 
 
-def main():
-    program = sys.argv[1] if len(sys.argv) > 1 else os.path.join(TOP, "crates", "perft", "out", "perft")
-    if not os.access(program, os.X_OK):
-        sys.exit(f"bench: {program} isn't there; `(cd crates/perft && rt run)` builds it")
+def main() -> None:
+    program = program_for("perft", __doc__)
     other = Stockfish() if os.access(STOCKFISH, os.X_OK) else None
     print(machine())
     print(f"{'position':<12}{'length':>7}{'lists':>13}{'seconds':>9}{'M/s':>7}{'Stockfish':>11}{'times':>7}")
     # ours to the end first, so that the two never run side by side
-    for name, length, found, seconds in list(our_counts(program)):
+    for (name, length, lists), seconds in list(lines_with_seconds([program, *LONGER])):
+        found = int(lists)
         row = f"{name:<12}{length:>7}{found:>13}{seconds:>9.2f}{found / max(seconds, 0.01) / 1e6:>7.1f}"
         if other and name in POSITIONS:
-            count, theirs = other.count(POSITIONS[name], length)
+            count, theirs = other.count(POSITIONS[name], int(length))
             if count != found:
                 sys.exit(f"bench: {name}: Stockfish counts {count} lists of {length}")
             row += f"{theirs:>11.2f}{seconds / max(theirs, 0.01):>7.1f}"

@@ -1,25 +1,23 @@
-#!/usr/bin/env python3
 """Round trips of `ficsd serve` over loopback, of empty lines, of moves and of `who`, beside an echo server of one
 thread a link and, where a second program is named, beside that one, all in the same run; and what idle links take.
 
-usage: bench.py [--short] [--instructions] [PROGRAM [BASE]]; without a program the one that `./ficsd board </dev/null`
-builds. BASE is another build of it, to compare with. Each number is the median of seven rounds, in which the servers
-take turns; --short makes three rounds of one second over fewer cases, for a machine that is busy. --instructions counts
-those of a move and of an idle link's pause by `valgrind --tool=callgrind` in place of the rest. Wants a C compiler.
+Each number is the median of seven rounds, in which the servers take turns. It wants a C compiler, and for instructions
+valgrind.
 """
 
 import argparse
 import os
-import socket
 import subprocess
-import sys
 import tempfile
 import time
+from pathlib import Path
 from statistics import median
 
-HERE = os.path.dirname(os.path.abspath(__file__))
-sys.path.insert(0, os.path.join(HERE, ".."))
-from measure import machine, program_of  # noqa: E402
+from bench.measure import checked, machine, processor_seconds, resident, words_for
+from bench.serve.listening import wait_for
+from tests.kit.ports import free_port
+
+HERE = Path(__file__).resolve().parent
 
 PROMPT = "fics% "
 PAUSES_A_SECOND = 10  # of a link that says nothing
@@ -28,45 +26,13 @@ SHORT = (("moves", (2, 16, 64, 256)), ("who", (256,)))
 IDLE = (64, 256)
 COUNTED_MOVES = 1_000
 COUNTED_IDLE = 16
-TICKS = os.sysconf("SC_CLK_TCK")
 
 
 def compiled(name, folder):
     """The C program of this folder."""
     program = os.path.join(folder, name)
-    subprocess.run(["cc", "-O2", "-o", program, os.path.join(HERE, f"{name}.c"), "-lpthread"], check=True)
+    subprocess.run(["cc", "-O2", "-o", program, str(HERE / f"{name}.c"), "-lpthread"], check=True)
     return program
-
-
-def free_port():
-    """A port that nobody listens on."""
-    with socket.socket() as one:
-        one.bind(("127.0.0.1", 0))
-        return one.getsockname()[1]
-
-
-def wait_for(port):
-    """Waits until somebody listens."""
-    for _ in range(200):
-        try:
-            socket.create_connection(("127.0.0.1", port)).close()
-            return
-        except OSError:
-            time.sleep(0.05)
-    sys.exit("bench: the server doesn't listen")
-
-
-def processor_seconds(process):
-    """The processor time that a running process has taken."""
-    with open(f"/proc/{process.pid}/stat") as stat:
-        words = stat.read().rsplit(")", 1)[1].split()
-    return (int(words[11]) + int(words[12])) / TICKS
-
-
-def resident(process):
-    """The resident memory of a running process in KiB."""
-    with open(f"/proc/{process.pid}/status") as status:
-        return next(int(line.split()[1]) for line in status if line.startswith("VmRSS:"))
 
 
 class Server:
@@ -93,11 +59,11 @@ class Server:
         end = PROMPT
         if self.name == "echo":
             links, end, kind = {"moves": links // 2, "who": 1}.get(kind, links), "\n", "echo"
-        before = processor_seconds(self.process)
+        before = processor_seconds(self.process.pid)
         words = [load, str(self.port), str(links), str(seconds), end, kind]
         said = subprocess.run(words, stdout=subprocess.PIPE, text=True, check=True)
         count, took = said.stdout.split()
-        taken = processor_seconds(self.process) - before
+        taken = processor_seconds(self.process.pid) - before
         time.sleep(0.5)  # the sessions leave
         return int(count) / float(took), 1e6 * taken / max(int(count), 1)
 
@@ -106,10 +72,10 @@ class Server:
         said = [load, str(self.port), str(links), str(seconds + 1), "x", "idle"]
         idle = subprocess.Popen(said, stdout=subprocess.PIPE, text=True)
         idle.stdout.readline()
-        before, start = processor_seconds(self.process), time.monotonic()
+        before, start = processor_seconds(self.process.pid), time.monotonic()
         time.sleep(seconds)
-        share = (processor_seconds(self.process) - before) / (time.monotonic() - start)
-        size = resident(self.process)
+        share = (processor_seconds(self.process.pid) - before) / (time.monotonic() - start)
+        size = resident(self.process.pid)
         idle.wait()
         time.sleep(0.5)
         return share, size
@@ -175,7 +141,7 @@ def print_all(load, servers, given):
     rounds, seconds = (3, 1) if given.short else (7, 3)
     builds = [it for it in servers if it.name != "echo"]
     for it in builds:
-        print(f"memory before the first link: {it.name} {resident(it.process)} KiB")
+        print(f"memory before the first link: {it.name} {resident(it.process.pid)} KiB")
     for links in IDLE[-1:] if given.short else IDLE:
         print_idle(builds, links, medians(builds, rounds, lambda it: it.idle(load, links, seconds)))
     for kind, counts in SHORT if given.short else CASES:
@@ -183,23 +149,27 @@ def print_all(load, servers, given):
             rows = medians(servers, rounds, lambda it: it.trips(load, links, seconds, kind))
             print_trips(servers, kind, links, rows)
     for it in builds:
-        print(f"memory once all have left: {it.name} {resident(it.process)} KiB")
+        print(f"memory once all have left: {it.name} {resident(it.process.pid)} KiB")
 
 
-def options():
-    given = argparse.ArgumentParser(description=__doc__, formatter_class=argparse.RawDescriptionHelpFormatter)
-    given.add_argument("--short", action="store_true")
-    given.add_argument("--instructions", action="store_true")
-    given.add_argument("programs", nargs="*", metavar="PROGRAM")
+def options() -> argparse.Namespace:
+    given = words_for("fics_server", __doc__)
+    given.add_argument("base", nargs="?", type=Path, metavar="BASE", help="another build of it, to compare with")
+    given.add_argument(
+        "--short", action="store_true", help="three rounds of one second over fewer cases, for a machine that is busy"
+    )
+    given.add_argument(
+        "--instructions",
+        action="store_true",
+        help="counts those of a move and of an idle link's pause "
+        "by `valgrind --tool=callgrind` in place of the rest",
+    )
     return given.parse_args()
 
 
-def main():
+def main() -> None:
     given = options()
-    if len(given.programs) > 2:
-        sys.exit("bench: two programs at most")
-    named = list(zip(("ficsd", "base"), [program_of(["", it]) for it in given.programs] or [program_of([""])]))
-    builds = named[::-1]  # the base first
+    builds = [(name, checked(it)) for name, it in (("base", given.base), ("ficsd", given.program)) if it]
     print(machine())
     with tempfile.TemporaryDirectory() as folder:
         load = compiled("load", folder)

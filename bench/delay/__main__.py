@@ -1,31 +1,25 @@
-#!/usr/bin/env python3
-"""Measures how late an opponent's half-move is heard: straight at the server, straight by a client that asks with an
+"""How late an opponent's half-move is heard: straight at the server, straight by a client that asks with an
 empty line each 20 ms, and by the go-between.
 
 Two players move their knights to and fro. `heard`: each waits 0 to 150 ms before it moves; counted is what lies between
 the sending of the move and the coming of its board to the other. `reply`: both move at once; counted is what lies
 between the sending of a move and the coming of the opponent's reply to it.
-
-usage: delay.py [--program FILE] [--half-moves N]; 200 half-moves without it. It isn't part of the gate.
 """
 
-import argparse
-import os
 import random
 import select
 import socket
 import statistics
-import sys
 import threading
 import time
+from collections.abc import Callable
+from pathlib import Path
 
-HERE = os.path.dirname(os.path.abspath(__file__))
-sys.path[:0] = [HERE, os.path.join(HERE, "..")]
-sys.dont_write_bytecode = True
-from link import free_port, started  # noqa: E402
-from measure import machine, program_of  # noqa: E402
+from bench.measure import checked, machine, words_for
+from tests.kit import paths
+from tests.kit.ports import free_port
+from tests.kit.running import Run, Server
 
-FACE = os.path.join(HERE, "..", "..", "companions", "fics_face")
 DANCE = ("Nf3", "Nf6", "Ng1", "Ng8")
 ASK_SECONDS = 0.02
 PATIENCE = 20
@@ -34,20 +28,20 @@ PATIENCE = 20
 class Player:
     """One link. Where `asks`, it asks for news with an empty line while it waits."""
 
-    def __init__(self, port, asks):
+    def __init__(self, port: int, asks: bool) -> None:
         self.link = socket.create_connection(("127.0.0.1", port))
         self.link.setsockopt(socket.IPPROTO_TCP, socket.TCP_NODELAY, 1)
         self.asks, self.text, self.boards = asks, "", 0
         self.asked = self.moved = 0.0  # when the last line was sent that asks, or moves
 
-    def say(self, line):
+    def say(self, line: str) -> None:
         self.link.sendall(line.encode() + b"\n")
 
-    def move(self, word):
+    def move(self, word: str) -> None:
         self.moved = time.monotonic()
         self.say(word)
 
-    def until(self, fits):
+    def until(self, fits: Callable[[], bool]) -> float:
         """Takes what comes until that is so; the moment."""
         deadline = time.monotonic() + PATIENCE
         while not fits():
@@ -63,7 +57,7 @@ class Player:
                 self.text += piece
         return time.monotonic()
 
-    def enter(self, name):
+    def enter(self, name: str) -> None:
         """Logs in, at the server or at the go-between."""
         self.until(lambda: self.text.endswith("login: "))
         self.say(name)
@@ -72,11 +66,11 @@ class Player:
             self.say("")
         self.until(lambda: self.text.endswith("fics% "))
 
-    def until_board(self, number):
+    def until_board(self, number: int) -> float:
         return self.until(lambda: self.boards >= number)
 
 
-def game(port, asks, names, half_moves, pause):
+def game(port: int, asks: bool, names: list[str], half_moves: int, pause: float) -> list[list[float]]:
     """The milliseconds until each half-move was heard, and until each was replied to."""
     players = [Player(port, False) for _ in names]
     for player, name in zip(players, names):
@@ -101,32 +95,35 @@ def game(port, asks, names, half_moves, pause):
     return [[1000 * (end - start) for start, end in zip(sent, ends)] for ends in (came, came[1:])]
 
 
-def main():
-    words = argparse.ArgumentParser(description=__doc__.split("\n\n")[0])
-    words.add_argument("--program", help="the built program; without it the one that ./ficsd has built")
-    words.add_argument("--half-moves", type=int, default=200)
+def main() -> None:
+    words = words_for("fics_server", __doc__)
+    words.add_argument("--half-moves", type=int, default=200, metavar="N", help="%(default)s without it")
     chosen = words.parse_args()
-    program = program_of(["", chosen.program] if chosen.program else [""])
-    server_port, face_port = free_port(), free_port()
-    server = started([program, "serve", "--port", str(server_port)])
-    face = started([FACE, "--server", f"127.0.0.1:{server_port}", "--listen", str(face_port)])
+    paths.program = Path(checked(chosen.program))
+    server, face_port = Server(), free_port()
+    face = Run(paths.companion("fics_face"), "--server", server.address, "--listen", face_port)
+    face.begin()
     print(machine(), time.strftime("%Y-%m-%d", time.gmtime()))
     print(f"{'milliseconds':<34}{'median':>8}{'9 of 10':>9}{'most':>7}")
-    rows = (("straight", server_port, False), ("straight, asking each 20 ms", server_port, True),
-            ("by the go-between", face_port, False))
+    rows = (
+        ("straight", server.port, False),
+        ("straight, asking each 20 ms", server.port, True),
+        ("by the go-between", face_port, False),
+    )
     try:
         for n, (name, port, asks) in enumerate(rows):
             for m, (what, pause) in enumerate((("heard", 0.15), ("reply", 0))):
                 names = ["White" + "abcdef"[2 * n + m], "Black" + "abcdef"[2 * n + m]]
                 taken = sorted(game(port, asks, names, chosen.half_moves, pause)[m])
-                print(f"{name + ', ' + what:<34}{statistics.median(taken):>8.1f}{taken[len(taken) * 9 // 10]:>9.1f}"
-                      f"{taken[-1]:>7.1f}", flush=True)
+                print(
+                    f"{name + ', ' + what:<34}{statistics.median(taken):>8.1f}{taken[len(taken) * 9 // 10]:>9.1f}"
+                    f"{taken[-1]:>7.1f}",
+                    flush=True,
+                )
     finally:
         server.terminate()
-        server.wait()
-        face.wait()
-    return 0
+        face.rest()
 
 
 if __name__ == "__main__":
-    sys.exit(main())
+    main()

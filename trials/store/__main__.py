@@ -1,8 +1,7 @@
-#!/usr/bin/env python3
 """Tries the program over a store as its operators and players would: evenings that go on after the server was stopped
 or killed, commands beside it, what is no store, a disk without room, a full store, and what keeping costs.
 
-usage: try_server.py [PROGRAM | --unproved]; without a word the program that `./ficsd board </dev/null` builds. With
+usage: tools/trial store [PROGRAM | --unproved]; without a word the program that `./ficsd board </dev/null` builds. With
 `--unproved` each start takes minutes. The command `sqlite3` is Debian's; without it its lines are left out. Ends with 1
 where something came otherwise than it should. It isn't part of the gate.
 """
@@ -17,12 +16,11 @@ import tempfile
 import threading
 import time
 
-HERE = os.path.dirname(os.path.abspath(__file__))
-sys.path.insert(0, HERE)
-sys.dont_write_bytecode = True
-from club import Server, answers, files_of, leave, program_of, register  # noqa: E402
-from measure import machine, peak_of  # noqa: E402
-from records import PASSWORD, account, game, handle_of, make_full_store, make_store  # noqa: E402
+from bench.measure import files_of, machine, peak_of
+from tests.kit.records import PASSWORD, account, game, handle_of, make_full_store, make_store
+from trials.tale import Tale
+
+from .server import Server, answers, leave, program_of, register
 
 A_MOMENT = 1  # seconds; what is new is kept about ten times in each
 ACCOUNTS, GAMES = 4096, 10_000
@@ -39,15 +37,9 @@ PGN = """[Event "?"]
 
 """
 START = "rnbqkbnr pppppppp -------- -------- -------- -------- PPPPPPPP RNBQKBNR"
-wrong = []
-
-
-def says(name, got, wanted):
-    """Prints what came, and notes it where it isn't what was wanted."""
-    good = got == wanted
-    if not good:
-        wrong.append(name)
-    print(f"{name}: {'as it should' if good else f'{got!r}  WRONG, wanted {wanted!r}'}", flush=True)
+tale = Tale()
+PROGRAM = program_of(sys.argv[1:])
+says = tale.says
 
 
 def holding(accounts, games):
@@ -79,7 +71,7 @@ def board_of(line):
     """A board line, or one of men in hand, without the game's number, which another desk may change."""
     words = line.split()
     number = 16 if words[0] == "<12>" else 2
-    return words[:number] + words[number + 1:]
+    return words[:number] + words[number + 1 :]
 
 
 # evenings
@@ -101,10 +93,22 @@ class Evening:
 CHESS = Evening("chess", ("Ann", "Ben"), "match ben 2 12 white", ("e4", "e5", "Nf3"), (), "1 Ann Ben 2 12 chess")
 EVENINGS = (
     CHESS,
-    Evening("crazyhouse", ("Ann", "Ben"), "match ben 3 1 crazyhouse white", ("e4", "d5", "exd5", "Qxd5"),
-            ("white [P] black []",), "1 Ann Ben 3 1 crazyhouse"),
-    Evening("bughouse", ("Ann", "Ben", "Cat", "Dan"), "match ben 5 0 bughouse white", ("e4", "d5", "exd5"),
-            ("white [] black []", "white [] black [P]"), "1 Ann Ben Cat Dan 5 0 bughouse"),
+    Evening(
+        "crazyhouse",
+        ("Ann", "Ben"),
+        "match ben 3 1 crazyhouse white",
+        ("e4", "d5", "exd5", "Qxd5"),
+        ("white [P] black []",),
+        "1 Ann Ben 3 1 crazyhouse",
+    ),
+    Evening(
+        "bughouse",
+        ("Ann", "Ben", "Cat", "Dan"),
+        "match ben 5 0 bughouse white",
+        ("e4", "d5", "exd5"),
+        ("white [] black []", "white [] black [P]"),
+        "1 Ann Ben Cat Dan 5 0 bughouse",
+    ),
 )
 
 
@@ -168,7 +172,7 @@ def looks_at_hands(evening, path, name):
     shown_once = ["<12>"] + ["<b1>"] * len(evening.hands)
     tried = ["refused"] if len(evening.people) == 4 else shown_once
     says(f"{name}: examine", [it.split()[0] for it in lines] + [status], shown_once * 2 + tried + [0])
-    hands = lines[len(shown_once) + 1:2 * len(shown_once)]
+    hands = lines[len(shown_once) + 1 : 2 * len(shown_once)]
     says(f"{name}: examine, the hands", [" ".join(it.split()[3:7]) for it in hands], list(evening.hands))
 
 
@@ -219,11 +223,17 @@ def looks(path, name):
     says(f"{name}: pgn", PROGRAM.run("pgn", "--store", path), (PGN, 0))
     text, status = PROGRAM.run("examine", "--store", path, "--game", 1, given="forward 3\nback 5\nforward\n")
     lines = text.split("\n")
-    says(f"{name}: examine, at first", lines[0], f"<12> {START} W -1 1 1 1 1 0 1 Ann Ben 2 2 12 39 39 120 120 1 none "
-         "(0:00) none 0")
+    says(
+        f"{name}: examine, at first",
+        lines[0],
+        f"<12> {START} W -1 1 1 1 1 0 1 Ann Ben 2 2 12 39 39 120 120 1 none " "(0:00) none 0",
+    )
     says(f"{name}: examine, the end", lines[1].split()[27:], ["N/g1-f3", "(0:02)", "Nf3", "0"])
-    says(f"{name}: examine, too far", lines[2:] + [status],
-         ["refused 58 NoEarlierMoves", "refused 57 NoMoreMoves", "", 0])
+    says(
+        f"{name}: examine, too far",
+        lines[2:] + [status],
+        ["refused 58 NoEarlierMoves", "refused 57 NoMoreMoves", "", 0],
+    )
     tries_moves(path, name, lines)
     says(f"{name}: no such game", PROGRAM.run("examine", "--store", path, "--game", 2), ("no such game\n", 10))
     says(f"{name}: the files", files_of(folder) == before, True)
@@ -231,17 +241,36 @@ def looks(path, name):
 
 def tries_moves(path, name, through):
     """Another half-move in the game of `CHESS`, and back to what is stored, by the boards of its start and its end."""
-    given = ("forward 2\nBc4\nforward\nKe3\nback 3\nforward 3\nrevert\nforward\n"
-             "back 3\nrevert\nforward 0\nback\n")
+    given = "forward 2\nBc4\nforward\nKe3\nback 3\nforward 3\nrevert\nforward\n" "back 3\nrevert\nforward 0\nback\n"
     text, status = PROGRAM.run("examine", "--store", path, "--game", 1, given=given)
     start, end = through[:2]
-    e5 = ("<12> rnbqkbnr pppp-ppp -------- ----p--- ----P--- -------- PPPP-PPP RNBQKBNR W 4 1 1 1 1 0 "
-          "1 Ann Ben 2 2 12 39 39 120 120 2 P/e7-e5 (0:00) e5 0")
-    bc4 = ("<12> rnbqkbnr pppp-ppp -------- ----p--- --B-P--- -------- PPPP-PPP RNBQK-NR B -1 1 1 1 1 1 "
-           "1 Ann Ben 2 2 12 39 39 120 120 2 B/f1-c4 (0:00) Bc4 0")
-    says(f"{name}: examine, another move and back", text.split("\n"),
-         [start, e5, bc4, "refused 57 NoMoreMoves", "refused 9 CannotReach", start, bc4, e5, end,
-          start, start, "bad line 11", ""])
+    e5 = (
+        "<12> rnbqkbnr pppp-ppp -------- ----p--- ----P--- -------- PPPP-PPP RNBQKBNR W 4 1 1 1 1 0 "
+        "1 Ann Ben 2 2 12 39 39 120 120 2 P/e7-e5 (0:00) e5 0"
+    )
+    bc4 = (
+        "<12> rnbqkbnr pppp-ppp -------- ----p--- --B-P--- -------- PPPP-PPP RNBQK-NR B -1 1 1 1 1 1 "
+        "1 Ann Ben 2 2 12 39 39 120 120 2 B/f1-c4 (0:00) Bc4 0"
+    )
+    says(
+        f"{name}: examine, another move and back",
+        text.split("\n"),
+        [
+            start,
+            e5,
+            bc4,
+            "refused 57 NoMoreMoves",
+            "refused 9 CannotReach",
+            start,
+            bc4,
+            e5,
+            end,
+            start,
+            start,
+            "bad line 11",
+            "",
+        ],
+    )
     says(f"{name}: examine, a bad line", status, 7)
 
 
@@ -417,10 +446,15 @@ def try_full_disks():
 def timed(*words):
     """The seconds of a command, those of a processor, the greatest memory in KiB, and what it writes."""
     start, used, peak = time.monotonic(), resource.getrusage(resource.RUSAGE_CHILDREN), 0
-    process = subprocess.Popen([*PROGRAM.words, *map(str, words)], stdin=subprocess.DEVNULL, stdout=subprocess.PIPE,
-                               stderr=subprocess.DEVNULL, text=True)
+    process = subprocess.Popen(
+        [*PROGRAM.words, *map(str, words)],
+        stdin=subprocess.DEVNULL,
+        stdout=subprocess.PIPE,
+        stderr=subprocess.DEVNULL,
+        text=True,
+    )
     while process.poll() is None:
-        peak = max(peak, peak_of(process))
+        peak = max(peak, peak_of(process.pid))
         time.sleep(0.002)
     seconds, after = time.monotonic() - start, resource.getrusage(resource.RUSAGE_CHILDREN)
     busy = after.ru_utime + after.ru_stime - used.ru_utime - used.ru_stime
@@ -435,8 +469,10 @@ def try_full_store(folder):
     says("check of a full store", said, (f"ok: {ACCOUNTS} accounts, {GAMES} games\n", 0))
     print(f"check of a full store: {seconds:.2f} s, {busy:.2f} s of a processor, {peak / 1024:.0f} MiB")
     server = Server(PROGRAM, path, 2)
-    print(f"a server over a full store: ready after {server.seconds:.2f} s, {server.processor():.2f} s of a processor, "
-          f"{server.peak() / 1024:.0f} MiB")
+    print(
+        f"a server over a full store: ready after {server.seconds:.2f} s, {server.processor():.2f} s of a processor, "
+        f"{server.peak() / 1024:.0f} MiB"
+    )
     link = server.enter("Newcomer")
     says("one account more", answers(link, "register x", r"^(Ok|refused \d+ \w+)")[0], "refused 47 AccountsFull")
     leave(link)
@@ -512,10 +548,8 @@ def main():
         try_full_store(folder)
         try_overfull_stores(folder)
         try_pace(folder)
-    if wrong:
-        sys.exit(f"wrong: {', '.join(wrong)}")
+    tale.end()
 
 
-PROGRAM = program_of(sys.argv[1:])
 if __name__ == "__main__":
     main()

@@ -1,14 +1,11 @@
-#!/usr/bin/python3
 """`./club` as somebody uses it who has just cloned it: the command, the page in Chromium, and a game against House by
 clicks, to mate. What is clicked is what Stockfish finds. No part of the gate.
 
-usage: try_club.py --pictures FOLDER [WORD..]; the words are those of ./club, as --unproved or --program FILE
-  Pictures of the page come into FOLDER, and what the club writes to the standard output. Ends with 0 where the game
-  ended by mate and the club in order.
-
-It needs Debian's python3-aiohttp, python3-selenium, chromium, chromium-driver and stockfish.
+It needs Debian's python3-aiohttp, python3-selenium, chromium, chromium-driver and stockfish. Ends with 0 where the game
+ended by mate and the club in order.
 """
 
+import argparse
 import asyncio
 import signal
 import subprocess
@@ -17,11 +14,9 @@ import threading
 import time
 from pathlib import Path
 
-sys.dont_write_bytecode = True
-TOP = Path(__file__).resolve().parents[2]
-sys.path.insert(0, str(TOP / "companions"))
-from engine_bot import clock, uci  # noqa: E402
-from web_tests import browser, places  # noqa: E402
+from ficsd_companions.bot import clock, uci
+from tests.kit import paths
+from tests.web import browser, places
 
 PORT = 25700
 START_SECONDS, GAME_SECONDS = 1800, 1500
@@ -33,8 +28,12 @@ class Club:
 
     def __init__(self, words):
         self.began = time.monotonic()
-        self.process = subprocess.Popen([TOP / "club", "--port", str(PORT), *words], stdout=subprocess.PIPE,
-                                        stderr=subprocess.STDOUT, text=True)
+        self.process = subprocess.Popen(
+            [paths.TOP / "club", "--port", str(PORT), *words],
+            stdout=subprocess.PIPE,
+            stderr=subprocess.STDOUT,
+            text=True,
+        )
         self.lines = []
         threading.Thread(target=self.read, daemon=True).start()
 
@@ -80,8 +79,10 @@ def is_over(window):
 
 def answered(before, after):
     """Whether a black man stands elsewhere than before."""
+
     def black(men):
         return {square: man for square, man in men.items() if man[0] == "b"}
+
     return any(black(before).get(square) != man for square, man in black(after).items())
 
 
@@ -102,7 +103,12 @@ def fen(men):
 
 
 def main():
-    pictures, words = Path(sys.argv[2]), sys.argv[3:]
+    parser = argparse.ArgumentParser(prog="trial club", description=__doc__.split("\n\n")[0])
+    parser.add_argument(
+        "--pictures", type=Path, required=True, metavar="FOLDER", help="where pictures of the page come"
+    )
+    chosen, words = parser.parse_known_args()  # the others are those of ./club, as --unproved or --program FILE
+    pictures = chosen.pictures
     pictures.mkdir(exist_ok=True)
     places.PATIENCE = 180
     club = Club(words)
