@@ -1,5 +1,6 @@
 """Programs that a test starts, and what they write."""
 
+import asyncio
 import os
 import re
 import signal
@@ -114,4 +115,15 @@ def wait_until(holds: Callable[[], bool], unless: Callable[[], bool] = lambda: F
         if time.monotonic() > deadline or unless() and not holds():
             return False
         time.sleep(LOOK_EVERY)
+    return True
+
+
+async def async_wait_until(holds: Callable[[], bool], unless: Callable[[], bool] = lambda: False,
+                           seconds: float = PATIENCE) -> bool:
+    """The same beside the other tasks of an event loop."""
+    deadline = time.monotonic() + seconds
+    while not holds():
+        if time.monotonic() > deadline or unless() and not holds():
+            return False
+        await asyncio.sleep(LOOK_EVERY)
     return True
