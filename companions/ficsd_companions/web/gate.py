@@ -1,8 +1,8 @@
 """Stands between a connection's socket and what reads it, so that nobody's bytes keep others waiting or heap up.
 
-Of each connection a small piece is read in one turn of the loop, and none of a tab whose last piece isn't dealt with, or
-of another connection whose requests aren't answered. A connection that doesn't get on is cut off; so is one for which
-there is no room, before a byte of it is read."""
+Of each connection a small piece is read in one turn of the loop, and none of a tab whose last piece isn't dealt with,
+or of another connection whose requests aren't answered. A connection that doesn't get on is cut off; so is one for
+which there is no room, before a byte of it is read."""
 
 import asyncio
 import socket

@@ -13,7 +13,7 @@ import re
 import sys
 from pathlib import Path
 
-from ficsd_companions.cli.program import BESIDE
+from ficsd_companions.cli.program import PAGE
 from ficsd_companions.cli.words import address, count, folder_with, port
 
 try:
@@ -62,7 +62,7 @@ def options() -> argparse.ArgumentParser:
     words.add_argument(
         "--web",
         type=folder_with("index.html"),
-        default=BESIDE / "page",
+        default=PAGE,
         metavar="FOLDER",
         help="the page's files: the folder page beside this program where it is left out",
     )
