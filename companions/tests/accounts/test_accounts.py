@@ -19,7 +19,8 @@ import time
 import unittest
 
 from tests.kit import paths, records
-from tests.kit.link import Link, free_port
+from tests.kit.link import Link
+from tests.kit.ports import free_port
 
 TOOL = [sys.executable, os.path.join(paths.COMPANIONS, "fics_accounts")]
 PATIENCE = 600

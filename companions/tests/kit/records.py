@@ -1,5 +1,4 @@
-#!/usr/bin/env python3
-"""Records of accounts and games, spelled byte by byte, and a store of many of them, for the scripts beside this file.
+"""Records of accounts and games, spelled byte by byte, and a store of many of them.
 
 A record of an account: the bytes 01 and 41, the handle behind its length, and the SHA-256 digest of the password. One
 of a game of chess: the bytes 01, 47 and 00, minutes and increment in seconds by two bytes each, the names of White and
@@ -9,15 +8,18 @@ moments of its thinking by eight bytes each, or 02, these, and the two stamps of
 pair begins with 02, 47 and 02, has four names, and before each half-move the number of its board. Numbers have the high
 byte first.
 
-usage: records.py FILE [--accounts N] [--games N] [--pairs] [--half-moves N]; makes a store of so many accounts (4,096)
-and games (10,000) between them, of chess or, with --pairs, of bughouse, whose knights go out and back for N half-moves
-on each board (80), stamped by their clients.
+`python3 -m tests.kit.records FILE` makes a store of many accounts and games between them, of chess or, with --pairs, of
+bughouse, whose knights go out and back on each board, stamped by their clients.
 """
 
 import argparse
 import hashlib
 import itertools
 import sqlite3
+from collections.abc import Iterable, Sequence
+from pathlib import Path
+
+Row = tuple[bytes, bytes]  # a key and its record
 
 TABLE = "CREATE TABLE records (key BLOB PRIMARY KEY NOT NULL, record BLOB NOT NULL) STRICT"
 # Anderssen against Kieseritzky, London 1851, up to the move before mate
@@ -30,7 +32,7 @@ AROUND = ("g1f3", "g8f6", "f3g1", "f6g8")
 PASSWORD = "secret"
 
 
-def handle_of(n):
+def handle_of(n: int) -> str:
     """The n-th handle: a capital and small letters."""
     letters = ""
     for _ in range(5):
@@ -39,21 +41,21 @@ def handle_of(n):
     return letters.capitalize()
 
 
-def name_text(name):
+def name_text(name: str) -> bytes:
     return bytes([len(name)]) + name.encode()
 
 
-def account(name, password):
+def account(name: str, password: str) -> Row:
     """The key and the record of an account."""
     record = b"\x01A" + name_text(name) + hashlib.sha256(password.encode()).digest()
     return b"a" + name.lower().encode(), record
 
 
-def square(word):
+def square(word: str) -> int:
     return "abcdefgh".index(word[0]) + 8 * (int(word[1]) - 1)
 
 
-def half_move(place, word):
+def half_move(place: int, word: str) -> bytes:
     """The half-move at this place of the list: each but the first of its colour was thought over for two seconds."""
     code = square(word[:2]) * 512 + square(word[2:]) * 8
     charge = b"\x00"
@@ -62,18 +64,18 @@ def half_move(place, word):
     return code.to_bytes(2, "big") + charge
 
 
-def game_key(number):
+def game_key(number: int) -> bytes:
     return b"g" + number.to_bytes(8, "big")
 
 
-def game(number, white, black, words):
+def game(number: int, white: str, black: str, words: Sequence[str]) -> Row:
     """The key and the record of a game of chess, 2 12."""
     record = b"\x01G\x00" + (2).to_bytes(2, "big") + (12).to_bytes(2, "big") + name_text(white) + name_text(black)
     record += len(words).to_bytes(2, "big") + b"".join(half_move(*it) for it in enumerate(words))
     return game_key(number), record
 
 
-def stamped(place, word):
+def stamped(place: int, word: str) -> bytes:
     """The half-move at this place of its board, with the stamps of its client where it has a charge."""
     text = half_move(place, word)
     if place < 2:
@@ -81,7 +83,7 @@ def stamped(place, word):
     return text[:2] + b"\x02" + text[3:] + (2000 * place).to_bytes(4, "big") + (2000 * place + 1900).to_bytes(4, "big")
 
 
-def around(boards, length):
+def around(boards: int, length: int) -> bytes:
     """How many half-moves there are, and all of them: so many on each board, on which the knights go out and back."""
     text = b""
     for place in range(length):
@@ -90,7 +92,7 @@ def around(boards, length):
     return (boards * length).to_bytes(2, "big") + text
 
 
-def make_store(path, rows):
+def make_store(path: Path | str, rows: Iterable[Row]) -> None:
     """Makes a store of these rows by SQLite, in the form that the server has."""
     table = sqlite3.connect(path)
     table.execute(TABLE)
@@ -99,7 +101,7 @@ def make_store(path, rows):
     table.close()
 
 
-def make_full_store(path, accounts, games):
+def make_full_store(path: Path | str, accounts: int, games: int) -> None:
     """Makes a store of so many accounts and games between them."""
     names = [handle_of(n) for n in range(accounts)]
     rows = [account(name, PASSWORD) for name in names]
@@ -111,7 +113,7 @@ def make_full_store(path, accounts, games):
     make_store(path, rows)
 
 
-def make_store_of_length(path, accounts, games, boards, length):
+def make_store_of_length(path: Path | str, accounts: int, games: int, boards: int, length: int) -> None:
     """Makes a store of so many accounts, and games between them on so many boards and of so many half-moves on each."""
     names = [handle_of(n) for n in range(accounts)]
     head = (b"\x02G\x02" if boards == 2 else b"\x01G\x00") + (2).to_bytes(2, "big") + (12).to_bytes(2, "big")
@@ -122,13 +124,13 @@ def make_store_of_length(path, accounts, games, boards, length):
     make_store(path, itertools.chain(rows, ((game_key(n), record) for n, record in enumerate(records, 1))))
 
 
-def main():
-    words = argparse.ArgumentParser(usage="records.py FILE [--accounts N] [--games N] [--pairs] [--half-moves N]")
-    words.add_argument("file")
-    words.add_argument("--accounts", type=int, default=4096)
-    words.add_argument("--games", type=int, default=10_000)
-    words.add_argument("--pairs", action="store_true")
-    words.add_argument("--half-moves", type=int, default=80)
+def main() -> None:
+    words = argparse.ArgumentParser(prog="records", description=__doc__.rpartition("\n\n")[2])
+    words.add_argument("file", metavar="FILE")
+    words.add_argument("--accounts", type=int, default=4096, metavar="N", help="%(default)s without it")
+    words.add_argument("--games", type=int, default=10_000, metavar="N", help="%(default)s without it")
+    words.add_argument("--pairs", action="store_true", help="games of bughouse")
+    words.add_argument("--half-moves", type=int, default=80, metavar="N", help="on each board, %(default)s without it")
     it = words.parse_args()
     make_store_of_length(it.file, it.accounts, it.games, 2 if it.pairs else 1, it.half_moves)
 

@@ -14,7 +14,8 @@ import time
 import unittest
 
 from tests.kit import paths, records
-from tests.kit.link import Link, free_port
+from tests.kit.link import Link
+from tests.kit.ports import free_port
 
 PATIENCE = 600
 PLAYERS = 24

@@ -6,41 +6,41 @@ import re
 import socket
 import time
 import urllib.request
+from pathlib import Path
+from typing import NoReturn
 
-from machine import FACE, FOLDER, PATIENCE, SERVER, WEB, comes, says, shell, shown
-from players import adjourn, enter, enter_again, resume
+from tests.kit.link import Link
+
+from .machine import FACE, FOLDER, PATIENCE, WEB, comes, says, shell, shown
+from .players import adjourn, enter, enter_again, resume
 
 MEMBERS = ("fics_bot", "fics_director", "fics_scribe")
 WITHOUT_A_STORE = (*MEMBERS, "fics_face", "fics_web")
 MOST_EXPOSED = 2.0  # of the ten points of `systemd-analyze security`
 WORDS = 'FICS_DIRECTOR_WORDS="--server 127.0.0.1:5000 --chief Ann --channel 5"'
 EVENING = "/var/lib/fics_director/evening.tourney"
-PLAYING = f"{FOLDER}/playing"
+PLAYING = FOLDER / "playing"
 
 
-def archive():
+def archive() -> str:
     """What the scribe's archive has."""
     return text_of("/var/lib/private/fics_scribe/*/*.pgn")
 
 
-def states_of_members():
+def states_of_members() -> list[str]:
     return [shown(it, "ActiveState") for it in MEMBERS]
 
 
-def members_up(name):
+def members_up(name: str) -> None:
     comes(f"{name}: the members are active", states_of_members, ["active"] * 3)
 
 
-def text_of(pattern):
+def text_of(pattern: str) -> str:
     """What the files that a pattern names have, one behind the other."""
-    texts = []
-    for path in glob.glob(pattern):
-        with open(path, encoding="utf-8") as file:
-            texts.append(file.read())
-    return "".join(texts)
+    return "".join(Path(it).read_text(encoding="utf-8") for it in glob.glob(pattern))
 
 
-def try_members():
+def try_members() -> None:
     """The members that a club enables; Ann plays House, which the scribe keeps, and joins the director's evening."""
     says("a director without words: it isn't started, and rests",
          (shell("systemctl start fics_director; sleep 8")[1], shown("fics_director", "ActiveState")), (0, "failed"))
@@ -65,7 +65,7 @@ def try_members():
     ann.link.close()
 
 
-def are_in(link, *names):
+def are_in(link: Link, *names: str) -> bool:
     """Whether these are in the hall."""
     link.say("who", "zzz")
     start = link.read
@@ -73,7 +73,7 @@ def are_in(link, *names):
     return set(names) <= set(link.lines[start:link.read])
 
 
-def try_doors():
+def try_doors() -> None:
     """The go-betweens let people in."""
     with socket.create_connection(("127.0.0.1", FACE), PATIENCE) as link:
         heard = b""
@@ -84,7 +84,7 @@ def try_doors():
         says("fics_web: it has the page", (page.status, b"<html" in page.read()), (200, True))
 
 
-def try_stop_with_members():
+def try_stop_with_members() -> None:
     """What runs beside the server is stopped with it, ends well, and is started with it."""
     shell("systemctl stop ficsd")
     says("members: they are stopped with the server, and end well",
@@ -94,7 +94,7 @@ def try_stop_with_members():
     members_up("started with the server")
 
 
-def try_exposures():
+def try_exposures() -> None:
     """Each unit reaches little of the machine, as systemd counts it."""
     for unit in (*WITHOUT_A_STORE, "fics_watch", "ficsd", "fics_server@blue"):
         said = shell(f"systemd-analyze security --no-pager {unit}")[0]
@@ -103,29 +103,29 @@ def try_exposures():
              level is not None and float(level[1]) < MOST_EXPOSED, True)
 
 
-def play_until_the_end():
+def play_until_the_end() -> NoReturn:
     """Ann and Ben play and one looks on, until the machine goes down."""
     ann, ben = enter_again()
     resume(ann, ben)
     other = enter("Cat")
     other.say("observe 1")
     other.until("^<12>")
-    with open(PLAYING, "w", encoding="utf-8"):
-        pass
+    PLAYING.touch()
     while True:
         time.sleep(PATIENCE)
 
 
-def reboot():
+def reboot() -> None:
     """Reboots the machine while people are in the hall, whose links nothing cuts but the stop of the server."""
     shell(f"rm -f {PLAYING}; systemd-run -q --unit=players -p DefaultDependencies=no "
-          f"-p StandardOutput=append:{FOLDER}/said /usr/bin/python3 {FOLDER}/inside.py {FOLDER} play")
+          f"-p StandardOutput=append:{FOLDER}/said -p WorkingDirectory={FOLDER} "
+          "/usr/bin/python3 -Bm trials.install.inside play")
     comes("a reboot: a game runs", lambda: shell(f"test -e {PLAYING}")[1], 0)
     shell("systemctl reboot")
     time.sleep(PATIENCE * 5)
 
 
-def behind_reboot():
+def behind_reboot() -> None:
     """What the journal has of the stop before it, and that all is there again."""
     lines = shell("journalctl -u ficsd -b -1 --output=cat")[0].splitlines()
     last = lines[max(at for at, it in enumerate(lines) if it.startswith("Started ")):]

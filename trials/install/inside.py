@@ -1,37 +1,36 @@
-#!/usr/bin/env python3
-"""Runs in a Debian machine that try_install.py has booted: sets the server up as its operators do, and looks that it
+"""Runs in a Debian machine that this trial has booted: sets the server up as its operators do, and looks that it
 starts, stops, comes back and keeps what it has.
 
-usage: inside.py FOLDER STOPS, with the lines of docs/OPERATING.md, the packages, older ones in the folder `older`, and
-link.py in that folder; STOPS is how many stops with a running game there are. Each line that it prints says what was
-tried; it ends with 1 where something came otherwise than it should. It reboots the machine once, and goes on behind
-that. `inside.py FOLDER play` is two people at a game, who stay.
+usage: inside.py STOPS, which is how many stops with a running game there are; the lines of docs/OPERATING.md, the
+packages and, in the folder `older`, older ones lie in /root/try. Each line that it prints says what was tried; it ends
+with 1 where something came otherwise than it should. It reboots the machine once, and goes on behind that.
+`inside.py play` is two people at a game, who stay.
 """
 
 import json
 import os
 import re
+import signal
 import socket
 import subprocess
 import sys
 import time
+from pathlib import Path
 
-sys.dont_write_bytecode = True
-sys.path.insert(0, os.path.abspath(sys.argv[1]))
-import machine  # noqa: E402
-import members  # noqa: E402
-from machine import (  # noqa: E402
+from . import members
+from .machine import (
     A_MOMENT, CLUB, CLUB_PAGE, FOLDER, PATIENCE, PROGRAM, SERVER, STORE, UNITS, all_up, check, comes, journal,
-    journal_length, listening, main_process, run_lines, says, servers, shell, shown, states)
-from players import adjourn, come_in_anew, enter, enter_again, play, register, resume  # noqa: E402
+    journal_length, listening, main_process, run_lines, says, servers, shell, shown, states, tale)
+from .players import adjourn, come_in_anew, enter, enter_again, play, register, resume
 
 WHOLE = "ok: 2 accounts, 1 games\n"  # what `check` says once two people have registered and their game is adjourned
 ALL_OF_ONE = "1 of the 1 that ran between players with accounts are among them"
-WRONG = os.path.join(FOLDER, "wrong")  # what came otherwise than it should before the machine was rebooted
-passed_over = []
+WRONG = FOLDER / "wrong"  # what came otherwise than it should before the machine was rebooted
+HOUSES = (Path("/usr/lib/ficsd"), Path("/usr/lib/ficsd-companions"))  # where the packages have what they run
+passed_over: list[str] = []
 
 
-def try_stop_and_start():
+def try_stop_and_start() -> None:
     shell("systemctl stop ficsd")
     says("stop: all are inactive", states(), ["inactive"] * 3)
     time.sleep(8)
@@ -48,16 +47,16 @@ def try_stop_and_start():
     says("restart: one server, and another one", (len(servers()), servers() != before), (1, True))
 
 
-def try_kills():
-    for name, found in (("the program", lambda: servers()[0]), ("the command that runs it", main_process)):
+def try_kills() -> None:
+    for name, is_program in (("the program", True), ("the command that runs it", False)):
         before = servers()
-        os.kill(int(found()), 9)
+        os.kill(int(before[0] if is_program else main_process()), signal.SIGKILL)
         comes(f"kill -9 of {name}: another one serves", lambda: len(servers()) == 1 and servers() != before, True)
         all_up(f"kill -9 of {name}")
         says(f"kill -9 of {name}: the store is good", check(), WHOLE)
 
 
-def cuts_links():
+def cuts_links() -> bool:
     """Whether this machine's kernel lets `ss -K` cut a link."""
     link = enter("Tester")
     link.link.settimeout(PATIENCE)
@@ -73,7 +72,7 @@ def cuts_links():
         link.link.close()
 
 
-def stop_with_game():
+def stop_with_game() -> tuple[str, str, list[str]]:
     """A stop while a game runs: how it ended, what is kept, and what the journal says of it."""
     since = journal_length()
     shell("systemctl stop ficsd")
@@ -81,7 +80,7 @@ def stop_with_game():
     return shown("ficsd", "Result"), check(), said
 
 
-def try_stops_with_game(stops):
+def try_stops_with_game(stops: int) -> None:
     """A game that runs as the server is stopped is there afterwards, each time."""
     ann, ben = come_in_anew()
     play(ann, ben)
@@ -101,7 +100,7 @@ def try_stops_with_game(stops):
     says("no address is in the journal", re.findall(r"127\.0\.0\.1:\d+|ESTAB", "\n".join(journal(0))), [])
 
 
-def try_backup():
+def try_backup() -> None:
     run_lines("backup")
     run_lines("hot")
     all_up("behind the copies")
@@ -114,7 +113,7 @@ def try_backup():
     says("restored: stored", ann.until("^1 .*").group(0), "1 Ann Ben 2 12 chess")
 
 
-def start_fails(name, status, means):
+def start_fails(name: str, status: int, means: str) -> None:
     """A start fails and says so, and all units rest or come back as that status has it."""
     since = journal_length()
     says(f"{name}: `systemctl start` fails", shell("systemctl start ficsd")[1] != 0, True)
@@ -122,7 +121,7 @@ def start_fails(name, status, means):
     says(f"{name}: the journal says what it means", means in "\n".join(journal(since)), True)
 
 
-def try_port_in_use():
+def try_port_in_use() -> None:
     done = subprocess.run(["ficsd", "serve", "--port", str(SERVER)], stdin=subprocess.DEVNULL, capture_output=True,
                           text=True)
     says("a second server: its status and a word", (done.returncode, "port is in use" in done.stderr), (8, True))
@@ -132,7 +131,7 @@ def try_port_in_use():
     all_up("behind a port in use")
 
 
-def try_bad_stores():
+def try_bad_stores() -> None:
     shell(f"systemctl stop ficsd; chown root:root {STORE}; chmod 600 {STORE}")
     start_fails("a store of somebody else", 4, "the store could not be opened")
     shell(f"chown ficsd:ficsd {STORE}")
@@ -147,7 +146,7 @@ def try_bad_stores():
     all_up("behind a bad record")
 
 
-def try_full_disk():
+def try_full_disk() -> None:
     """A stop over a disk that takes nothing, nor for files of a moment, says what is kept and that some is lost."""
     shell("systemctl stop ficsd; mount -t tmpfs -o size=2M,mode=700,uid=$(id -u ficsd),gid=$(id -g ficsd) tmpfs "
           "/var/lib/ficsd; mount -t tmpfs -o size=2M,mode=1777 tmpfs /tmp; systemctl start ficsd")
@@ -170,12 +169,12 @@ def try_full_disk():
     says("behind a full disk: the store", check(), WHOLE)
 
 
-def is_heard(port):
+def is_heard(port: int) -> bool:
     """Whether somebody listens there."""
     return f":{port} " in shell("ss -ltnH")[0]
 
 
-def try_club():
+def try_club() -> None:
     """A second club has a port and a store of its own, and its stop is as that of the first."""
     run_lines("club")
     comes("a second club: it listens", lambda: is_heard(CLUB), True)
@@ -190,7 +189,7 @@ def try_club():
     comes("a second club: its page is started with it", lambda: is_heard(CLUB_PAGE), True)
 
 
-def try_accounts():
+def try_accounts() -> None:
     words = "fics_accounts password ann"
     says("a password while the server runs", shell(f"printf 'tuna\\ntuna\\n' | {words}")[1], 1)
     shell("systemctl stop ficsd")
@@ -203,7 +202,7 @@ def try_accounts():
     all_up("behind passwords")
 
 
-def try_watch():
+def try_watch() -> None:
     says("a watch: all is well", (shell("systemctl start fics_watch")[1], shown("fics_watch", "Result")),
          (0, "success"))
     text, status = shell(f"fics_watch --port {SERVER} --shelf 0")
@@ -211,11 +210,11 @@ def try_watch():
     says("a watch: its timer is on", shown("fics_watch.timer", "ActiveState"), "active")
 
 
-def version(package):
+def version(package: str) -> str:
     return shell(f"dpkg-query -W -f '${{Version}}' {package}")[0]
 
 
-def try_update():
+def try_update() -> None:
     """The packages are replaced while a game runs, which is kept."""
     says("cp over a running program is refused", shell(f"cp {PROGRAM} /tmp/it && cp /tmp/it {PROGRAM}")[1], 1)
     before, games = version("ficsd"), check()
@@ -234,7 +233,7 @@ def try_update():
     members.members_up("update")
 
 
-def try_removal():
+def try_removal() -> None:
     whole = check()
     shell("apt-get remove -y ficsd ficsd-companions")
     says("remove: nobody listens, and no process is left", (listening(), servers()), ([], []))
@@ -245,21 +244,22 @@ def try_removal():
     says("purge: it says where the store and the archive lie",
          (status, "stay, in /var/lib/ficsd" in text, "stays, in /var/lib/private/fics_scribe" in text), (0, True, True))
     says("purge: the store and the archive stay", (os.path.exists(STORE), members.archive() != ""), (True, True))
+    says("purge: nothing else is left of what was run", [it for it in HOUSES if it.exists()], [])
     shell(f"cd {FOLDER} && apt-get install -y ./ficsd_*.deb ./ficsd-companions_*.deb")
     all_up("installed anew")
     says("installed anew: the store is taken up", check(), whole)
 
 
-def tell_end():
+def tell_end() -> int:
     for it in passed_over:
-        print(f"NOT TRIED: {it}", flush=True)
-    print("\n".join(f"WRONG: {it}" for it in machine.wrong) or "all came as it should", flush=True)
-    return 1 if machine.wrong or passed_over else 0
+        tale.saw(f"NOT TRIED: {it}")
+    tale.saw("\n".join(f"WRONG: {it}" for it in tale.losses) or "all came as it should")
+    return 1 if tale.losses or passed_over else 0
 
 
-def begin(stops):
+def begin(stops: int) -> int:
     """All up to the reboot, behind which this script is started again."""
-    run_lines("setup", os.path.join(FOLDER, "older"))
+    run_lines("setup", FOLDER / "older")
     all_up("set up")
     says("--version says the revision", shell("ficsd --version")[0].startswith("ficsd "), True)
     members.try_doors()
@@ -272,15 +272,14 @@ def begin(stops):
     for act in (try_kills, try_backup, try_port_in_use, try_bad_stores, try_full_disk, try_accounts, try_watch,
                 try_club, members.try_members, members.try_stop_with_members):
         act()
-    with open(WRONG, "w", encoding="utf-8") as file:
-        json.dump(machine.wrong, file)
-    return members.reboot()
+    WRONG.write_text(json.dumps(tale.losses), encoding="utf-8")
+    members.reboot()
+    return 1
 
 
-def go_on():
+def go_on() -> int:
     """All behind the reboot."""
-    with open(WRONG, encoding="utf-8") as file:
-        machine.wrong += json.load(file)
+    tale.losses += json.loads(WRONG.read_text(encoding="utf-8"))
     all_up("behind a reboot")
     members.behind_reboot()
     try_update()
@@ -288,10 +287,10 @@ def go_on():
     return tell_end()
 
 
-def main():
-    if sys.argv[2:] == ["play"]:
-        return members.play_until_the_end()
-    return go_on() if os.path.exists(WRONG) else begin(int(sys.argv[2]))
+def main() -> int:
+    if sys.argv[1:] == ["play"]:
+        members.play_until_the_end()
+    return go_on() if WRONG.exists() else begin(int(sys.argv[1]))
 
 
 if __name__ == "__main__":
