@@ -7,7 +7,7 @@ import signal
 import subprocess
 import threading
 import time
-from collections.abc import Callable
+from collections.abc import Callable, Mapping
 from pathlib import Path
 from typing import IO, Any
 
@@ -127,3 +127,9 @@ async def async_wait_until(holds: Callable[[], bool], unless: Callable[[], bool]
             return False
         await asyncio.sleep(LOOK_EVERY)
     return True
+
+
+def ended(*words: object, given: str = "", env: Mapping[str, str] | None = None) -> subprocess.CompletedProcess[str]:
+    """A program that has ended by itself: what it has said to what it was given, and its status."""
+    line = [str(it) for it in words]
+    return subprocess.run(line, input=given, capture_output=True, text=True, timeout=PATIENCE, env=env, check=False)

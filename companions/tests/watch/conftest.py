@@ -12,9 +12,8 @@ import pytest
 from tests.kit import paths, records
 from tests.kit.link import Link
 from tests.kit.ports import free_port
-from tests.kit.running import Run, wait_until
+from tests.kit.running import PATIENCE, Run, ended, wait_until
 
-PATIENCE = 600
 PLAYERS = 24
 
 Words = tuple[object, ...]
@@ -34,11 +33,8 @@ def full(call: str) -> Words:
 
 
 def run(name: str, *words: object, ahead: Words = (), env: dict[str, str] | None = None) -> Done:
-    """What a program has said once it has ended."""
-    line = [str(it) for it in (*ahead, paths.companion(name), *words)]
-    return subprocess.run(
-        line, stdin=subprocess.DEVNULL, capture_output=True, text=True, timeout=PATIENCE, env=env, check=False
-    )
+    """What a program of companions/ has said once it has ended."""
+    return ended(*ahead, paths.companion(name), *words, env=env)
 
 
 class Club:
