@@ -1,6 +1,6 @@
 """What is told of the archive: for each place an object, as its page reads it."""
 
-from typing import Any
+import os
 
 from . import search
 from .addresses import Place
@@ -9,14 +9,14 @@ from .index import Index, Player
 from .kept import Kept, Span
 from .search import Wish
 
-Told = dict[str, Any]
+Told = dict[str, object]  # as JSON has it
 NEWEST_DAYS = 30
 
 
 class Archive:
     """The archive in a folder. Each call looks at first whether there is anything new."""
 
-    def __init__(self, folder: str) -> None:
+    def __init__(self, folder: str | os.PathLike[str]) -> None:
         self.index = Index(folder)
 
     def has(self, place: Place) -> bool:
@@ -38,15 +38,15 @@ class Archive:
             return self._day(wish, place.day)
         if place.kind == "player":
             player = self.index.player(place.name)
-            return player and self._player(wish, player)
+            return self._player(wish, player) if player else None
         game = self.index.game(place.day, place.number)
-        return game and self._game(game)
+        return self._game(game) if game else None
 
     def pgn(self, place: Place) -> bytes | None:
         """A game's PGN, as it stands in its file."""
         self.index.refresh()
         game = self.index.game(place.day, place.number)
-        return game and text_of(game)
+        return text_of(game) if game else None
 
     def last(self, white: str, black: str) -> Kept | None:
         """The newest game with these two as White and Black."""
@@ -64,10 +64,15 @@ class Archive:
         rows = self._rows(Wish(name=name, other=other, variant=wish.variant, result=wish.result, before=wish.before))
         known = self.index.known_days
         newest = [[it, len(self.index.days[it])] for it in reversed(known[-NEWEST_DAYS:])]
-        players = search.players(self.index, name)[:search.MOST_PLAYERS] if name else []
-        return {"count": self.index.count, "days": newest, "firstDay": known[0] if known else None,
-                "lastDay": known[-1] if known else None, "players": [[it.name, len(it.games)] for it in players],
-                **rows}
+        players = search.players(self.index, name)[: search.MOST_PLAYERS] if name else []
+        return {
+            "count": self.index.count,
+            "days": newest,
+            "firstDay": known[0] if known else None,
+            "lastDay": known[-1] if known else None,
+            "players": [[it.name, len(it.games)] for it in players],
+            **rows,
+        }
 
     def _day(self, wish: Wish, day: str) -> Told | None:
         earlier, later = self.index.days_beside(day)
@@ -84,8 +89,17 @@ class Archive:
     def _game(self, game: Kept) -> Told | None:
         text = text_of(game)
         earlier, later = self.index.beside(game)
-        return text and {"link": game.link, "pgn": text.decode("utf-8", "replace"), "earlier": earlier and earlier.link,
-                         "later": later and later.link, "pair": self._pair(game)}
+        return (
+            {
+                "link": game.link,
+                "pgn": text.decode("utf-8", "replace"),
+                "earlier": earlier and earlier.link,
+                "later": later and later.link,
+                "pair": self._pair(game),
+            }
+            if text
+            else None
+        )
 
     def _pair(self, game: Kept) -> Told | None:
         """The other board of a pair, and the order of the half-moves of both."""
@@ -100,8 +114,17 @@ class Archive:
 
 def row_of(game: Kept) -> Told:
     """A game's row in a list."""
-    return {"link": game.link, "white": game.white, "black": game.black, "result": game.result, "variant": game.variant,
-            "control": game.control, "halfMoves": game.half_moves, "time": game.time, "partner": game.partner}
+    return {
+        "link": game.link,
+        "white": game.white,
+        "black": game.black,
+        "result": game.result,
+        "variant": game.variant,
+        "control": game.control,
+        "halfMoves": game.half_moves,
+        "time": game.time,
+        "partner": game.partner,
+    }
 
 
 def text_of(game: Kept) -> bytes | None:

@@ -39,7 +39,7 @@ class Read:
 
     def __init__(self, before: "Read | None") -> None:
         self.state = (0, 0, 0)
-        self.end = before.end if before else 0  # behind the last whole game
+        self.end: int = before.end if before else 0  # behind the last whole game
         self.tail = b""  # the last bytes before that
         self.pairs: dict[str, Span] = dict(before.pairs) if before else {}
 
@@ -77,8 +77,10 @@ class Index:
         """The days with games before and behind a day."""
         at = bisect_left(self.known_days, day)
         behind = at + (day in self.days)
-        return (self.known_days[at - 1] if at else None,
-                self.known_days[behind] if behind < len(self.known_days) else None)
+        return (
+            self.known_days[at - 1] if at else None,
+            self.known_days[behind] if behind < len(self.known_days) else None,
+        )
 
     def player(self, name: str) -> Player | None:
         return self.players.get(name.casefold())
@@ -131,8 +133,12 @@ class Index:
 
     def _has_grown(self, known: Read, file: DayFile) -> bool:
         """Whether what was read of a file still stands there, and more behind it."""
-        return (known.state[0] == file.state[0] and known.end <= file.size and known.state[1] < file.size
-                and bytes_of(file.path, max(0, known.end - TAIL), min(TAIL, known.end)) == known.tail)
+        return (
+            known.state[0] == file.state[0]
+            and known.end <= file.size
+            and known.state[1] < file.size
+            and bytes_of(file.path, max(0, known.end - TAIL), min(TAIL, known.end)) == known.tail
+        )
 
     def _games(self, file: DayFile, read: Read) -> Iterable[Kept]:
         path = self._texts.of(file.path)

@@ -81,9 +81,19 @@ def kept_of(day: str, head: bytes, movetext: bytes, span: Span, texts: Texts) ->
     if not link or link[1] != day or not variant or not white or not black:
         return None
     result, partner = said(b"Result"), said(b"Partner")
-    return Kept(day, int(link[2]), texts.of(white), texts.of(black), texts.of(result if result in RESULTS else "*"),
-                variant, texts.of(said(b"TimeControl", b"-")), movetext.count(HALF_MOVE), texts.of(said(b"Time")[:5]),
-                partner if is_link(partner) else "", span)
+    return Kept(
+        day,
+        int(link[2]),
+        texts.of(white),
+        texts.of(black),
+        texts.of(result if result in RESULTS else "*"),
+        variant,
+        texts.of(said(b"TimeControl", b"-")),
+        movetext.count(HALF_MOVE),
+        texts.of(said(b"Time")[:5]),
+        partner if is_link(partner) else "",
+        span,
+    )
 
 
 def pair_of(head: bytes) -> str:

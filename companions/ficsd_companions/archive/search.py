@@ -33,8 +33,11 @@ class Wish:
 
     def has(self, game: Kept) -> bool:
         """Whether a game is one of those; which days and which players' are looked through is no part of it."""
-        return ((not self.variant or game.variant == self.variant) and (not self.result or game.result == self.result)
-                and (not self.name or are_in(game.players, self.name, self.other)))
+        return (
+            (not self.variant or game.variant == self.variant)
+            and (not self.result or game.result == self.result)
+            and (not self.name or are_in(game.players, self.name, self.other))
+        )
 
 
 class Found(NamedTuple):
@@ -80,8 +83,8 @@ def looked_through(index: Index, wish: Wish) -> Iterable[Kept]:
         lists = [backwards(it.games, cursor) for it in players(index, wish.name)]
         return each_once(merge(*lists, reverse=True))
     days = [wish.day] if wish.day else reversed(index.known_days)
-    lists = (index.days.get(it, []) for it in days if not cursor or it <= cursor[0])
-    return (game for games in lists for game in backwards(games, cursor))
+    looked = (index.days.get(it, []) for it in days if not cursor or it <= cursor[0])
+    return (game for games in looked for game in backwards(games, cursor))
 
 
 def found(index: Index, wish: Wish, most: int = A_PAGE) -> Found:

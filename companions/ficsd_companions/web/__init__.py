@@ -8,5 +8,6 @@ go-between's own, `talk` says whose answer comes, `kept` has what a tab wasn't t
 server, `link` a tab and its server's end, `seats` what is held for a tab that is gone. What the server writes is cut
 and read by `ficslink`, which also knows stamped lines.
 
-All links: `asking` says when news are asked for, `lists` asks for what all tabs show, `pages` are the files and their
-headers, `archived` the games of an archive, `logs` what is logged, `hall` has all of it."""
+All links: `tabs` lets tabs in and gives them their seats, `asking` says when news are asked for, `lists` asks for what
+all tabs show, `pages` are the files and their headers, `archived` the games of an archive, `logs` what is logged.
+`server` serves all of it by what `settings` say, which `run` reads off the command line."""

@@ -3,12 +3,18 @@
 import asyncio
 import json
 import logging
+from collections.abc import Callable
 from concurrent.futures import ThreadPoolExecutor
+from functools import partial
+from pathlib import Path
+from typing import NoReturn, ParamSpec, TypeVar
 from urllib.parse import urlencode
 
 from aiohttp import web
-from ficsd_companions.archive.addresses import LAST, PAGE, place_of
+from ficsd_companions.archive.addresses import LAST, PAGE, Place, place_of
 from ficsd_companions.archive.answers import Archive
+
+from .pages import Pages
 
 BEGINNING = "/games"
 SHELL = "games.html"
@@ -16,38 +22,41 @@ A_LIST = 16  # requests as which a list counts, for which perhaps all games are 
 MOST_ASKED = 100  # characters of each thing that an address asks for
 ASKED = ("name", "other", "variant", "result", "before", "white", "black", "half-moves")
 
+P = ParamSpec("P")
+T = TypeVar("T")
+
 logger = logging.getLogger("fics_web")
 
 
 class Archived:
     """Answers by a thread of its own, so that nobody's move waits while files are read."""
 
-    def __init__(self, folder, pages, take):
+    def __init__(self, folder: Path, pages: Pages, take: Callable[[web.BaseRequest, int], bool]) -> None:
         """`take(request, n)` counts a request as n more of its address: whether that has so many."""
         self.archive, self.pages, self.take = Archive(folder), pages, take
         self.thread = ThreadPoolExecutor(1, "archive")
 
-    def add_routes(self, router):
+    def add_routes(self, router: web.UrlDispatcher) -> None:
         router.add_get(BEGINNING, self.lead)
         router.add_get(BEGINNING + "/{path:.*}", self.serve)
 
-    async def begin(self):
+    async def begin(self) -> None:
         """Reads the archive before anybody asks for it."""
         try:
             await self.ask(self.archive.index.refresh)
         except Exception:  # the page is served all the same
             logger.exception("fics_web: the archive couldn't be read")
 
-    def end(self):
+    def end(self) -> None:
         self.thread.shutdown(wait=False, cancel_futures=True)
 
-    def ask(self, question, *words):
-        return asyncio.get_running_loop().run_in_executor(self.thread, question, *words)
+    def ask(self, question: Callable[P, T], *words: P.args, **named: P.kwargs) -> asyncio.Future[T]:
+        return asyncio.get_running_loop().run_in_executor(self.thread, partial(question, *words, **named))
 
-    async def lead(self, _request):
+    async def lead(self, _request: web.Request) -> NoReturn:
         raise web.HTTPMovedPermanently(BEGINNING + "/")
 
-    async def serve(self, request):
+    async def serve(self, request: web.Request) -> web.Response:
         """A page, with status 404 where it has nothing to show; 404 alone for what is no place of the archive."""
         place = place_of(request.match_info["path"])
         if not place:
@@ -60,7 +69,7 @@ class Archived:
             return self.pages.answer(request, SHELL, 200 if is_there else 404)
         return await (self.pgn(place) if place.form == "pgn" else self.told(request, place, asked))
 
-    async def told(self, request, place, asked):
+    async def told(self, request: web.Request, place: Place, asked: dict[str, str]) -> web.Response:
         """What a page shows, as JSON."""
         if place.kind != "game" and not self.take(request, A_LIST):
             raise web.HTTPTooManyRequests(text="too many requests from this address")
@@ -69,16 +78,21 @@ class Archived:
             raise web.HTTPNotFound
         return web.Response(text=json.dumps(told, separators=(",", ":")), content_type="application/json")
 
-    async def pgn(self, place):
+    async def pgn(self, place: Place) -> web.Response:
         """A game as a file to take along."""
         text = await self.ask(self.archive.pgn, place)
         if text is None:
             raise web.HTTPNotFound
         name = f"{place.day}-{place.number}.pgn"
-        return web.Response(body=text, headers={"Content-Type": "application/x-chess-pgn; charset=utf-8",
-                                                "Content-Disposition": f'attachment; filename="{name}"'})
+        return web.Response(
+            body=text,
+            headers={
+                "Content-Type": "application/x-chess-pgn; charset=utf-8",
+                "Content-Disposition": f'attachment; filename="{name}"',
+            },
+        )
 
-    def address_of_last(self, asked):
+    def address_of_last(self, asked: dict[str, str]) -> str:
         """Where the game is that two have just ended, or as long as it isn't written all of theirs."""
         game = self.archive.last(asked["white"], asked["black"])
         if game and (game.result, str(game.half_moves)) == (asked["result"], asked["half-moves"]):

@@ -1,13 +1,15 @@
 """Stands between a connection's socket and what reads it, so that nobody's bytes keep others waiting or heap up.
 
-Of each connection a small piece is read in one turn of the loop, and none of a tab whose last piece isn't dealt with, or
-of another connection whose requests aren't answered. A connection that doesn't get on is cut off; so is one for which
-there is no room, before a byte of it is read."""
+Of each connection a small piece is read in one turn of the loop, and none of a tab whose last piece isn't dealt with,
+or of another connection whose requests aren't answered. A connection that doesn't get on is cut off; so is one for
+which there is no room, before a byte of it is read."""
 
 import asyncio
 import socket
+from typing import Protocol
 
-from ficsd_companions.limits.pace import Flood
+from aiohttp import web
+from ficsd_companions.limits.pace import Flood, Pace
 
 PIECE, TAB_PIECE = 256, 96  # bytes; a tab's may be as many messages as a sixth of that
 MOST_IN_PIECES = 8192  # bytes without a whole message, which is longer than the longest one
@@ -17,23 +19,42 @@ ASKING_SECONDS = 10  # for a request to come
 ANSWERED_SECONDS = 60  # for its answer to go, and the next request to come
 
 
+class Doorkeeper(Protocol):
+    """Who lets connections in, and is told of them."""
+
+    def lets_in(self, gate: "Gate") -> bool:
+        """Whether a connection may come."""
+
+    def lets_out(self, gate: "Gate") -> None:
+        """A connection that was let in is gone."""
+
+    def has_tab(self, gate: "Gate") -> None:
+        """A connection has become a tab."""
+
+
 class Gate(asyncio.BufferedProtocol):
     """One connection. `porter` says whether it may come; `handler` is the protocol that it is for."""
 
     room = memoryview(bytearray(PIECE))  # one for all, since what is read is taken at once
 
-    def __init__(self, porter, handler):
+    transport: asyncio.Transport
+    socket: socket.socket
+    peer: str  # its address
+    pace: Pace  # of a tab
+    flooded: asyncio.Future[None] | None = None  # which ends where a tab has sent too much
+
+    def __init__(self, porter: Doorkeeper, handler: asyncio.Protocol) -> None:
         self.porter, self.handler = porter, handler
-        self.transport = self.socket = self.timer = self.peer = None
+        self.timer: asyncio.TimerHandle | None = None
         self.is_in = self.is_lost = self.is_tab = self.is_at_work = self.is_held = self.goes_on = False
-        self.pace = self.flooded = None
         self.unfinished = 0  # bytes since the last whole message
         self.asked = self.answered = 0  # requests
         self.ends_line = False  # whether the last byte that was read ends a line of a request
 
     # ---- what the loop calls ----
 
-    def connection_made(self, transport):
+    def connection_made(self, transport: asyncio.BaseTransport) -> None:
+        assert isinstance(transport, asyncio.Transport)
         self.transport = transport
         self.peer = transport.get_extra_info("peername")[0]
         if not self.porter.lets_in(self):
@@ -46,112 +67,120 @@ class Gate(asyncio.BufferedProtocol):
         self.expect(ASKING_SECONDS)
         self.handler.connection_made(transport)
 
-    def get_buffer(self, _hint):
+    def get_buffer(self, sizehint: int) -> memoryview:
         return self.room[:TAB_PIECE] if self.is_tab else self.room
 
-    def buffer_updated(self, length):
+    def buffer_updated(self, nbytes: int) -> None:
         if not self.is_in:
             return
-        if self.pace and self.flooded and not self.flooded.done():
+        if self.flooded and not self.flooded.done():
             try:
-                self.count_piece(length)
+                self.count_piece(nbytes)
             except Flood as flood:
                 self.flooded.set_exception(flood)
                 self.hold()
                 return
-        piece = bytes(self.room[:length])
+        piece = bytes(self.room[:nbytes])
         if not self.is_tab:
             self.count_requests(piece)
         self.handler.data_received(piece)
         if self.is_at_work if self.is_tab else self.asked > self.answered:
             self.hold()
 
-    def count_requests(self, piece):
+    def count_requests(self, piece: bytes) -> None:
         """Counts the requests that end in a piece, each with an empty line. The handler would take any number of them
         ahead of its answers."""
         lines = (b"\n" if self.ends_line else b"") + piece.replace(b"\r", b"")
         self.asked += lines.count(b"\n\n")
         self.ends_line = lines.endswith(b"\n") and not lines.endswith(b"\n\n")
 
-    def count_piece(self, length):
+    def count_piece(self, length: int) -> None:
         self.pace.piece(length)
         self.unfinished += length
         if self.unfinished > MOST_IN_PIECES:
             raise Flood(f"a flood: more than {MOST_IN_PIECES} bytes that are no whole message")
 
-    def eof_received(self):
+    def eof_received(self) -> bool | None:
         return self.handler.eof_received() if self.is_in else None
 
-    def pause_writing(self):
+    def pause_writing(self) -> None:
         self.handler.pause_writing()
 
-    def resume_writing(self):
+    def resume_writing(self) -> None:
         self.handler.resume_writing()
 
-    def connection_lost(self, why):
+    def connection_lost(self, exc: Exception | None) -> None:
         self.is_lost = True
         if self.is_in:
             self.expect(None)
             self.porter.lets_out(self)
-            self.handler.connection_lost(why)
+            self.handler.connection_lost(exc)
 
     # ---- what the go-between calls ----
 
-    def expect(self, seconds):
+    def expect(self, seconds: float | None) -> None:
         """Cuts the connection off in so many seconds, unless something else is expected by then."""
         if self.timer:
             self.timer.cancel()
-        self.timer = seconds and asyncio.get_running_loop().call_later(seconds, self.abort)
+        self.timer = asyncio.get_running_loop().call_later(seconds, self.abort) if seconds else None
 
-    def has_asked(self):
+    def has_asked(self) -> None:
         """A request has come; its answer is to go."""
         if not self.is_tab:
             self.expect(ANSWERED_SECONDS)
 
-    def has_answered(self):
+    def has_answered(self) -> None:
         """The answer to a request is made, and more may be read behind the last one."""
         self.answered += 1
         if not self.is_tab and self.answered >= self.asked:
             self.free()
 
-    def abort(self):
+    def abort(self) -> None:
         """Ends the connection at once, whatever wasn't written."""
         self.transport.abort()
 
     @property
-    def unsent(self):
+    def unsent(self) -> int:
         """How many bytes wait for the socket."""
         return self.transport.get_write_buffer_size()
 
-    def become_tab(self):
+    def become_tab(self) -> None:
         """From now on the connection is a tab, of which no more is read until it is `free`."""
         self.expect(None)
         self.is_tab = self.is_at_work = True
         self.porter.has_tab(self)
 
-    def count(self, pace):
+    def count(self, pace: Pace) -> asyncio.Future[None]:
         """Counts the bytes of the tab. What is returned ends with a `Flood` where there are too many."""
         self.pace, self.flooded = pace, asyncio.get_running_loop().create_future()
         return self.flooded
 
-    def free(self):
+    def free(self) -> None:
         """What was read is about to be dealt with, and then more may be read."""
         self.is_at_work = False
         if self.is_held and not self.goes_on:
             self.goes_on = True
             asyncio.get_running_loop().call_soon(self.go_on)
 
-    def busy(self):
+    def busy(self) -> None:
         """A message was read that isn't dealt with."""
         self.is_at_work = True
         self.unfinished = 0
 
-    def hold(self):
+    def hold(self) -> None:
         self.is_held = True
         self.transport.pause_reading()
 
-    def go_on(self):
+    def go_on(self) -> None:
         self.goes_on = False
         if self.is_held and not self.is_at_work and not self.transport.is_closing():
             self.is_held = False
             self.transport.resume_reading()
+
+
+def gate_of(request: web.BaseRequest) -> Gate:
+    """The gate by which a request has come; `ConnectionResetError` where the connection is gone."""
+    gate = request.transport and request.transport.get_protocol()
+    if not isinstance(gate, Gate):
+        raise ConnectionResetError
+    return gate

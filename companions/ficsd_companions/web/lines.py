@@ -9,7 +9,7 @@ class NoLine(Exception):
     """A message that is no line; its text says why, as the reason of a close (at most 123 bytes)."""
 
 
-def line_of(text):
+def line_of(text: str) -> bytes:
     """The bytes of a line. Characters above 255 are those of UTF-8, which the server refuses as it does any accent."""
     try:
         line = text.encode("latin-1")

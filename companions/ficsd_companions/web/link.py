@@ -1,14 +1,18 @@
 """One tab: its WebSocket, and its link to the server."""
 
 import asyncio
+from collections.abc import Awaitable
 
-from aiohttp import WSCloseCode, WSMsgType
+from aiohttp import WSCloseCode, WSMessage, WSMsgType, web
+from ficsd_companions.limits.addresses import Address
 from ficsd_companions.limits.pace import Flood, Pace
 
 from . import closes, seats
 from .closes import Closed
-from .gate import UNSENT_AGAIN
+from .gate import UNSENT_AGAIN, Gate
 from .lines import NoLine
+from .lists import Lists
+from .server_end import ServerEnd
 
 # a tab that is cut off without a word is noticed by this, and a proxy takes no link for idle
 SIGNS_SECONDS, SIGN_WITHIN_SECONDS = 30, 15
@@ -30,25 +34,34 @@ class Gone(Exception):
 class Link:
     """Both directions of one link. Neither is read while the other one can't be written to."""
 
-    def __init__(self, tab, gate, server, address, lists=None):
+    def __init__(
+        self, tab: web.WebSocketResponse, gate: Gate, server: ServerEnd, address: Address, lists: Lists | None = None
+    ) -> None:
         self.tab, self.gate, self.server, self.talk = tab, gate, server, server.talk
         self.address, self.all_lists = address, lists  # which a tab with a seat may ask for
         self.pace = Pace(gate.socket)
         self.heard = self.unanswered = 0  # messages of the tab; pings that it hasn't answered
-        self.wants_lists, self.lists = False, {}  # of each list the rows that the tab was told
-        self.code = WSCloseCode.OK  # for the close
-        self.replaced = asyncio.get_running_loop().create_future()
+        self.wants_lists = False
+        self.lists: dict[str, list[str]] = {}  # of each list the rows that the tab was told
+        self.code: int = WSCloseCode.OK  # for the close
+        self.replaced: asyncio.Future[None] = asyncio.get_running_loop().create_future()
         self.has_ended = asyncio.Event()
 
-    async def run(self):
+    async def run(self) -> bool:
         """Runs until one side has closed, and closes the tab, which is done behind all that the server wrote: whether
         the tab may come back."""
-        watches = self.up(), self.down(), self.signs(), self.login(), self.replaced, self.gate.count(self.pace)
-        up, *_ = tasks = [asyncio.ensure_future(it) for it in watches]
+        up = asyncio.create_task(self.up())
+        watches = [asyncio.create_task(it) for it in (self.down(), self.signs(), self.login())]
+        tasks: list[asyncio.Future[bool] | asyncio.Future[None]] = [
+            up,
+            *watches,
+            self.replaced,
+            self.gate.count(self.pace),
+        ]
         try:
             await asyncio.wait(tasks, return_when=asyncio.FIRST_COMPLETED)
             why = next((it.exception() for it in tasks if it.done() and it.exception()), None)
-            may_come_back = up.done() and not why and up.result() or isinstance(why, (Gone, OSError))
+            may_come_back = up.result() if up.done() and not why else isinstance(why, (Gone, OSError))
         finally:
             for it in tasks:
                 it.cancel()
@@ -59,7 +72,7 @@ class Link:
         await self.close(why)
         return may_come_back
 
-    async def close(self, why):
+    async def close(self, why: BaseException | None) -> None:
         """Closes the tab, for a reason or since one side has closed."""
         if isinstance(why, Closed):
             await goodbye(self.tab, self.gate, why.code, str(why))
@@ -70,14 +83,14 @@ class Link:
         else:
             self.gate.abort()
 
-    def give_way(self):
+    def give_way(self) -> None:
         """Another tab has taken the seat."""
         if not self.replaced.done():
             self.replaced.set_exception(closes.closed(closes.TAKEN))
 
     # ---- from the tab to the server ----
 
-    async def up(self):
+    async def up(self) -> bool:
         """From the tab to the server, until the tab has closed: whether it may come back."""
         while True:
             self.gate.free()
@@ -94,33 +107,33 @@ class Link:
                 self.take_close(message)
                 return message.type == WSMsgType.CLOSED or message.data not in (None, WSCloseCode.OK)
 
-    def take_close(self, message):
+    def take_close(self, message: WSMessage) -> None:
         """A tab that closes hears its own code again: Firefox tells it to the page that is being left, which doesn't
         keep its seat where the code is that of a wish."""
         if message.type == WSMsgType.CLOSE:
             self.code = message.data or WSCloseCode.OK
 
-    async def take(self, text):
+    async def take(self, text: str) -> None:
         """Takes a text message: a line, or what is for the go-between alone."""
         await self.pace.line()
         if self.all_lists and text.startswith(seats.MARK):
-            self.take_wish(seats.fields_of(text))
+            self.take_wish(self.all_lists, seats.fields_of(text))
             return
         try:
             await (self.pass_on(text) if self.talk.name else self.log_in(text))
         except NoLine as why:
             raise Closed(WSCloseCode.POLICY_VIOLATION, str(why)) from None
 
-    def take_wish(self, fields):
+    def take_wish(self, all_lists: Lists, fields: dict[str, object]) -> None:
         """Takes what is for the go-between alone."""
         self.wants_lists, self.lists = fields.get("lists") is True, {}
         if self.wants_lists:
-            self.all_lists.want()
+            all_lists.want()
 
-    async def pass_on(self, text):
+    async def pass_on(self, text: str) -> None:
         await self.server.write(self.talk.from_tab(text))
 
-    async def log_in(self, text):
+    async def log_in(self, text: str) -> None:
         """Passes on a line before the login is done. Each waits for the answer to the one before, and a password for
         its time besides, so that nobody tries many."""
         await self.settle()
@@ -133,12 +146,12 @@ class Link:
             if self.talk.name:
                 self.address.guesses.give_back()
 
-    async def settle(self):
+    async def settle(self) -> None:
         """Waits until the server owes no answer."""
         while not self.talk.is_settled and not self.server.is_over:
             await self.server.progress()
 
-    async def take_sign(self, message):
+    async def take_sign(self, message: WSMessage) -> None:
         """Takes a ping or a pong. Of pings to whose sender much is due none is answered: it has others to read."""
         await self.pace.ping()
         if message.type == WSMsgType.PONG:
@@ -148,18 +161,18 @@ class Link:
 
     # ---- from the server to the tab ----
 
-    async def down(self):
+    async def down(self) -> None:
         """From the server to the tab, until the server has closed."""
         while (text := await self.server.next()) is not None:
             await self.send(text)
 
-    async def send(self, text):
+    async def send(self, text: str) -> None:
         """Sends the tab a message, unless it takes none any more."""
         sending = self.tab.send_str(text)
         await (sending if self.gate.unsent < MOST_UNSENT else self.within(TAKING_SECONDS, sending))
 
     @staticmethod
-    async def within(seconds, sending):
+    async def within(seconds: float, sending: Awaitable[None]) -> None:
         """Sends something, unless it takes longer."""
         try:
             async with asyncio.timeout(seconds):
@@ -168,11 +181,11 @@ class Link:
             raise Gone from None
 
     @property
-    def may_ask(self):
+    def may_ask(self) -> bool:
         """Whether the go-between may ask something by this link: nothing is owed by the server."""
         return self.talk.name is not None and not self.talk.owed and not self.server.is_over
 
-    async def tell_lists(self, lists):
+    async def tell_lists(self, lists: dict[str, list[str]]) -> None:
         """Tells a tab that wants them which of the lists have changed, where it takes what is sent."""
         changed = {name: rows for name, rows in lists.items() if self.lists.get(name) is not rows}
         if self.wants_lists and self.talk.name and changed and self.gate.unsent < MOST_UNSENT:
@@ -181,7 +194,7 @@ class Link:
 
     # ---- what ends it ----
 
-    async def signs(self):
+    async def signs(self) -> None:
         """Pings the tab, until it gives no sign of life."""
         while True:
             await asyncio.sleep(SIGNS_SECONDS)
@@ -192,7 +205,7 @@ class Link:
             if self.heard == heard or self.unanswered > MOST_UNANSWERED:
                 raise Gone
 
-    async def login(self):
+    async def login(self) -> None:
         """Lets the login take its time and no more."""
         await asyncio.sleep(LOGIN_SECONDS)
         if not self.talk.name:
@@ -200,7 +213,7 @@ class Link:
         await asyncio.get_running_loop().create_future()
 
 
-async def goodbye(tab, gate, code, reason):
+async def goodbye(tab: web.WebSocketResponse, gate: Gate, code: int, reason: str) -> None:
     """Closes a tab, and cuts it off where it takes too long over it. Where it has sent something meanwhile, it gets a
     moment to read why."""
     try:

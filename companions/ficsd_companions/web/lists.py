@@ -1,8 +1,13 @@
 """The three lists that are the same for everybody, asked for once for all tabs that want them."""
 
 import asyncio
+from functools import partial
+from typing import TYPE_CHECKING
 
 from .questions import LISTS, List
+
+if TYPE_CHECKING:
+    from .link import Link
 
 EVERY_SECONDS = 2
 AT_LEAST_SECONDS = 0.25  # between two questions, whoever has just come
@@ -12,22 +17,22 @@ A_TURN = 8  # tabs that are told in one turn of the loop
 class Lists:
     """Asks by the link of one tab after another, and never by one that waits for an answer of its own."""
 
-    def __init__(self):
-        self.links = []  # of tabs with a seat, those that asked longest ago first
-        self.rows = {}
+    def __init__(self) -> None:
+        self.links: "list[Link]" = []  # of tabs with a seat, those that asked longest ago first
+        self.rows: dict[str, list[str]] = {}
         self.wanted, self.answered = asyncio.Event(), asyncio.Event()
 
-    def add(self, link):
+    def add(self, link: "Link") -> None:
         self.links.append(link)
 
-    def remove(self, link):
+    def remove(self, link: "Link") -> None:
         self.links.remove(link)
 
-    def want(self):
+    def want(self) -> None:
         """A tab wants them that knows none."""
         self.wanted.set()
 
-    async def run(self):
+    async def run(self) -> None:
         """Asks and tells for ever."""
         while True:
             await asyncio.sleep(AT_LEAST_SECONDS)
@@ -37,24 +42,24 @@ class Lists:
                 await self.ask()
                 await self.tell()
 
-    async def ask(self):
+    async def ask(self) -> None:
         asker = next((it for it in self.links if it.may_ask), None)
         if asker:
             self.links.remove(asker)
             self.links.append(asker)
             self.answered.clear()
             for name in LISTS:
-                asker.server.ask_now(List(name, lambda rows, name=name: self.take(name, rows)))
+                asker.server.ask_now(List(name, partial(self.take, name)))
             await within(EVERY_SECONDS, self.answered)
 
-    def take(self, name, rows):
+    def take(self, name: str, rows: list[str]) -> None:
         """Takes the rows of a list, which stay the same object where they are the same rows."""
         if self.rows.get(name) != rows:
             self.rows[name] = rows
         if name == LISTS[-1]:
             self.answered.set()
 
-    async def tell(self):
+    async def tell(self) -> None:
         """Tells each tab that wants them what has changed since it was told last."""
         for n, link in enumerate(list(self.links), 1):
             try:
@@ -65,7 +70,7 @@ class Lists:
                 await asyncio.sleep(0)
 
 
-async def within(seconds, event):
+async def within(seconds: float, event: asyncio.Event) -> None:
     """Waits for an event, and no longer than that."""
     try:
         async with asyncio.timeout(seconds):

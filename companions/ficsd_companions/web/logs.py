@@ -8,11 +8,11 @@ from aiohttp.http_exceptions import HttpProcessingError
 class NoVisitorsFault(logging.Filter):
     """Leaves out requests that are no HTTP."""
 
-    def filter(self, record):
+    def filter(self, record: logging.LogRecord) -> bool:
         return not (record.exc_info and isinstance(record.exc_info[1], HttpProcessingError))
 
 
-def quieten():
+def quieten() -> None:
     """Sets aiohttp's logs so."""
     logging.getLogger("aiohttp.server").addFilter(NoVisitorsFault())
     logging.getLogger("aiohttp.websocket").setLevel(logging.ERROR)

@@ -1,5 +1,7 @@
 """Questions that the go-between itself asks the server over somebody's link, and what is told of their answers."""
 
+from collections.abc import Callable
+
 from ficslink.lines import Nothing, Refused, TextTurn, listed, parse
 
 LISTS = ("who", "sought", "games")
@@ -11,7 +13,7 @@ class News:
 
     line = b""
 
-    def rest_of(self, lines):
+    def rest_of(self, lines: list[str]) -> list[str]:
         """What of an answer's lines are news."""
         return lines
 
@@ -20,11 +22,11 @@ class List:
     """A list that is the same for everybody. Its word is in capitals, which no alias has, so nobody's alias changes
     what is asked. `take` gets its rows."""
 
-    def __init__(self, name, take):
+    def __init__(self, name: str, take: Callable[[list[str]], None]) -> None:
         self.name, self.take = name, take
         self.line = name.upper().encode()
 
-    def rest_of(self, lines):
+    def rest_of(self, lines: list[str]) -> list[str]:
         """What of an answer's lines are news, which stand behind the rows."""
         first = parse(lines[0], self.name) if lines else None
         if isinstance(first, Refused):
@@ -33,8 +35,8 @@ class List:
         count = next((n for n, it in enumerate(lines[:end]) if not listed(it, self.name)), end)
         is_empty = not count and isinstance(first, Nothing)
         self.take(lines[:count])
-        return lines[count + is_empty:]
+        return lines[count + is_empty :]
 
 
-def is_below_text_board(line):
+def is_below_text_board(line: str) -> bool:
     return " to move, " in line and isinstance(parse(line), TextTurn)

@@ -7,50 +7,27 @@ python3-aiohttp, and so the system's own Python.
 """
 
 import argparse
+import asyncio
 import ipaddress
-import os
 import re
 import sys
+from pathlib import Path
 
 from ficsd_companions.cli.program import PAGE
+from ficsd_companions.cli.words import address, count, folder_with, port
 
 try:
-    from . import hall
+    from . import logs
+    from .proxies import Network
+    from .server import GoBetween
+    from .settings import Settings
 except ModuleNotFoundError as missing:
     sys.exit(f"fics_web: {missing}; Debian's package python3-aiohttp has it")
 
-
-def port(word):
-    """A port: 1 to 65535."""
-    if not re.fullmatch(r"[1-9]\d{0,4}", word) or int(word) > 65535:
-        raise argparse.ArgumentTypeError("a port is a number from 1 to 65535")
-    return int(word)
+MOST_TABS = 256
 
 
-def place(word):
-    """HOST:PORT."""
-    host, _, number = word.rpartition(":")
-    port(number)
-    if not host:
-        raise argparse.ArgumentTypeError("a server is HOST:PORT")
-    return word
-
-
-def folder(word):
-    """A folder that has a page."""
-    if not os.path.isfile(os.path.join(word, "index.html")):
-        raise argparse.ArgumentTypeError(f"{word} has no index.html")
-    return word
-
-
-def count(word):
-    """A number of tabs, 1 to 256."""
-    if not re.fullmatch(r"[1-9]\d{0,2}", word) or int(word) > 256:
-        raise argparse.ArgumentTypeError("a number from 1 to 256 is wanted")
-    return int(word)
-
-
-def network(word):
+def network(word: str) -> Network:
     """An address, or a network as 10.0.0.0/8."""
     try:
         return ipaddress.ip_network(word)
@@ -58,36 +35,87 @@ def network(word):
         raise argparse.ArgumentTypeError(str(error)) from None
 
 
-def name(word):
+def name(word: str) -> str:
     """A host's name, without a port."""
     if not re.fullmatch(r"[A-Za-z0-9._-]{1,253}", word):
         raise argparse.ArgumentTypeError("a host's name has letters, digits, dots and hyphens, and no port")
     return word
 
 
-def main():
+def options() -> argparse.ArgumentParser:
     words = argparse.ArgumentParser(
-        prog="fics_web", description=__doc__.split("\n\n")[0],
+        prog="fics_web",
+        description=(__doc__ or "").split("\n\n", 1)[0],
         epilog="Statuses: 0 the server has ended, or Ctrl-C or SIGTERM; 1 the server isn't there, the port is in use, "
-               "or aiohttp isn't installed; 2 other words than these.")
-    words.add_argument("--server", type=place, required=True, metavar="HOST:PORT", help="the server, as localhost:5000")
+        "or aiohttp isn't installed; 2 other words than these.",
+    )
+    words.add_argument(
+        "--server", type=address, required=True, metavar="HOST:PORT", help="the server, as localhost:5000"
+    )
     words.add_argument("--listen", type=port, required=True, metavar="PORT", help="the port for browsers")
-    words.add_argument("--bind", default="127.0.0.1", metavar="ADDRESS",
-                       help="the address for browsers: 127.0.0.1 where it is left out, 0.0.0.0 for all")
-    words.add_argument("--web", type=folder, default=PAGE, metavar="FOLDER",
-                       help="the page's files: the folder page beside this program where it is left out")
-    words.add_argument("--host", type=name, action="append", default=[], metavar="NAME",
-                       help="a name under which the page is opened, besides localhost and addresses; may come often")
-    words.add_argument("--tabs-from-one", type=count, default=32, metavar="N",
-                       help="how many tabs one address may have at a time: 32 where it is left out")
-    words.add_argument("--trusted-proxy", type=network, action="append", default=[], metavar="ADDRESS",
-                       help="an address or network of a proxy whose X-Forwarded-For counts; as often as wanted")
-    words.add_argument("--archive", metavar="DIR",
-                       help="the folder into which fics_scribe writes: its games are shown below /games/")
+    words.add_argument(
+        "--bind",
+        default="127.0.0.1",
+        metavar="ADDRESS",
+        help="the address for browsers: 127.0.0.1 where it is left out, 0.0.0.0 for all",
+    )
+    words.add_argument(
+        "--web",
+        type=folder_with("index.html"),
+        default=PAGE,
+        metavar="FOLDER",
+        help="the page's files: the folder page beside this program where it is left out",
+    )
+    words.add_argument(
+        "--host",
+        type=name,
+        action="append",
+        default=[],
+        metavar="NAME",
+        help="a name under which the page is opened, besides localhost and addresses; may come often",
+    )
+    words.add_argument(
+        "--tabs-from-one",
+        type=count(MOST_TABS),
+        default=32,
+        metavar="N",
+        help="how many tabs one address may have at a time: 32 where it is left out",
+    )
+    words.add_argument(
+        "--trusted-proxy",
+        type=network,
+        action="append",
+        default=[],
+        metavar="ADDRESS",
+        help="an address or network of a proxy whose X-Forwarded-For counts; as often as wanted",
+    )
+    words.add_argument(
+        "--archive",
+        type=Path,
+        metavar="DIR",
+        help="the folder into which fics_scribe writes: its games are shown below /games/",
+    )
     words.add_argument("--plain", action="store_true", help="refuse stamped lines: every clock is the server's own")
-    chosen = words.parse_args()
-    host, _, number = chosen.server.rpartition(":")
-    return hall.run(hall.Settings(
-        host.strip("[]"), int(number), chosen.web, hosts=chosen.host, proxies=chosen.trusted_proxy,
-        tabs_from_one=chosen.tabs_from_one, refuses_stamps=chosen.plain, archive=chosen.archive),
-        chosen.bind, chosen.listen)
+    return words
+
+
+def main() -> int:
+    chosen = options().parse_args()
+    settings = Settings(
+        chosen.server,
+        chosen.web,
+        hosts=chosen.host,
+        proxies=chosen.trusted_proxy,
+        tabs_from_one=chosen.tabs_from_one,
+        refuses_stamps=chosen.plain,
+        archive=chosen.archive,
+    )
+    logs.quieten()
+    try:
+        has_ended = asyncio.run(GoBetween(settings).serve(chosen.bind, chosen.listen))
+    except OSError as error:
+        print(f"fics_web: {error}", file=sys.stderr)
+        return 1
+    if has_ended:
+        print("closed", flush=True)
+    return 0

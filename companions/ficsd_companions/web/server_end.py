@@ -2,12 +2,14 @@
 
 import asyncio
 import socket
+from collections.abc import Iterable
 
 from ficslink.errors import TooLong
 
-from .asking import Asking
+from .asking import Asking, Tables
 from .kept import Kept
 from .questions import News
+from .talk import Question, Talk
 
 PIECE = 16384
 UNSENT = 16384  # bytes that wait for the server before the tab has to
@@ -20,9 +22,10 @@ class ServerEnd(asyncio.BufferedProtocol):
 
     room = memoryview(bytearray(PIECE))  # one for all links, since what is read is taken at once
 
-    def __init__(self, talk, tables, keeps_told=False):
+    transport: asyncio.Transport
+
+    def __init__(self, talk: Talk, tables: Tables, keeps_told: bool = False) -> None:
         self.talk, self.asking = talk, Asking(tables, self)
-        self.transport = None
         self.kept = Kept(keeps_told=keeps_told)
         self.has_reader = True
         self.over, self.can_write = asyncio.Event(), asyncio.Event()
@@ -30,28 +33,29 @@ class ServerEnd(asyncio.BufferedProtocol):
         self.can_write.set()
 
     @property
-    def is_over(self):
+    def is_over(self) -> bool:
         return self.over.is_set()
 
     # ---- what the loop calls ----
 
-    def connection_made(self, transport):
+    def connection_made(self, transport: asyncio.BaseTransport) -> None:
+        assert isinstance(transport, asyncio.Transport)
         self.transport = transport
         transport.get_extra_info("socket").setsockopt(socket.SOL_SOCKET, socket.SO_SNDBUF, UNSENT)
         transport.set_write_buffer_limits(high=UNSENT)
 
-    def get_buffer(self, _hint):
+    def get_buffer(self, sizehint: int) -> memoryview:
         return self.room
 
-    def buffer_updated(self, length):
+    def buffer_updated(self, nbytes: int) -> None:
         try:
-            self.add(self.talk.from_server(bytes(self.room[:length])))
+            self.add(self.talk.from_server(bytes(self.room[:nbytes])))
         except TooLong:
             self.transport.abort()
         self.asking.look(self.talk.games)
         self.has_answered.set()
 
-    def connection_lost(self, _why):
+    def connection_lost(self, exc: Exception | None) -> None:
         self.over.set()
         self.asking.end()
         self.can_write.set()
@@ -59,22 +63,22 @@ class ServerEnd(asyncio.BufferedProtocol):
         self.has_told.set()
         self.has_answered.set()
 
-    def pause_writing(self):
+    def pause_writing(self) -> None:
         self.can_write.clear()
 
-    def resume_writing(self):
+    def resume_writing(self) -> None:
         self.can_write.set()
 
     # ---- from the server ----
 
-    def add(self, texts):
+    def add(self, texts: Iterable[str]) -> None:
         if texts:
             self.kept.add(texts, self.has_reader)
             self.has_told.set()
         if self.kept.is_full and self.has_reader:
             self.transport.pause_reading()
 
-    async def next(self):
+    async def next(self) -> str | None:
         """The next message; none once the server has closed and all was told."""
         while not self.kept.untold:
             if self.is_over:
@@ -86,13 +90,13 @@ class ServerEnd(asyncio.BufferedProtocol):
             self.transport.resume_reading()
         return text
 
-    def lose_reader(self):
+    def lose_reader(self) -> None:
         """From now on nobody is there to be told. What comes is kept as far as there is room, and read in any case."""
         self.has_reader = False
         self.kept.add((), False)
         self.transport.resume_reading()
 
-    def find_reader(self, heard, begins_anew):
+    def find_reader(self, heard: int | None, begins_anew: bool) -> bool:
         """Somebody is there to be told again, who has heard so many messages, where it is known: whether it is told
         just what it hasn't heard. Else it knows nothing of what came before, and begins anew."""
         self.has_reader = True
@@ -102,7 +106,7 @@ class ServerEnd(asyncio.BufferedProtocol):
         self.add(())
         return is_same
 
-    async def progress(self):
+    async def progress(self) -> None:
         """Waits until the server has said something, or has closed."""
         if not self.is_over:
             self.has_answered.clear()
@@ -110,7 +114,7 @@ class ServerEnd(asyncio.BufferedProtocol):
 
     # ---- to the server ----
 
-    async def write(self, line):
+    async def write(self, line: bytes) -> None:
         """Writes a line, and waits while the server takes no more. To a server that has closed nothing is written."""
         if not self.is_over:
             self.transport.write(line)
@@ -118,15 +122,15 @@ class ServerEnd(asyncio.BufferedProtocol):
         while len(self.talk.owed) > MOST_OWED and not self.is_over:
             await self.progress()
 
-    def ask(self):
+    def ask(self) -> None:
         """Asks for news, where no answer is due that would bring them."""
         if not self.talk.owed:
             self.ask_now()
 
-    def ask_now(self, question=None):
+    def ask_now(self, question: Question | None = None) -> None:
         """Asks a question of the go-between's own, which is for news where none is named."""
         if not self.is_over and self.can_write.is_set():
             self.transport.write(self.talk.ask(question or News()))
 
-    def close(self):
+    def close(self) -> None:
         self.transport.close()

@@ -2,18 +2,27 @@
 the tab is told."""
 
 from collections import deque
+from collections.abc import Iterable
+from enum import Enum
 
 from ficslink import stamps
-from ficslink.lines import Entered, Refused, parse
-from ficslink.texts import NEWS_BEGIN, PASSWORD, PROMPTS, Messages, spelled
+from ficslink.lines import Entered, parse
+from ficslink.texts import NEWS_BEGIN, PASSWORD, PROMPTS, Message, Messages, spelled
 
 from . import lines
 from .closes import NO_STAMPS, closed
 from .own_games import OwnGames
-from .questions import News
+from .questions import List, News
 
-THE_TABS, UNASKED = "the tab's", "unasked"
-WRONG_PASSWORD = 23
+
+class Asker(Enum):
+    """Who asked for a part, where it is no question of our own."""
+
+    THE_TAB = "the tab"
+    NOBODY = "nobody"
+
+
+Question = News | List
 
 
 class Talk:
@@ -23,28 +32,29 @@ class Talk:
     the prompt. A prompt alone isn't told. So a tab never takes it for an answer to a line of its own.
     """
 
-    def __init__(self, refuses_stamps=False):
+    def __init__(self, refuses_stamps: bool = False) -> None:
         self.messages, self.games = Messages(), OwnGames()
         self.refuses_stamps = refuses_stamps
-        self.owed = deque([THE_TABS])  # the opening of the link, which answers no line, is told like an answer
-        self.asked_by = THE_TABS  # who asked for the part that is being told
+        # the opening of the link, which answers no line, is told like an answer
+        self.owed: deque[Asker | Question] = deque([Asker.THE_TAB])
+        self.asked_by: Asker | Question = Asker.THE_TAB  # who asked for the part that is being told
         self.begins_part = True
-        self.ours = []  # the lines so far of an answer to a question of our own
+        self.ours: list[str] = []  # the lines so far of an answer to a question of our own
         self.has_sent = self.is_stamped = False
         self.taken = 0  # lines of the tab, as it counts them
-        self.name = self.prompt = None
-        self.wrong_passwords = 0
+        self.name: str | None = None
+        self.prompt: str | None = None
 
     # ---- from the tab ----
 
-    def from_tab(self, text):
+    def from_tab(self, text: str) -> bytes:
         """The bytes of a tab's message for the server; `NoLine` where it is none."""
         line = lines.line_of(text)
         stamped = stamps.text_of(line)
         if stamped is not None and self.refuses_stamps:
             raise closed(NO_STAMPS)
         if stamps.is_answered(line, is_first=not self.has_sent):
-            self.owed.append(THE_TABS)
+            self.owed.append(Asker.THE_TAB)
         elif not self.has_sent:
             self.is_stamped = True
         self.has_sent = True
@@ -52,42 +62,42 @@ class Talk:
         return spelled(line)
 
     @property
-    def is_settled(self):
+    def is_settled(self) -> bool:
         """Whether nothing is owed to the tab."""
-        return THE_TABS not in self.owed
+        return Asker.THE_TAB not in self.owed
 
     @property
-    def awaits_password(self):
+    def awaits_password(self) -> bool:
         return self.prompt == PASSWORD and not self.owed
 
     # ---- questions of our own ----
 
-    def ask(self, question=News()):
+    def ask(self, question: Question) -> bytes:
         """The bytes of a question of our own."""
         self.owed.append(question)
         return spelled(question.line)
 
-    def begin_anew(self, missed):
+    def begin_anew(self, missed: Iterable[str]) -> list[str]:
         """Another page has come, which knows nothing of what came before: what it is told of the messages that weren't
         told. All that is owed is told as news."""
-        self.owed = deque(News() if it is THE_TABS else it for it in self.owed)
+        self.owed = deque(News() if it is Asker.THE_TAB else it for it in self.owed)
         self.taken = 0
-        is_within = not self.begins_part and self.asked_by in (THE_TABS, UNASKED)
+        is_within = not self.begins_part and isinstance(self.asked_by, Asker)
         return as_news(missed, is_within)
 
     # ---- from the server ----
 
-    def from_server(self, piece):
+    def from_server(self, piece: bytes) -> list[str]:
         """What the tab is told of a piece: the texts of messages."""
         return self.told(self.messages.of(piece))
 
-    def left(self):
+    def left(self) -> list[str]:
         """What the tab is told at the end of the link."""
         texts = self.told(self.messages.left())
         return texts + (self.news() if self.ours else [])
 
-    def told(self, messages):
-        texts = []
+    def told(self, messages: Iterable[Message]) -> list[str]:
+        texts: list[str] = []
         for message in messages:
             if self.begins_part:
                 self.asked_by = self.whose(message)
@@ -96,7 +106,7 @@ class Talk:
                 self.prompt = message.text
             else:
                 self.hear(message.text)
-            if self.asked_by in (THE_TABS, UNASKED):
+            if isinstance(self.asked_by, Asker):
                 texts.append(message.text)
             elif message.is_prompt:
                 texts += self.news(message.text)
@@ -104,29 +114,30 @@ class Talk:
                 self.ours.append(message.text)
         return texts
 
-    def whose(self, message):
+    def whose(self, message: Message) -> Asker | Question:
         """Who asked for the part that begins with a message."""
         if message.text == NEWS_BEGIN:
-            return UNASKED
-        return self.owed.popleft() if self.owed else THE_TABS
+            return Asker.NOBODY
+        return self.owed.popleft() if self.owed else Asker.THE_TAB
 
-    def news(self, *prompt):
+    def news(self, *prompt: str) -> list[str]:
         """What the tab is told of an answer to a question of our own."""
+        assert not isinstance(self.asked_by, Asker)
         rest, self.ours = self.asked_by.rest_of(self.ours), []
         return [NEWS_BEGIN, *rest, *prompt] if rest else []
 
-    def hear(self, line):
+    def hear(self, line: str) -> None:
         """Learns from a line how the tab's player stands."""
         self.games.hear(line)
-        if self.name is None and self.asked_by is THE_TABS:
+        if self.name is None and self.asked_by is Asker.THE_TAB:
             read = parse(line)
             self.name = read.who if isinstance(read, Entered) else None
-            self.wrong_passwords += isinstance(read, Refused) and read.number == WRONG_PASSWORD
 
 
-def as_news(messages, is_within):
+def as_news(messages: Iterable[str], is_within: bool) -> list[str]:
     """Messages as parts that answer nothing. `is_within` says that a part has begun that isn't whole yet."""
-    told, part = [], []
+    told: list[str] = []
+    part: list[str] = []
     for it in messages:
         if it in PROMPTS:
             told += [*begun(part), it] if part else []
@@ -136,6 +147,6 @@ def as_news(messages, is_within):
     return told + (begun(part) if part or is_within else [])
 
 
-def begun(part):
+def begun(part: list[str]) -> list[str]:
     """A part's lines, with the beginning of news before them."""
     return part if part[:1] == [NEWS_BEGIN] else [NEWS_BEGIN, *part]

@@ -23,7 +23,7 @@ HERE = os.path.dirname(os.path.realpath(__file__))
 sys.dont_write_bytecode = True
 sys.path.insert(0, HERE)
 from ficsd_companions.face import hall, helps, session, texts, wire  # noqa: E402
-from tests.ficslink.test_stamped import KEY, turned  # noqa: E402
+from tests.kit.stamped import KEY, turned  # noqa: E402
 
 COMMANDS = os.path.join(HERE, "..", "crates", "command_words", "src", "rows.rt")
 PATIENCE = 300

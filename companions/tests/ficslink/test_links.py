@@ -220,7 +220,7 @@ class Asking(Played):
 
 class Stamps(Played):
     async def test_a_stamped_link(self):
-        from .stamped import plain_of
+        from tests.kit.stamped import plain_of
         opening = asyncio.create_task(Link.open("127.0.0.1", self.port, stamped=True))
         end = await self.ends.get()
         greeting = plain_of((await end.reader.readline()).rstrip(b"\n"))

@@ -1,39 +1,11 @@
-"""Stamped lines, and which lines the server doesn't answer. The test seals and opens them by itself, by the page for
-authors of clients."""
+"""Stamped lines, and which lines the server doesn't answer. The test's own seal is that of the kit."""
 
-import re
 import unittest
 
 from ficslink import stamps
+from tests.kit.stamped import plain_of, stamped
 
-KEY = b"Timestamp (FICS) v1.0 - programmed by Henrik Gram."
 OF_A_AND_0 = bytes.fromhex("C5 D1 BC DC A2 A5 B0 BC A1 70 79 87 80")  # as the page for authors of clients has it
-
-
-def turned(plain):
-    """The bytes with the places of each group of 12 changed."""
-    plain = bytearray(plain)
-    for start in range(0, len(plain), 12):
-        for one, other in ((0, 11), (2, 9), (4, 7)):
-            plain[start + one], plain[start + other] = plain[start + other], plain[start + one]
-    return plain
-
-
-def stamped(text, stamp):
-    """A stamped line without its line feed."""
-    plain = bytearray(text + b"\x18" + str(stamp).encode() + b"\x19")
-    while len(plain) % 12:
-        plain += b"1"
-    return bytes(((b | 0x80) ^ KEY[n % 50]) - 32 & 0xFF for n, b in enumerate(turned(plain))) + b"\x80"
-
-
-def plain_of(line):
-    """The text and the stamp of a stamped line without its line feed."""
-    if line[-1] != 0x80 or len(line) % 12 != 1:
-        raise AssertionError(f"{line!r} isn't stamped")
-    plain = bytes(turned(bytes(((b + 32) & 0xFF ^ KEY[n % 50]) & 0x7F for n, b in enumerate(line[:-1]))))
-    match = re.fullmatch(rb"(.*)\x18(\d+)\x191*", plain, re.DOTALL)
-    return match[1], int(match[2])
 
 
 class Stamped(unittest.TestCase):

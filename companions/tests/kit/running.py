@@ -1,12 +1,13 @@
 """Programs that a test starts, and what they write."""
 
+import asyncio
 import os
 import re
 import signal
 import subprocess
 import threading
 import time
-from collections.abc import Callable
+from collections.abc import Callable, Mapping
 from pathlib import Path
 from typing import IO, Any
 
@@ -115,3 +116,20 @@ def wait_until(holds: Callable[[], bool], unless: Callable[[], bool] = lambda: F
             return False
         time.sleep(LOOK_EVERY)
     return True
+
+
+async def async_wait_until(holds: Callable[[], bool], unless: Callable[[], bool] = lambda: False,
+                           seconds: float = PATIENCE) -> bool:
+    """The same beside the other tasks of an event loop."""
+    deadline = time.monotonic() + seconds
+    while not holds():
+        if time.monotonic() > deadline or unless() and not holds():
+            return False
+        await asyncio.sleep(LOOK_EVERY)
+    return True
+
+
+def ended(*words: object, given: str = "", env: Mapping[str, str] | None = None) -> subprocess.CompletedProcess[str]:
+    """A program that has ended by itself: what it has said to what it was given, and its status."""
+    line = [str(it) for it in words]
+    return subprocess.run(line, input=given, capture_output=True, text=True, timeout=PATIENCE, env=env, check=False)

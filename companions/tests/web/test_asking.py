@@ -2,7 +2,7 @@
 
 import asyncio
 
-from tests.ficslink.test_stamped import stamped
+from tests.kit.stamped import stamped
 
 from . import boards
 from .played import Played

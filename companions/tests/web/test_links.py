@@ -3,7 +3,7 @@
 import asyncio
 
 import aiohttp
-from tests.ficslink.test_stamped import stamped
+from tests.kit.stamped import stamped
 
 from .played import Played
 from .tabs import Closed

@@ -5,7 +5,7 @@ import asyncio
 import json
 
 import aiohttp
-from tests.ficslink.test_stamped import stamped
+from tests.kit.stamped import stamped
 
 from . import boards
 from .played import OPENING, Played

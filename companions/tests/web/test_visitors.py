@@ -5,7 +5,7 @@ import json
 import time
 
 import aiohttp
-from tests.ficslink.test_stamped import stamped
+from tests.kit.stamped import stamped
 
 from .played import OPENING, Played
 from .test_seats import MARK, Seating

@@ -1,0 +1,112 @@
+"""Serves the page, and a link for each tab, until the chess server has ended."""
+
+import asyncio
+import signal
+from asyncio import StreamReader, StreamWriter
+
+from aiohttp import web
+from aiohttp.typedefs import Handler
+
+from .archived import Archived
+from .gate import Gate, gate_of
+from .hosts import Hosts
+from .pages import Pages, add_headers
+from .porter import Porter
+from .proxies import Proxies
+from .server_end import PIECE
+from .settings import Settings
+from .tabs import Tabs
+
+BACKLOG = 256
+LAST_WORDS_SECONDS = 10
+KEEP_ALIVE_SECONDS = 15
+
+
+class GoBetween:
+    """The go-between of one server. A link of its own, which stays at the login, tells when the server has ended."""
+
+    over: asyncio.Future[bool]  # ends with whether the server has ended
+
+    def __init__(self, settings: Settings) -> None:
+        self.server = settings.server
+        self.hosts, self.pages = Hosts(settings.hosts), Pages(settings.folder)
+        self.porter = Porter(Proxies(settings.proxies), settings.tabs_from_one)
+        self.archived = Archived(settings.archive, self.pages, self.counts) if settings.archive else None
+        self.tabs = Tabs(settings, self.porter)
+
+    async def serve(self, address: str, port: int) -> bool:
+        """Serves tabs until the server has ended, or a signal has come: whether the server has ended. An `OSError`
+        comes where server or port isn't to be had."""
+        loop = asyncio.get_running_loop()
+        watch = await asyncio.open_connection(*self.server)
+        self.over = loop.create_future()
+        for number in (signal.SIGINT, signal.SIGTERM):
+            loop.add_signal_handler(number, self.end, False)
+        runner = web.AppRunner(self.app(), access_log=None, keepalive_timeout=KEEP_ALIVE_SECONDS)
+        await runner.setup()
+        assert runner.server
+        serving: web.Server = runner.server
+        work = [self.watch(*watch), self.tabs.lists.run(), *([self.archived.begin()] if self.archived else [])]
+        tasks = [asyncio.create_task(it) for it in work]
+        try:
+            door = await loop.create_server(lambda: Gate(self.porter, serving()), address, port, backlog=BACKLOG)
+            print("ready", flush=True)
+            has_ended = await self.over
+            door.close()
+            if not has_ended:
+                await self.tabs.send_away()
+            await self.tabs.have_left(LAST_WORDS_SECONDS)
+            return has_ended
+        finally:
+            for it in tasks:
+                it.cancel()
+            if self.archived:
+                self.archived.end()
+            await serving.shutdown(1)
+            await runner.cleanup()
+
+    def app(self) -> web.Application:
+        app = web.Application(middlewares=[self.look])
+        app.on_response_prepare.append(add_headers)
+        app.router.add_get("/link", self.tabs.take)
+        if self.archived:
+            self.archived.add_routes(app.router)
+        app.router.add_get("/{name:.*}", self.pages.serve)
+        return app
+
+    def end(self, has_server_ended: bool) -> None:
+        if not self.over.done():
+            self.over.set_result(has_server_ended)
+
+    async def watch(self, reader: StreamReader, writer: StreamWriter) -> None:
+        try:
+            while await reader.read(PIECE):
+                pass
+        except OSError:
+            pass
+        finally:
+            writer.close()
+            self.end(True)
+
+    @web.middleware
+    async def look(self, request: web.Request, handler: Handler) -> web.StreamResponse:
+        """What comes before each answer."""
+        gate = gate_of(request)
+        gate.has_asked()
+        try:
+            return await self.answer(request, handler, gate)
+        finally:
+            gate.has_answered()
+
+    async def answer(self, request: web.Request, handler: Handler, gate: Gate) -> web.StreamResponse:
+        if not self.hosts.has(request.headers.get("Host", "")):
+            raise web.HTTPMisdirectedRequest(text="no page is served under this name; --host names one")
+        if not self.porter.visitor(request, gate).requests.take():
+            refusal = web.HTTPTooManyRequests(text="too many requests from this address")
+            refusal.force_close()
+            raise refusal
+        return await handler(request)
+
+    def counts(self, request: web.BaseRequest, count: int) -> bool:
+        """Counts a request as so many more: whether its address has them."""
+        return self.porter.visitor(request, gate_of(request)).requests.take(count)
