@@ -5,6 +5,7 @@
 - `member`: `Member`, who is in under a name, keeps its games and comes again behind a lost link; `game` is one of its
   games, `events` what happens to it.
 - `errors`: what goes wrong, each by its name; `refusals` has the server's refusals.
+- `observing`: looking on at a game, and knowing whether one does.
 - `secret`: an account's password in a file.
 - `texts`, `stamps`: the bytes below, for go-betweens. `pace` says how often news are asked for.
 """

@@ -36,7 +36,8 @@ class PasswordWanted(LinkError):
 
 
 class RefusalError(LinkError):
-    """The server refused a line: `number` and `name` as in its table, `refusal` where it is one of those that are known."""
+    """The server refused a line: `number` and `name` as in its table, `refusal` where it is one of those that are
+    known."""
 
     def __init__(self, number: int, name: str) -> None:
         self.number, self.name = number, name

@@ -22,7 +22,6 @@ PATIENCE = 60.0  # seconds, for the server's answer
 GREETING = stamps.GREETING + b"ficslink|python|"
 
 
-
 class Listener(Protocol):
     """Who takes all lines of a link as they come."""
 
@@ -124,8 +123,8 @@ class Link:
 
     async def ask(self, line: str) -> Answer:
         """Sends a line; its answer. Lines may be sent ahead: several tasks may ask at a time, and each is answered in
-        its turn. `RefusalError` where the server refuses the line, `BadLine` where it can't be sent, `Closed` and `Silent`
-        where no answer comes. The answer to `quit` is the farewell."""
+        its turn. `RefusalError` where the server refuses the line, `BadLine` where it can't be sent, `Closed` and
+        `Silent` where no answer comes. The answer to `quit` is the farewell."""
         spelled = texts.checked(line)
         if not self.is_open:
             raise Closed(self.why)

@@ -16,6 +16,7 @@ from .game import OWN, PARTNERS, WATCHED, Game, offer_of
 from .line import Line, Listed, News, Reply, Unknown
 from .lines import (Continuing, Creating, Entered, GameListed, GameOver, Goodbye, Hands, OfferDeclined, TakenBack)
 from .link import PATIENCE, Link
+from .observing import looks_on
 from .pace import PACE, Pace
 from .refusals import WAITABLE
 from .stream import Stream
@@ -61,8 +62,8 @@ class Member:
                     stamped: bool = False, settings: Sequence[str] = (), pace: Pace = PACE,
                     longest_pause: float = 60.0, patience: float = PATIENCE) -> "Member":
         """Goes in under a name, or as a guest without one. `settings` are lines that are said behind each entrance, as
-        `set shout 0`. `NoServer` where there is none, `RefusalError` 22 to 25 where the login is refused, `PasswordWanted`
-        where the name has an account and no password is given."""
+        `set shout 0`. `NoServer` where there is none, `RefusalError` where the login is refused, `PasswordWanted` where
+        the name has an account and no password is given."""
         member = cls(host, port, name, password, stamped=stamped, settings=settings, pace=pace,
                      longest_pause=longest_pause, patience=patience)
         await member._come()
@@ -139,8 +140,19 @@ class Member:
 
     async def observe(self, game: int | str) -> Answer:
         """Looks on at a game, by its number or by a player. Its terms are asked for before it."""
-        self._listed = {it.game: it for it in (await self.do("games")).all(GameListed)}
+        await self._ask_for_terms()
         return await self.do(f"observe {game}")
+
+    async def watch(self, game: int) -> bool:
+        """Looks on at a game by its number; whether one does, which the answer of `observe` alone doesn't say."""
+        await self._ask_for_terms()
+        does = await looks_on(self.do, game)
+        if not does:
+            self._forget(game)
+        return does
+
+    async def _ask_for_terms(self) -> None:
+        self._listed = {it.game: it for it in (await self.do("games")).all(GameListed)}
 
     async def unobserve(self, game: int) -> Answer:
         """Looks on there no longer."""

@@ -277,3 +277,37 @@ class ComingAgain(Played):
             asyncio.sleep = real
         for pause, most in zip(pauses, (1, 2, 4, 8, 8, 8, 8, 8)):
             self.assertTrue(most / 2 <= pause <= most, pauses)
+
+
+class LookingOn(Played):
+    """Whether one looks on is known once that is refused."""
+
+    async def watched(self, *answers):
+        """Whether Cat looks on at game 1, where the server answers so; her member."""
+        member, end = await self.member("Cat")
+        watching = asyncio.create_task(member.watch(1))
+        await end.answer("games", "1 Ann Ben 2 12 fischer 518\n\r")
+        for line, text in answers:
+            await end.answer(line, text)
+        return await watching, member
+
+    async def test_it_is_asked_until_one_looks_on(self):
+        does, member = await self.watched(("observe 1", board(0)), ("observe 1", "refused 55 AlreadyWatching\n\r"))
+        self.assertTrue(does)
+        self.assertEqual(member.games[1].terms.array, 518)
+
+    async def test_a_game_that_has_just_ended_is_shown_and_not_looked_on_at(self):
+        does, member = await self.watched(("observe 1", board(0)), ("observe 1", "refused 46 NoSuchGame\n\r"))
+        self.assertEqual((does, member.games), (False, {}))
+        does, _ = await self.watched(*[("observe 1", board(0))] * 4)
+        self.assertFalse(does)
+
+    async def test_who_looks_on_at_as_many_as_may_be(self):
+        full = ("observe 1", "refused 40 ListFull\n\r")
+        does, _ = await self.watched(("observe 1", board(0)), full)
+        self.assertTrue(does)
+        gone = ("unobserve 1", "refused 18 NotWatching\n\r")
+        does, _ = await self.watched(full, gone, full, gone, full, gone, full, gone)
+        self.assertFalse(does)
+        does, _ = await self.watched(full, ("unobserve 1", "Ok.\n\r"), ("observe 1", board(0)), full)
+        self.assertTrue(does)
