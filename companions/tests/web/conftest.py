@@ -14,6 +14,7 @@ from tests.kit.go_between import FROM_ONE, GoBetween
 from tests.kit.running import Server
 
 from .played import Played, playing
+from .priority import first
 from .tabs import Tabs
 
 if TYPE_CHECKING:
@@ -22,6 +23,13 @@ if TYPE_CHECKING:
 
 def pytest_configure(config: pytest.Config) -> None:
     config.addinivalue_line("markers", "words(*WORDS): those of the go-between besides its ports")
+
+
+@pytest.fixture
+def goes_first() -> Iterator[None]:
+    """What is timed goes before other work of the machine."""
+    with first():
+        yield
 
 
 @pytest.fixture

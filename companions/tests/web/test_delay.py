@@ -5,7 +5,7 @@ import asyncio
 import random
 import statistics
 import time
-from collections.abc import Awaitable, Callable, Iterable, Iterator, Sequence
+from collections.abc import Awaitable, Callable, Iterable, Sequence
 
 import pytest
 
@@ -14,10 +14,9 @@ from tests.kit.running import Server
 
 from .evenings import KNIGHTS, Player, is_board, name, seat
 from .plain import PlainTab
-from .priority import first
 from .tabs import Tab, Tabs
 
-pytestmark = pytest.mark.slow
+pytestmark = [pytest.mark.slow, pytest.mark.usefixtures("goes_first")]
 
 HALF_MOVES = {1: 80, 64: 12}  # of each pair, by the number of pairs of each kind
 THINKS = {1: (0.2, 0.6), 64: (1, 3)}  # seconds
@@ -26,12 +25,6 @@ PAIRS = 64
 COST_SECONDS = 10
 
 Opener = Callable[[list[str]], Awaitable[Sequence[Tab]]]
-
-
-@pytest.fixture(autouse=True)
-def goes_first() -> Iterator[None]:
-    with first():
-        yield
 
 
 class Evening:

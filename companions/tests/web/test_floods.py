@@ -7,26 +7,18 @@ go-between is to blame for."""
 import asyncio
 import statistics
 import time
-from collections.abc import Iterator
 
 import pytest
 
 from .answering import harming, serving, take
 from .played import Played
-from .priority import first
 from .tabs import PATIENCE, Tab
 
-pytestmark = pytest.mark.words("--tabs-from-one", 64)
+pytestmark = [pytest.mark.words("--tabs-from-one", 64), pytest.mark.usefixtures("goes_first")]
 
 SECONDS = 6
 AT_MOST, EVER = 0.05, 0.2  # seconds of processor time, for nine of ten answers and for all
 FLOOD = "4007 a flood: more than "
-
-
-@pytest.fixture(autouse=True)
-def goes_first() -> Iterator[None]:
-    with first():
-        yield
 
 
 def said(delays: list[float]) -> str:

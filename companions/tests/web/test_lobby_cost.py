@@ -2,7 +2,7 @@
 
 import asyncio
 import json
-from collections.abc import AsyncIterator, Coroutine, Iterable, Iterator
+from collections.abc import AsyncIterator, Coroutine, Iterable
 from contextlib import asynccontextmanager
 
 import pytest
@@ -12,22 +12,15 @@ from tests.kit.running import Server, async_wait_until
 
 from .evenings import name
 from .played import MARK
-from .priority import first
 from .tabs import Tab, Tabs
 
-pytestmark = pytest.mark.slow
+pytestmark = [pytest.mark.slow, pytest.mark.usefixtures("goes_first")]
 
 TABS = 250
 SECONDS = 12
 EVERY_SECONDS = 4
 LISTS = ("who", "sought", "games", "pending", "stored")
 AT_MOST = 1 / 4  # of the processor time that the go-between takes where each tab asks
-
-
-@pytest.fixture(autouse=True)
-def goes_first() -> Iterator[None]:
-    with first():
-        yield
 
 
 class SeatedTab(Tab):
