@@ -26,7 +26,8 @@ def of_lines(files):
 def of_project():
     project = tomllib.loads(text("companions/pyproject.toml"))
     named = set(project["tool"]["setuptools"]["packages"]) - {"ficsd_companions", "ficsd_companions.page"}
-    folders = {f"ficsd_companions.{it.parent.name}" for it in (TOP / HOUSE).glob("*/__init__.py")}
+    inside = (it.parent.relative_to(TOP / "companions") for it in (TOP / HOUSE).glob("*/**/__init__.py"))
+    folders = {".".join(it.parts) for it in inside}
     for it in sorted(named ^ folders):
         yield f"companions/pyproject.toml: {it} is {'no folder' if it in named else 'none of the packages'}"
     of_packages = [it for row in project["tool"]["ficsd"]["packages"].values() for it in row["commands"]]
