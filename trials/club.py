@@ -16,7 +16,7 @@ from pathlib import Path
 
 from ficsd_companions.bot import clock, uci
 from tests.kit import paths
-from tests.web import browser, places
+from tests.web import browser
 
 PORT = 25700
 START_SECONDS, GAME_SECONDS = 1800, 1500
@@ -110,11 +110,11 @@ def main():
     chosen, words = parser.parse_known_args()  # the others are those of ./club, as --unproved or --program FILE
     pictures = chosen.pictures
     pictures.mkdir(exist_ok=True)
-    places.PATIENCE = 180
     club = Club(words)
     try:
         club.wait()
-        window = browser.Window(f"http://localhost:{PORT + 2}/", "Ann", enters=False)
+        shown = browser.started(browser.WIDE)
+        window = browser.Window(shown, f"http://localhost:{PORT + 2}/", "Ann")
         window.picture(pictures / "1_login.png")
         window.enter()
         window.until(lambda: "House" in " ".join(window.texts("#players *")), "House among the players")
@@ -126,7 +126,7 @@ def main():
         window.picture(pictures / "4_mate.png")
         print(f"{clicked} half-moves: {window.text('#status')}", flush=True)
         complaints = window.complaints()
-        window.close()
+        shown.end()
     finally:
         club.process.send_signal(signal.SIGINT)
         status = club.process.wait(60)

@@ -16,7 +16,7 @@ from bench.measure import machine
 from ficsd_companions.archive import index
 from ficsd_companions.archive.addresses import Place
 from ficsd_companions.archive.answers import Archive
-from tests.archive.places import game, put
+from tests.archive.archives import game, put
 
 A_DAY, PLAYERS = 100, 2000
 MOVES = " ".join(
@@ -31,7 +31,7 @@ def name(n: int) -> str:
     return "Player" + "".join(chr(97 + n // 26**at % 26) for at in range(3))
 
 
-def make(folder: str, games: int) -> int:
+def make(folder: Path, games: int) -> int:
     """Writes so many games; how many bytes."""
     for start in range(0, games, A_DAY):
         day = str(date(2022, 1, 1) + timedelta(start // A_DAY))
@@ -55,7 +55,7 @@ def make(folder: str, games: int) -> int:
                 day,
                 ending,
             )
-    return sum(it.stat().st_size for it in Path(folder).rglob("*.pgn"))
+    return sum(it.stat().st_size for it in folder.rglob("*.pgn"))
 
 
 def timed(what: str, act: Callable[[], object]) -> None:
@@ -71,7 +71,7 @@ def kilobytes() -> int:
     return resource.getrusage(resource.RUSAGE_SELF).ru_maxrss
 
 
-def look(archive: Archive, folder: str, games: int) -> None:
+def look(archive: Archive, folder: Path, games: int) -> None:
     """Asks for what pages ask for."""
     day = str(date(2022, 1, 1) + timedelta((games - 1) // A_DAY))
     found = Place("found", "json")
@@ -96,9 +96,10 @@ def main() -> None:
     words.add_argument("games", nargs="?", type=int, default=100_000, metavar="GAMES", help="%(default)s without it")
     games = words.parse_args().games
     print(machine())
-    with tempfile.TemporaryDirectory(prefix="archive.") as folder:
+    with tempfile.TemporaryDirectory(prefix="archive.") as name_of_folder:
+        folder = Path(name_of_folder)
         size = make(folder, games)
-        print(f"{games} games in {len(list(Path(folder).rglob('*.pgn')))} files of {size / 1e6:.0f} MB")
+        print(f"{games} games in {len(list(folder.rglob('*.pgn')))} files of {size / 1e6:.0f} MB")
         index.AT_LEAST_SECONDS = 0
         archive, before = Archive(folder), kilobytes()
         timed("all are read", archive.index.refresh)
