@@ -49,11 +49,11 @@ class Run:
 
     def until(self, pattern: str, lines: list[str] | None = None, times: int = 1) -> re.Match[str]:
         """Waits until so many lines have the pattern, of the log where no others are named; the last of them."""
-        told = self.log if lines is None else lines
+        among = self.log if lines is None else lines
         found: list[re.Match[str]] = []
 
         def are_there() -> bool:
-            found[:] = [it for line in list(told) if (it := re.search(pattern, line))]
+            found[:] = [it for line in list(among) if (it := re.search(pattern, line))]
             return len(found) >= times
 
         if not wait_until(are_there, unless=self.has_told_all):
