@@ -7,7 +7,7 @@ import signal
 import subprocess
 import threading
 import time
-from collections.abc import Awaitable, Callable
+from collections.abc import Awaitable, Callable, Mapping
 from pathlib import Path
 from typing import IO, Any
 
@@ -49,11 +49,11 @@ class Run:
 
     def until(self, pattern: str, lines: list[str] | None = None, times: int = 1) -> re.Match[str]:
         """Waits until so many lines have the pattern, of the log where no others are named; the last of them."""
-        lines = self.log if lines is None else lines
+        looked = self.log if lines is None else lines
         found: list[re.Match[str]] = []
 
         def are_there() -> bool:
-            found[:] = [it for line in list(lines) if (it := re.search(pattern, line))]
+            found[:] = [it for line in list(looked) if (it := re.search(pattern, line))]
             return len(found) >= times
 
         if not wait_until(are_there, unless=self.has_told_all):
@@ -142,3 +142,9 @@ async def async_wait_until(
             return False
         await asyncio.sleep(LOOK_EVERY)
     return True
+
+
+def ended(*words: object, given: str = "", env: Mapping[str, str] | None = None) -> subprocess.CompletedProcess[str]:
+    """A program that has ended by itself: what it has said to what it was given, and its status."""
+    line = [str(it) for it in words]
+    return subprocess.run(line, input=given, capture_output=True, text=True, timeout=PATIENCE, env=env, check=False)

@@ -12,6 +12,8 @@ from ficslink.refusals import WAITABLE
 from ficslink.line import Line
 from ficslink.lines import GameListed, GameOver
 
+from ficsd_companions.cli.words import Address
+
 from .archive import Archive
 from .journal import Journal
 from .watcher import Watcher, desk_of
@@ -34,8 +36,8 @@ class Fault(Exception):
 class Scribe:
     """Keeps the games of a server in an archive."""
 
-    def __init__(self, host: str, port: int, name: str, password: str | None, archive: Archive, every: float) -> None:
-        self.place, self.name, self.password = (host, port), name, password
+    def __init__(self, server: Address, name: str, password: str | None, archive: Archive, every: float) -> None:
+        self.server, self.name, self.password = server, name, password
         self.archive, self.every = archive, every
         self.watchers: list[Watcher] = []
         self.listed: dict[int, list[GameListed]] = {}  # of each desk that is in use
@@ -79,8 +81,12 @@ class Scribe:
             return
         asked = {(it.white, it.black, it.terms.minutes, it.terms.increment) for it in games}
         # what stands before is of a game that was there before, and had ended
-        lines = lines[max((at for at, it in enumerate(lines, 1) if isinstance(it, Board)
-                           and who_and_time(it) not in asked), default=0):]
+        lines = lines[
+            max(
+                (at for at, it in enumerate(lines, 1) if isinstance(it, Board) and who_and_time(it) not in asked),
+                default=0,
+            ) :
+        ]
         if not games or {who_and_time(it) for it in lines if isinstance(it, Board)} != asked:
             return
         del self.early[desk]
@@ -175,8 +181,9 @@ class Scribe:
                 await asyncio.to_thread(self.archive.finish, known)
             except OSError as fault:
                 if str(fault) != self.write_fault:
-                    logger.error("games can't be written, and are kept in %s until they can be: %s", known.path.parent,
-                                 fault)
+                    logger.error(
+                        "games can't be written, and are kept in %s until they can be: %s", known.path.parent, fault
+                    )
                 self.write_fault = str(fault)
                 self.write_at = asyncio.get_running_loop().time() + FIRST_PAUSE
                 return
@@ -199,8 +206,9 @@ class Scribe:
             logger.warning("the link to the server is lost: %s", fault)
 
     def take_list(self, games: list[GameListed]) -> None:
-        by_desk = {desk: list(its) for desk, its in groupby(sorted(games, key=lambda it: it.game),
-                                                            lambda it: desk_of(it.game))}
+        by_desk = {
+            desk: list(its) for desk, its in groupby(sorted(games, key=lambda it: it.game), lambda it: desk_of(it.game))
+        }
         self.listed = by_desk
         for desk in [it for it in self.early if it not in by_desk]:
             del self.early[desk]
@@ -241,7 +249,8 @@ class Scribe:
             del self.observing[desk]
 
     def leave_out(self, desk: int) -> None:
-        """Lets go what was told of a desk at which it doesn't look on: its game had ended before, or the link is lost."""
+        """Lets go what was told of a desk at which it doesn't look on: its game had ended before, or the link is
+        lost."""
         self.seen.discard(desk)
         self.early.pop(desk, None)
         self.lose(desk)
@@ -271,6 +280,6 @@ class Scribe:
 
     async def enter(self, name: str) -> Watcher:
         watcher = Watcher(self.told, self.shown)
-        await watcher.come(*self.place, name, self.password)
+        await watcher.come(*self.server, name, self.password)
         self.watchers.append(watcher)
         return watcher
