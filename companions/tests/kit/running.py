@@ -8,6 +8,7 @@ import subprocess
 import threading
 import time
 from collections.abc import Callable
+from contextlib import suppress
 from pathlib import Path
 from typing import IO, Any
 
@@ -43,11 +44,11 @@ class Run:
 
     def until(self, pattern: str, lines: list[str] | None = None, times: int = 1) -> re.Match[str]:
         """Waits until so many lines have the pattern, of the log where no others are named; the last of them."""
-        lines = self.log if lines is None else lines
+        among = self.log if lines is None else lines
         found: list[re.Match[str]] = []
 
         def are_there() -> bool:
-            found[:] = [it for line in list(lines) if (it := re.search(pattern, line))]
+            found[:] = [it for line in list(among) if (it := re.search(pattern, line))]
             return len(found) >= times
 
         if not wait_until(are_there, unless=self.has_told_all):
@@ -96,8 +97,9 @@ class Run:
 class Server(Run):
     """The chess server, over a store where one is named, at a port of its own where none is named."""
 
-    def __init__(self, store: Path | str | None = None, port: int | None = None, ahead: tuple[object, ...] = ()) -> None:
-        self.port = port or free_port()
+    def __init__(self, store: Path | str | None = None, port: int | None = None,
+                 ahead: tuple[object, ...] = ()) -> None:
+        self.port, self.store = port or free_port(), store
         over = ("--store", store) if store else ()
         super().__init__(*ahead, paths.program, "serve", "--port", self.port, *over)
         self.begin()
@@ -105,6 +107,21 @@ class Server(Run):
     @property
     def address(self) -> str:
         return f"127.0.0.1:{self.port}"
+
+    def kept(self) -> str:
+        """What the program says of its store."""
+        words = [str(it) for it in (paths.program, "check", "--store", self.store)]
+        return str(subprocess.run(words, stdout=subprocess.PIPE, text=True, check=True).stdout).strip()
+
+
+def running(program: Path) -> list[int]:
+    """The processes that run a program, which a line at its head may have run by an interpreter."""
+    found = []
+    for it in Path("/proc").glob("[0-9]*"):
+        with suppress(OSError):
+            if str(program) in (it / "cmdline").read_text(encoding="utf-8").split("\0")[:2]:
+                found.append(int(it.name))
+    return found
 
 
 def wait_until(holds: Callable[[], bool], unless: Callable[[], bool] = lambda: False,
