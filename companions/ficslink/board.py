@@ -3,6 +3,7 @@
 import re
 from collections.abc import Iterator
 from dataclasses import dataclass
+from typing import Self
 
 from .arrays import USUAL
 from .line import News
@@ -53,7 +54,7 @@ class Board(News):
     black_below: bool
 
     @classmethod
-    def parsed(cls, line: str) -> "Board | None":
+    def parsed(cls, line: str) -> Self | None:
         """The board that a line tells; none where it is no board line."""
         match = _FORM.fullmatch(line)
         if not match:

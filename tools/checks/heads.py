@@ -10,7 +10,8 @@ def begins_well(file):
 
 
 def faults():
-    scripts = [it for it in tracked() if it.parts[0] in ("tools", "companions", "bench") and it.suffix in HEADS]
+    folders = ("tools", "companions", "trials", "bench")
+    scripts = [it for it in tracked() if it.parts[0] in folders and it.suffix in HEADS]
     definitions = [it for it in of_crates("specs") if it.name != "Lib.antt"]
     for file in [*of_crates("src"), *definitions, *scripts]:
         if not begins_well(file):

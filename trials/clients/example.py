@@ -1,23 +1,18 @@
-#!/usr/bin/env python3
 """An example of a client over the library `companions/ficslink`: it plays a whole game of chess. It leaves the rules to
 the server: it tries one word after the other until one is taken.
 
-usage: example.py PORT                   plays against itself, over two links
-       example.py PORT NAME              enters as NAME, and accepts whoever challenges it
-       example.py PORT NAME OPPONENT     enters as NAME, and challenges OPPONENT
+usage: tools/trial clients.example PORT                   plays against itself, over two links
+       tools/trial clients.example PORT NAME              enters as NAME, and accepts whoever challenges it
+       tools/trial clients.example PORT NAME OPPONENT     enters as NAME, and challenges OPPONENT
 """
 
 import asyncio
-import os
 import random
 import sys
 
-sys.dont_write_bytecode = True
-sys.path.insert(0, os.path.join(os.path.dirname(os.path.realpath(__file__)), "..", "..", "companions"))
-from ficslink import Ended, LinkError, Member, RefusalError, Turn, lines  # noqa: E402
+from ficslink import Ended, LinkError, Member, Refusal, RefusalError, Turn, lines
 
 SQUARES = [file + rank for rank in "87654321" for file in "abcdefgh"]
-TOO_MANY_MOVES = 12
 
 
 def words(board):
@@ -44,7 +39,7 @@ async def step(member, game):
             print(member.name, word, flush=True)
             return
         except RefusalError as why:
-            if why.number == TOO_MANY_MOVES:  # 1,200 half-moves were played, and no more can be
+            if why.refusal is Refusal.TOO_MANY_MOVES:  # 1,200 half-moves were played, and no more can be
                 await member.act(game, "resign")
 
 

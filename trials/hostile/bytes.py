@@ -1,10 +1,13 @@
-#!/usr/bin/env python3
 """Lines that come a byte at a time, with each byte 0 to 255 in each place, and telnet units and blocks that never end:
 each line has one answer, the one of the rules."""
 
 import time
 
-from house import Client, Server, Witnesses, tell
+from trials.client import Client
+
+from .script import tell
+from .server import Server
+from .witnesses import Witnesses
 
 WORD = b"wxyz"
 # a line without blanks that no command begins with, and what `w` alone is, with which two begin
@@ -95,8 +98,12 @@ def units(client, tale):
 
 def endless(port, tale):
     """A link that ends inside a telnet unit, a block, a stamped line and a long line: the server hangs up."""
-    for name, rest in (("a unit", b"who\xff"), ("a block", b"who\xff\xfa\n\n"), ("a stamped line", b"\xc5\xd1\xbc"),
-                       ("a long line", b"x" * 2000)):
+    for name, rest in (
+        ("a unit", b"who\xff"),
+        ("a block", b"who\xff\xfa\n\n"),
+        ("a stamped line", b"\xc5\xd1\xbc"),
+        ("a long line", b"x" * 2000),
+    ):
         client = Client(port)
         client.enter(b"Eve")
         client.link.sendall(rest)
@@ -122,4 +129,5 @@ def main(given, tale):
         witnesses.finish()
 
 
-tell("bytes", __doc__, main)
+if __name__ == "__main__":
+    tell("bytes", __doc__, main)

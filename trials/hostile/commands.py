@@ -1,4 +1,3 @@
-#!/usr/bin/env python3
 """Each allocation of each command that isn't `serve` refused in turn, or about a hundred where there are more: it
 ends with 6, having written a beginning of what it writes else, or as ever where it can do without. A command over a
 store may end with 4 and nothing written: where its copy of the store can't be made whole for want of memory, that looks
@@ -11,14 +10,12 @@ import collections
 import os
 import shlex
 import subprocess
-import sys
 import tempfile
 
-from house import HERE, counter, loading, tell
+from tests.kit.records import make_full_store
 
-sys.path.insert(0, os.path.join(HERE, "..", "store"))
-sys.dont_write_bytecode = True
-from records import make_full_store  # noqa: E402
+from .script import tell
+from .server import counter, loading
 
 PGN = b"""[White "Ann"]
 [Black "Ben"]
@@ -86,6 +83,10 @@ def main(given, tale):
             Refusals(given.program, words, reads, folder).look(tale, text.split(" --store")[0], given.most)
 
 
-tell("commands", __doc__, main, [
-    (("--most",), {"type": int, "default": 100, "metavar": "N", "help": "refuses about so many of a command's"}),
-])
+if __name__ == "__main__":
+    tell(
+        "commands",
+        __doc__,
+        main,
+        [(("--most",), {"type": int, "default": 100, "metavar": "N", "help": "refuses about so many of a command's"})],
+    )

@@ -1,10 +1,12 @@
-#!/usr/bin/env python3
 """300 connections at once, to a hall of 256: who finds it full is told so, comes in once others have gone, and all of
 them take leave; then the server ends by itself."""
 
 import threading
 
-from house import Client, Server, tell
+from trials.client import Client
+
+from .script import tell
+from .server import Server
 
 CROWD = 300
 ROOM = 256
@@ -61,8 +63,9 @@ def main(given, tale):
             pass
         entered = sum(it.first is not None and it.first.startswith(b"Entered") for it in guests)
         full = sum(it.first == b"refused 25 HallFull\n\rlogin: " for it in guests)
-        tale.holds((entered, full) == (ROOM, CROWD - ROOM),
-                   f"{entered} came in at first, {full} were told that it is full")
+        tale.holds(
+            (entered, full) == (ROOM, CROWD - ROOM), f"{entered} came in at first, {full} were told that it is full"
+        )
         tale.saw(f"with all of them: {server.size()}")
         counted.set()
         for _ in range(ROOM):
@@ -74,4 +77,5 @@ def main(given, tale):
         server.ends(tale)
 
 
-tell("crowd", __doc__, main)
+if __name__ == "__main__":
+    tell("crowd", __doc__, main)

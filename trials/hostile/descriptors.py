@@ -1,11 +1,13 @@
-#!/usr/bin/env python3
 """A server that may have 64 descriptors, and 100 who come at once: who finds no room waits until others have gone, and
 all are answered in the end."""
 
 import resource
 import threading
 
-from house import Client, Server, tell
+from trials.client import Client
+
+from .script import tell
+from .server import Server
 
 DESCRIPTORS = 64
 CROWD = 100
@@ -43,8 +45,9 @@ def main(given, tale):
         guests = [Guest(server.port, number, stays) for number in range(CROWD)]
         threading.Event().wait(3)
         greeted = sum(it.greeted.is_set() for it in guests)
-        tale.holds(0 < greeted < DESCRIPTORS and server.is_up(),
-                   f"{greeted} of {CROWD} were greeted at first: {server.size()}")
+        tale.holds(
+            0 < greeted < DESCRIPTORS and server.is_up(), f"{greeted} of {CROWD} were greeted at first: {server.size()}"
+        )
         stays.set()
         for guest in guests:
             guest.join()
@@ -53,4 +56,5 @@ def main(given, tale):
         server.ends(tale)
 
 
-tell("descriptors", __doc__, main)
+if __name__ == "__main__":
+    tell("descriptors", __doc__, main)

@@ -1,4 +1,3 @@
-#!/usr/bin/env python3
 """A store whose file can't grow any more, as on a disk that is full: the server goes on and ends with status 4, what
 was saved before can be loaded, and where there is room again all that waited is saved."""
 
@@ -9,7 +8,10 @@ import signal
 import subprocess
 import tempfile
 
-from house import Client, Server, settles, tell
+from trials.client import Client
+
+from .script import tell
+from .server import Server, settles
 
 # so many accounts, of which each takes some kilobytes of the log beside the file, which begins with 260 KiB
 ACCOUNTS = 400
@@ -38,8 +40,9 @@ def register(port, tale):
 
 def check(program, store):
     """What `check` says of a store, and its status."""
-    done = subprocess.run([*shlex.split(program), "check", "--store", store], stdin=subprocess.DEVNULL,
-                          capture_output=True, check=False)
+    done = subprocess.run(
+        [*shlex.split(program), "check", "--store", store], stdin=subprocess.DEVNULL, capture_output=True, check=False
+    )
     return done.stdout, done.returncode
 
 
@@ -83,14 +86,19 @@ def main(given, tale):
         evening(given.program, full, tale, False, 4)
         said, status = check(given.program, full)
         saved = accounts_in(said)
-        tale.holds(status == 0 and saved is not None and 0 < saved < ACCOUNTS,
-                   f"of the full store of {os.path.getsize(full)} bytes check says {said!r}, status {status}")
+        tale.holds(
+            status == 0 and saved is not None and 0 < saved < ACCOUNTS,
+            f"of the full store of {os.path.getsize(full)} bytes check says {said!r}, status {status}",
+        )
         known = log_in(given.program, full, tale)
         tale.holds(known == saved, f"{known} accounts of {saved} were found again")
         evening(given.program, freed, tale, True, 0)
         said, status = check(given.program, freed)
-        tale.holds((said, status) == (b"ok: %d accounts, 0 games\n" % ACCOUNTS, 0),
-                   f"of the store with room again check says {said!r}, status {status}")
+        tale.holds(
+            (said, status) == (b"ok: %d accounts, 0 games\n" % ACCOUNTS, 0),
+            f"of the store with room again check says {said!r}, status {status}",
+        )
 
 
-tell("disk", __doc__, main)
+if __name__ == "__main__":
+    tell("disk", __doc__, main)

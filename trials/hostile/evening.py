@@ -1,4 +1,3 @@
-#!/usr/bin/env python3
 """256 people at 128 games, for a minute or as long as `--seconds` says: each line has one answer, the one that its kind
 has, and speed and memory stay as they are, once each pair has played two games to their ends. The bytes that the built
 program holds are counted by `live.c`, which is compiled and loaded into it."""
@@ -11,7 +10,11 @@ import shlex
 import tempfile
 import time
 
-from house import MOVES, PATIENCE, Client, Server, counter, loading, tell
+from trials.client import PATIENCE, Client
+
+from .script import tell
+from .server import Server, counter, loading
+from .witnesses import MOVES
 
 PAIRS = 128
 # so many games each pair plays before anything is compared: by then each game's lists have been as long as they get
@@ -124,8 +127,10 @@ class Part:
         return sum(self.held) / len(self.held) / 1024
 
     def text(self):
-        return (f"{self.speed():8.0f} lines a second, the slowest answered after {self.slowest:.3f} s, "
-                f"{self.holds():.0f} KiB held, {self.largest} KiB at most, {self.busy / self.seconds:.2f} processors")
+        return (
+            f"{self.speed():8.0f} lines a second, the slowest answered after {self.slowest:.3f} s, "
+            f"{self.holds():.0f} KiB held, {self.largest} KiB at most, {self.busy / self.seconds:.2f} processors"
+        )
 
 
 class Play:
@@ -225,8 +230,11 @@ def is_flat(parts, tale):
     tale.holds(speed >= SLOWER, f"the last fifth has {100 * speed:.0f} % of the speed of the first one")
     held = (sum(it.holds() for it in late) - sum(it.holds() for it in early)) / 2
     between = sum(it.answers for it in parts[1:-1])
-    tale.holds(held <= MORE_HELD, f"it holds {held:+.0f} KiB in the last fifth; {MORE_HELD * 1024 / between:.2f} bytes "
-               f"lost at each line would be {MORE_HELD} KiB")
+    tale.holds(
+        held <= MORE_HELD,
+        f"it holds {held:+.0f} KiB in the last fifth; {MORE_HELD * 1024 / between:.2f} bytes "
+        f"lost at each line would be {MORE_HELD} KiB",
+    )
     kept = max(it.largest for it in late) - max(it.largest for it in early)
     tale.holds(kept <= MORE_KEPT, f"with what the C library keeps it has {kept:+} KiB")
 
@@ -261,8 +269,17 @@ def main(given, tale):
         evening(given, tale, live, loading("live.c", folder, LIVE=live) if is_built(given.program) else None)
 
 
-tell("evening", __doc__, main, [
-    (("--seconds",), {"type": int, "default": 60, "help": "how long the compared evening is"}),
-    (("--pace",), {"type": int, "default": 0, "metavar": "MS", "help": "a pair says a line at most once in this time"}),
-    (("--game",), {"type": int, "default": 200, "metavar": "N", "help": "half-moves of a game, up to 1200"}),
-])
+if __name__ == "__main__":
+    tell(
+        "evening",
+        __doc__,
+        main,
+        [
+            (("--seconds",), {"type": int, "default": 60, "help": "how long the compared evening is"}),
+            (
+                ("--pace",),
+                {"type": int, "default": 0, "metavar": "MS", "help": "a pair says a line at most once in this time"},
+            ),
+            (("--game",), {"type": int, "default": 200, "metavar": "N", "help": "half-moves of a game, up to 1200"}),
+        ],
+    )

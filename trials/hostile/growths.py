@@ -1,4 +1,3 @@
-#!/usr/bin/env python3
 """Each allocation of an evening of six players refused in turn, or one at each of some evenings of lines at random. The
 session that asked for it ends, its game ends with it, its opponent is told so at its next line, and its name is free;
 all others are answered; and the server ends by itself.
@@ -17,8 +16,11 @@ import subprocess
 import tempfile
 import time
 
-from any_lines import any_line
-from house import FAREWELL, STARTING, Client, Server, counter, loading, tell
+from trials.client import FAREWELL, Client
+
+from .any_lines import any_line
+from .script import tell
+from .server import STARTING, Server, counter, loading
 
 ANN, BEN, CAT, DAN, DORA, EVE = NAMES = b"Ann", b"Ben", b"Cat", b"Dan", b"Dora", b"Eve"
 OPPONENTS = {ANN: BEN, BEN: ANN, CAT: DAN, DAN: CAT}
@@ -403,11 +405,31 @@ def main(given, tale):
             tale.saw(f"{times} times {kind}")
 
 
-tell("growths", __doc__, main, [
-    (("--every",), {"type": int, "default": 1, "metavar": "N", "help": "refuses the first and then each Nth"}),
-    (("--jobs",), {"type": int, "default": 2 * (os.cpu_count() or 1), "metavar": "N",
-                   "help": "so many servers at a time, which wait most of their time"}),
-    (("--store",), {"action": "store_true", "help": "the server has a store"}),
-    (("--evenings",), {"type": int, "default": 0, "metavar": "N",
-                       "help": "N evenings of lines at random, at each of which one allocation is refused"}),
-])
+if __name__ == "__main__":
+    tell(
+        "growths",
+        __doc__,
+        main,
+        [
+            (("--every",), {"type": int, "default": 1, "metavar": "N", "help": "refuses the first and then each Nth"}),
+            (
+                ("--jobs",),
+                {
+                    "type": int,
+                    "default": 2 * (os.cpu_count() or 1),
+                    "metavar": "N",
+                    "help": "so many servers at a time, which wait most of their time",
+                },
+            ),
+            (("--store",), {"action": "store_true", "help": "the server has a store"}),
+            (
+                ("--evenings",),
+                {
+                    "type": int,
+                    "default": 0,
+                    "metavar": "N",
+                    "help": "N evenings of lines at random, at each of which one allocation is refused",
+                },
+            ),
+        ],
+    )

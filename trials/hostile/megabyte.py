@@ -1,8 +1,11 @@
-#!/usr/bin/env python3
 """A megabyte without a line feed, before the login, behind it, and inside a telnet block: it is one long line or none,
 takes no memory, and what comes behind it is answered."""
 
-from house import Client, Server, Witnesses, tell
+from trials.client import Client
+
+from .script import tell
+from .server import Server
+from .witnesses import Witnesses
 
 MEGABYTE = 1 << 20
 # what a server may grow by meanwhile, in KiB
@@ -33,4 +36,5 @@ def main(given, tale):
         witnesses.finish()
 
 
-tell("megabyte", __doc__, main)
+if __name__ == "__main__":
+    tell("megabyte", __doc__, main)

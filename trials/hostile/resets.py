@@ -1,11 +1,14 @@
-#!/usr/bin/env python3
 """Connections that are cut off, half-open ones, and ones that close the way to the server only: each game of one that
 is gone ends, each line that was sent before a proper end is answered, and nothing of them is left."""
 
 import socket
 import time
 
-from house import GREETING, HOME, Client, Server, Witnesses, settles, tell
+from trials.client import GREETING, HOME, Client
+
+from .script import tell
+from .server import Server, settles
+from .witnesses import Witnesses
 
 TIMES = 50
 
@@ -86,4 +89,5 @@ def main(given, tale):
         witnesses.finish()
 
 
-tell("resets", __doc__, main)
+if __name__ == "__main__":
+    tell("resets", __doc__, main)

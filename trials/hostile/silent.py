@@ -1,11 +1,14 @@
-#!/usr/bin/env python3
 """A client that doesn't read, in the middle of a game: its connection ends, its opponent is told, and nobody else
 waits."""
 
 import socket
 import time
 
-from house import Client, Server, Witnesses, settles, tell
+from trials.client import Client
+
+from .script import tell
+from .server import Server, settles
+from .witnesses import Witnesses
 
 # the server waits 10 s for room of one byte, and once more where a write was made in part; machines are slow
 MOST_SECONDS = 300
@@ -46,4 +49,5 @@ def main(given, tale):
         witnesses.finish()
 
 
-tell("silent", __doc__, main)
+if __name__ == "__main__":
+    tell("silent", __doc__, main)

@@ -28,17 +28,37 @@ REBOOTED = 133  # by which systemd-nspawn says that its machine wants to be boot
 NEEDED = "systemd,systemd-sysv,dbus,iproute2,procps,sqlite3,python3,python3-aiohttp"
 # how the blocks of the page that are run begin
 BLOCKS = {
-    "setup": "./ficsd board", "backup": "systemctl stop ficsd\ninstall -d", "hot": "install -d",
-    "restore": "systemctl stop ficsd\nrm", "update": "apt-get install", "club": "mkdir -p /etc/ficsd",
+    "setup": "./ficsd board",
+    "backup": "systemctl stop ficsd\ninstall -d",
+    "hot": "install -d",
+    "restore": "systemctl stop ficsd\nrm",
+    "update": "apt-get install",
+    "club": "mkdir -p /etc/ficsd",
     "club_page": "sed 's/ficsd",
 }
 # what tries it within the machine, and what that imports
-INSIDE = ("trials/__init__.py", "trials/tale.py", "trials/install/__init__.py", "trials/install/inside.py",
-          "trials/install/machine.py", "trials/install/members.py", "trials/install/players.py",
-          "companions/tests/__init__.py", "companions/tests/kit/__init__.py", "companions/tests/kit/link.py")
+INSIDE = (
+    "trials/__init__.py",
+    "trials/tale.py",
+    "trials/install/__init__.py",
+    "trials/install/inside.py",
+    "trials/install/machine.py",
+    "trials/install/members.py",
+    "trials/install/players.py",
+    "companions/tests/__init__.py",
+    "companions/tests/kit/__init__.py",
+    "companions/tests/kit/link.py",
+)
 # what is left in a machine that was tried
-LEFT = ("root/try", "var/log/journal", "var/lib/ficsd", "var/lib/private", "etc/ficsd", "etc/systemd/system/fics*",
-        "etc/systemd/system/*/fics*")
+LEFT = (
+    "root/try",
+    "var/log/journal",
+    "var/lib/ficsd",
+    "var/lib/private",
+    "etc/ficsd",
+    "etc/systemd/system/fics*",
+    "etc/systemd/system/*/fics*",
+)
 UNIT = f"""[Unit]
 After=multi-user.target
 [Service]
@@ -125,7 +145,7 @@ def fill(root: Path, blocks: dict[str, list[str]], program: Path | None, stops: 
     packages = list(there.glob("*.deb"))
     look_over(packages)
     pack_older(packages, there / "older")
-    behind = [it for it in blocks["setup"][at + 1:] if it != "apt-get update"]
+    behind = [it for it in blocks["setup"][at + 1 :] if it != "apt-get update"]
     for name, lines in (blocks | {"setup": behind}).items():
         (there / f"{name}.sh").write_text("\n".join(lines) + "\n", encoding="utf-8")
     for it in INSIDE:
@@ -162,12 +182,17 @@ def in_mounts_of_its_own() -> None:
 def main() -> int:
     words = argparse.ArgumentParser(prog="trial install", description=__doc__.split("\n\n")[0])
     words.add_argument("--program", type=Path, help="a built program; without it the one that ./ficsd has built")
-    words.add_argument("--root", type=Path, metavar="FOLDER",
-                       help="a Debian to use again; it is made there where the folder isn't there yet")
+    words.add_argument(
+        "--root",
+        type=Path,
+        metavar="FOLDER",
+        help="a Debian to use again; it is made there where the folder isn't there yet",
+    )
     words.add_argument("--stops", type=int, default=30, metavar="N", help="stops with a running game, %(default)s")
     chosen = words.parse_args()
-    missing = [it for it in ("mmdebstrap", "systemd-nspawn", "unshare", "lintian", "dh", "dh_python3")
-               if not shutil.which(it)]
+    missing = [
+        it for it in ("mmdebstrap", "systemd-nspawn", "unshare", "lintian", "dh", "dh_python3") if not shutil.which(it)
+    ]
     if missing or os.geteuid() != 0:
         sys.exit(f"install: needs to run as root{', and ' + ', '.join(missing) if missing else ''}")
     in_mounts_of_its_own()

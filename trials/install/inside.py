@@ -19,8 +19,30 @@ from pathlib import Path
 
 from . import members
 from .machine import (
-    A_MOMENT, CLUB, CLUB_PAGE, FOLDER, PATIENCE, PROGRAM, SERVER, STORE, UNITS, all_up, check, comes, journal,
-    journal_length, listening, main_process, run_lines, says, servers, shell, shown, states, tale)
+    A_MOMENT,
+    CLUB,
+    CLUB_PAGE,
+    FOLDER,
+    PATIENCE,
+    PROGRAM,
+    SERVER,
+    STORE,
+    UNITS,
+    all_up,
+    check,
+    comes,
+    journal,
+    journal_length,
+    listening,
+    main_process,
+    run_lines,
+    says,
+    servers,
+    shell,
+    shown,
+    states,
+    tale,
+)
 from .players import adjourn, come_in_anew, enter, enter_again, play, register, resume
 
 WHOLE = "ok: 2 accounts, 1 games\n"  # what `check` says once two people have registered and their game is adjourned
@@ -38,8 +60,11 @@ def try_stop_and_start() -> None:
     says("stop: nobody listens", listening(), [])
     says("stop: no process is left", servers(), [])
     says("stop: it ended well", shown("ficsd", "Result"), "success")
-    says("start: it ends well, and the server listens at once",
-         (shell("systemctl start ficsd")[1], SERVER in listening()), (0, True))
+    says(
+        "start: it ends well, and the server listens at once",
+        (shell("systemctl start ficsd")[1], SERVER in listening()),
+        (0, True),
+    )
     all_up("start")
     before = servers()
     shell("systemctl restart ficsd")
@@ -87,8 +112,11 @@ def try_stops_with_game(stops: int) -> None:
     time.sleep(A_MOMENT)
     kept = f"ficsd: kept: 2 accounts and 1 adjourned games; {ALL_OF_ONE}"
     for turn in range(1, stops + 1):
-        says(f"stop {turn} with a game: it ends well, the game is kept, and the journal says so", stop_with_game(),
-             ("success", WHOLE, [kept]))
+        says(
+            f"stop {turn} with a game: it ends well, the game is kept, and the journal says so",
+            stop_with_game(),
+            ("success", WHOLE, [kept]),
+        )
         shell("systemctl start ficsd")
         ann, ben = enter_again()
         ann.say("stored")
@@ -122,8 +150,9 @@ def start_fails(name: str, status: int, means: str) -> None:
 
 
 def try_port_in_use() -> None:
-    done = subprocess.run(["ficsd", "serve", "--port", str(SERVER)], stdin=subprocess.DEVNULL, capture_output=True,
-                          text=True)
+    done = subprocess.run(
+        ["ficsd", "serve", "--port", str(SERVER)], stdin=subprocess.DEVNULL, capture_output=True, text=True
+    )
     says("a second server: its status and a word", (done.returncode, "port is in use" in done.stderr), (8, True))
     shell("systemctl stop ficsd")
     with socket.create_server(("0.0.0.0", SERVER)):
@@ -148,8 +177,10 @@ def try_bad_stores() -> None:
 
 def try_full_disk() -> None:
     """A stop over a disk that takes nothing, nor for files of a moment, says what is kept and that some is lost."""
-    shell("systemctl stop ficsd; mount -t tmpfs -o size=2M,mode=700,uid=$(id -u ficsd),gid=$(id -g ficsd) tmpfs "
-          "/var/lib/ficsd; mount -t tmpfs -o size=2M,mode=1777 tmpfs /tmp; systemctl start ficsd")
+    shell(
+        "systemctl stop ficsd; mount -t tmpfs -o size=2M,mode=700,uid=$(id -u ficsd),gid=$(id -g ficsd) tmpfs "
+        "/var/lib/ficsd; mount -t tmpfs -o size=2M,mode=1777 tmpfs /tmp; systemctl start ficsd"
+    )
     ann, ben = come_in_anew()
     play(ann, ben)
     time.sleep(A_MOMENT)
@@ -158,10 +189,18 @@ def try_full_disk() -> None:
         register(f"Guest{chr(ord('a') + n // 26)}{chr(ord('a') + n % 26)}")
     result, _, said = stop_with_game()
     said = [re.sub(r"\d+ accounts", "... accounts", it) for it in said if it.startswith("ficsd: ")]
-    says("a full disk: the stop fails, and the journal says what is kept and that some is lost", (result, said),
-         ("exit-code", [f"ficsd: kept: ... accounts and 0 adjourned games; {ALL_OF_ONE.replace('1', '0', 1)}",
-                        "ficsd: LOST: the disk takes nothing (No space left on device), so accounts and games that are "
-                        "new since then are lost, 1 of those that ran just now among them"]))
+    says(
+        "a full disk: the stop fails, and the journal says what is kept and that some is lost",
+        (result, said),
+        (
+            "exit-code",
+            [
+                f"ficsd: kept: ... accounts and 0 adjourned games; {ALL_OF_ONE.replace('1', '0', 1)}",
+                "ficsd: LOST: the disk takes nothing (No space left on device), so accounts and games that are "
+                "new since then are lost, 1 of those that ran just now among them",
+            ],
+        ),
+    )
     for it in (ann, ben):
         it.link.close()
     shell("umount /var/lib/ficsd; umount -l /tmp; systemctl reset-failed ficsd; systemctl start ficsd")
@@ -183,8 +222,11 @@ def try_club() -> None:
     says("a second club: the first one's store is its own", check(), WHOLE)
     shell("systemctl stop fics_server@blue")
     says("a second club: it ends well", shown("fics_server@blue", "Result"), "success")
-    says("a second club: its page has ended too, and the first one runs on",
-         (shown("fics_web_blue", "ActiveState"), states()), ("inactive", ["active"] * 3))
+    says(
+        "a second club: its page has ended too, and the first one runs on",
+        (shown("fics_web_blue", "ActiveState"), states()),
+        ("inactive", ["active"] * 3),
+    )
     shell("systemctl start fics_server@blue")
     comes("a second club: its page is started with it", lambda: is_heard(CLUB_PAGE), True)
 
@@ -203,8 +245,9 @@ def try_accounts() -> None:
 
 
 def try_watch() -> None:
-    says("a watch: all is well", (shell("systemctl start fics_watch")[1], shown("fics_watch", "Result")),
-         (0, "success"))
+    says(
+        "a watch: all is well", (shell("systemctl start fics_watch")[1], shown("fics_watch", "Result")), (0, "success")
+    )
     text, status = shell(f"fics_watch --port {SERVER} --shelf 0")
     says("a watch: a bound is crossed", (status, "more than 0 adjourned games" in text), (3, True))
     says("a watch: its timer is on", shown("fics_watch.timer", "ActiveState"), "active")
@@ -241,8 +284,11 @@ def try_removal() -> None:
     says("remove: the second club's is gone too", (is_heard(CLUB), is_heard(CLUB_PAGE)), (False, False))
     says("remove: the store stays", os.path.exists(STORE), True)
     text, status = shell("apt-get purge -y ficsd ficsd-companions")
-    says("purge: it says where the store and the archive lie",
-         (status, "stay, in /var/lib/ficsd" in text, "stays, in /var/lib/private/fics_scribe" in text), (0, True, True))
+    says(
+        "purge: it says where the store and the archive lie",
+        (status, "stay, in /var/lib/ficsd" in text, "stays, in /var/lib/private/fics_scribe" in text),
+        (0, True, True),
+    )
     says("purge: the store and the archive stay", (os.path.exists(STORE), members.archive() != ""), (True, True))
     says("purge: nothing else is left of what was run", [it for it in HOUSES if it.exists()], [])
     shell(f"cd {FOLDER} && apt-get install -y ./ficsd_*.deb ./ficsd-companions_*.deb")
@@ -269,8 +315,18 @@ def begin(stops: int) -> int:
         passed_over.append("stops with a game and all behind: this kernel doesn't let `ss -K` cut links")
         return tell_end()
     try_stops_with_game(stops)
-    for act in (try_kills, try_backup, try_port_in_use, try_bad_stores, try_full_disk, try_accounts, try_watch,
-                try_club, members.try_members, members.try_stop_with_members):
+    for act in (
+        try_kills,
+        try_backup,
+        try_port_in_use,
+        try_bad_stores,
+        try_full_disk,
+        try_accounts,
+        try_watch,
+        try_club,
+        members.try_members,
+        members.try_stop_with_members,
+    ):
         act()
     WRONG.write_text(json.dumps(tale.losses), encoding="utf-8")
     members.reboot()

@@ -42,23 +42,31 @@ def text_of(pattern: str) -> str:
 
 def try_members() -> None:
     """The members that a club enables; Ann plays House, which the scribe keeps, and joins the director's evening."""
-    says("a director without words: it isn't started, and rests",
-         (shell("systemctl start fics_director; sleep 8")[1], shown("fics_director", "ActiveState")), (0, "failed"))
+    says(
+        "a director without words: it isn't started, and rests",
+        (shell("systemctl start fics_director; sleep 8")[1], shown("fics_director", "ActiveState")),
+        (0, "failed"),
+    )
     shell(f"echo '{WORDS}' >>/etc/default/fics_director")
     says("members: enabled", shell("systemctl enable --now fics_bot fics_director fics_scribe")[1], 0)
     members_up("enabled")
     ann = enter("Ann", "swordfish")
     comes("members: House and Director are in", lambda: are_in(ann, "House", "Director"), True)
-    says("members: nobody else reads House's password",
-         shell("stat -L -c %a /var/lib/fics_bot /var/lib/fics_bot/password")[0].split(), ["700", "600"])
+    says(
+        "members: nobody else reads House's password",
+        shell("stat -L -c %a /var/lib/fics_bot /var/lib/fics_bot/password")[0].split(),
+        ["700", "600"],
+    )
     ann.say("match house 5 0 white")
     ann.until("^<12>.* none [01]$")
     ann.say("e4")
     ann.until("^<12>.* W .* [a-hNBRQKO][^ ]* [01]$")
     ann.say("resign")
-    comes("members: the scribe has that game", lambda: re.findall(
-        r'\[White "(.*)"\]\n\[Black "(.*)"\]\n\[Result "(.*)"\]', archive()),
-        [("Ann", "House", "0-1")])
+    comes(
+        "members: the scribe has that game",
+        lambda: re.findall(r'\[White "(.*)"\]\n\[Black "(.*)"\]\n\[Result "(.*)"\]', archive()),
+        [("Ann", "House", "0-1")],
+    )
     ann.say("tell Director join")
     ann.until("You have joined")
     says("members: the director has noted it", "join Ann\n" in text_of(EVENING), True)
@@ -70,7 +78,7 @@ def are_in(link: Link, *names: str) -> bool:
     link.say("who", "zzz")
     start = link.read
     link.until("^refused 26 ")
-    return set(names) <= set(link.lines[start:link.read])
+    return set(names) <= set(link.lines[start : link.read])
 
 
 def try_doors() -> None:
@@ -87,9 +95,11 @@ def try_doors() -> None:
 def try_stop_with_members() -> None:
     """What runs beside the server is stopped with it, ends well, and is started with it."""
     shell("systemctl stop ficsd")
-    says("members: they are stopped with the server, and end well",
-         [(shown(it, "ActiveState"), shown(it, "Result")) for it in WITHOUT_A_STORE],
-         [("inactive", "success")] * len(WITHOUT_A_STORE))
+    says(
+        "members: they are stopped with the server, and end well",
+        [(shown(it, "ActiveState"), shown(it, "Result")) for it in WITHOUT_A_STORE],
+        [("inactive", "success")] * len(WITHOUT_A_STORE),
+    )
     shell("systemctl start ficsd")
     members_up("started with the server")
 
@@ -99,8 +109,11 @@ def try_exposures() -> None:
     for unit in (*WITHOUT_A_STORE, "fics_watch", "ficsd", "fics_server@blue"):
         said = shell(f"systemd-analyze security --no-pager {unit}")[0]
         level = re.search(r"Overall exposure level for \S+: ([\d.]+)", said)
-        says(f"{unit}: its exposure, {level and level[1]}, is below {MOST_EXPOSED}",
-             level is not None and float(level[1]) < MOST_EXPOSED, True)
+        says(
+            f"{unit}: its exposure, {level and level[1]}, is below {MOST_EXPOSED}",
+            level is not None and float(level[1]) < MOST_EXPOSED,
+            True,
+        )
 
 
 def play_until_the_end() -> NoReturn:
@@ -117,9 +130,11 @@ def play_until_the_end() -> NoReturn:
 
 def reboot() -> None:
     """Reboots the machine while people are in the hall, whose links nothing cuts but the stop of the server."""
-    shell(f"rm -f {PLAYING}; systemd-run -q --unit=players -p DefaultDependencies=no "
-          f"-p StandardOutput=append:{FOLDER}/said -p WorkingDirectory={FOLDER} "
-          "/usr/bin/python3 -Bm trials.install.inside play")
+    shell(
+        f"rm -f {PLAYING}; systemd-run -q --unit=players -p DefaultDependencies=no "
+        f"-p StandardOutput=append:{FOLDER}/said -p WorkingDirectory={FOLDER} "
+        "/usr/bin/python3 -Bm trials.install.inside play"
+    )
     comes("a reboot: a game runs", lambda: shell(f"test -e {PLAYING}")[1], 0)
     shell("systemctl reboot")
     time.sleep(PATIENCE * 5)
@@ -128,12 +143,17 @@ def reboot() -> None:
 def behind_reboot() -> None:
     """What the journal has of the stop before it, and that all is there again."""
     lines = shell("journalctl -u ficsd -b -1 --output=cat")[0].splitlines()
-    last = lines[max(at for at, it in enumerate(lines) if it.startswith("Started ")):]
-    says("a reboot: the game is kept, and the journal says so",
-         [re.sub("kept: .* and 1 adj", "kept: 1 adj", it) for it in last if "kept:" in it or "LOST" in it],
-         ["ficsd: kept: 1 adjourned games; 1 of the 1 that ran between players with accounts are among them"])
-    says("a reboot: it didn't end as failed, and no status is told",
-         [it for it in last if "Failed with" in it or "status" in it], [])
+    last = lines[max(at for at, it in enumerate(lines) if it.startswith("Started ")) :]
+    says(
+        "a reboot: the game is kept, and the journal says so",
+        [re.sub("kept: .* and 1 adj", "kept: 1 adj", it) for it in last if "kept:" in it or "LOST" in it],
+        ["ficsd: kept: 1 adjourned games; 1 of the 1 that ran between players with accounts are among them"],
+    )
+    says(
+        "a reboot: it didn't end as failed, and no status is told",
+        [it for it in last if "Failed with" in it or "status" in it],
+        [],
+    )
     members_up("behind a reboot")
     ann, ben = enter_again()
     resume(ann, ben)

@@ -50,7 +50,7 @@ def resume(ann: Link, ben: Link) -> None:
     ben.until("^Asked")
     ann.say("resume ben")
     line = ann.until("^<12> .*").group(0)
-    says("the game goes on as it stood", line[5:5 + len(BOARD)], BOARD)
+    says("the game goes on as it stood", line[5 : 5 + len(BOARD)], BOARD)
 
 
 def adjourn(ann: Link, ben: Link) -> None:

@@ -2,21 +2,18 @@
 
 import asyncio
 import itertools
-import socket
-import subprocess
 import time
 from collections.abc import Iterable
 from pathlib import Path
 from random import Random
 
-from ficslink.errors import RefusalError
-from ficslink.link import Link
-from judge import Dark, Played
-from players import PATIENCE, Game, Manner, Player
+from ficslink import RefusalError
+from tests.kit import paths
+from tests.kit.running import Run, Server
 
-TOP = Path(__file__).resolve().parents[2]
-SCRIBE = TOP / "companions" / "fics_scribe"
-HOME = "127.0.0.1"
+from .judge import Dark, Played
+from .players import PATIENCE, Game, Manner, Player
+
 SECRET = "secret"
 BOARDS = 128
 GIVERS = 16  # each plays with each other at once
@@ -32,22 +29,19 @@ async def until(holds, seconds: float = PATIENCE) -> None:
 class Evening:
     """What runs, and what was played."""
 
-    def __init__(self, program: str, folder: Path, seed: int) -> None:
-        self.program, self.folder, self.seed = program, folder, seed
+    def __init__(self, folder: Path, seed: int) -> None:
+        self.folder, self.seed = folder, seed
         self.archive = folder / "archive"
         self.played: list[Played] = []
         self.dark: list[Dark] = []
         self.faults: list[str] = []
+        self.scribes: list[Run] = []  # one after another
         self._names = itertools.count()
 
     async def begin(self) -> None:
         self.folder.mkdir(parents=True, exist_ok=True)
-        with socket.create_server((HOME, 0)) as door:
-            self.place = HOME, door.getsockname()[1]
-        words = [self.program, "serve", "--port", str(self.place[1]), "--store", self.folder / "club.db"]
-        self.server = subprocess.Popen(words, stdout=subprocess.PIPE, stderr=subprocess.DEVNULL)
-        if self.server.stdout.readline() != b"ready\n":
-            raise ValueError("the server doesn't serve")
+        self.server = Server(self.folder / "club.db")
+        self.place = "127.0.0.1", self.server.port
         self.looker = Player(self.place, "Looker")
         await self.looker.enter()
         scribe = Player(self.place, "Scribe", SECRET)
@@ -59,10 +53,18 @@ class Evening:
         await self.begin_scribe()
 
     async def begin_scribe(self) -> None:
-        words = [SCRIBE, "--server", ":".join(map(str, self.place)), "--archive", self.archive, "--name", "Scribe",
-                 "--password-file", self.folder / "password"]
-        with open(self.folder / "log", "ab") as log:
-            self.scribe = subprocess.Popen(words, stderr=log)
+        self.scribe = Run(
+            paths.companion("fics_scribe"),
+            "--server",
+            self.server.address,
+            "--archive",
+            self.archive,
+            "--name",
+            "Scribe",
+            "--password-file",
+            self.folder / "password",
+        )
+        self.scribes.append(self.scribe)
         await until(self.is_scribe_in)
 
     async def is_scribe_out(self) -> bool:
@@ -73,18 +75,19 @@ class Evening:
 
     async def end(self) -> None:
         """Ends it, once the scribe has heard of the end of each game."""
+
         async def is_kept() -> bool:
             return not list(self.archive.glob("running/*.lines"))
+
         await until(is_kept)
-        self.scribe.terminate()
-        if status := self.scribe.wait(PATIENCE):
-            self.faults.append(f"the scribe ended with {status}")
+        if status := await asyncio.to_thread(self.scribe.terminate):
+            self.faults.append(f"the scribe ended with {status}: {self.scribe.log[-3:]}")
 
     def stop(self) -> None:
         for it in (self.scribe, self.server):
-            if it.poll() is None:
-                it.kill()
-                it.wait()
+            it.end()
+        lines = [line for scribe in self.scribes for line in scribe.log]
+        (self.folder / "log").write_text("".join(f"{it}\n" for it in lines), encoding="utf-8")
 
     # ---- killing ----
 
@@ -94,8 +97,7 @@ class Evening:
         for _ in range(times):
             await asyncio.sleep(dice.uniform(3, 10))
             begun = time.time()
-            self.scribe.kill()
-            self.scribe.wait()
+            self.scribe.end()
             await until(self.is_scribe_out)
             await self.begin_scribe()
             self.dark.append(Dark(begun, time.time()))
@@ -104,7 +106,7 @@ class Evening:
 
     def player(self, password: str = "", gives: bool = False) -> Player:
         number = next(self._names)
-        letters = "".join(chr(ord("A") + number // 26 ** it % 26) for it in (2, 1, 0))
+        letters = "".join(chr(ord("A") + number // 26**it % 26) for it in (2, 1, 0))
         return Player(self.place, f"Bot{letters}", password, gives)
 
     def tables(self, duels: int, fours: int, opponents: int = 0) -> list[list[Player]]:
@@ -121,8 +123,14 @@ class Evening:
         found = [list(it) for it in itertools.combinations(givers, 2)]
         return found + [[self.player() for _ in range(4)] for _ in range(BOARDS - len(found))]
 
-    async def play(self, part: str, tables: list[list[Player]], numbers: Iterable[int], manners: list[Manner],
-                   together: asyncio.Barrier | None = None) -> None:
+    async def play(
+        self,
+        part: str,
+        tables: list[list[Player]],
+        numbers: Iterable[int],
+        manners: list[Manner],
+        together: asyncio.Barrier | None = None,
+    ) -> None:
         """Plays so many games as there are numbers, each table with one of the manners in turn. The first ones begin
         `together`."""
         begun, people = time.monotonic(), list(dict.fromkeys(it for table in tables for it in table))
@@ -163,8 +171,10 @@ class Evening:
 
     async def all_boards(self) -> None:
         """Waits until all boards are in use, and the scribe looks on at each."""
+
         async def are_seen() -> bool:
             return len(list(self.archive.glob("running/*.lines"))) == BOARDS
+
         await until(are_seen)
         try:
             desks = {(it.game + 1) // 2 for it in (await self.looker.link.ask("games")).lines}

@@ -6,8 +6,9 @@ from dataclasses import dataclass, field
 
 from ficslink.arrays import USUAL, array
 from ficslink.terms import Terms
-from kept import Kept, Pair
-from seen import HalfMove, Seen
+
+from .kept import Kept, Pair
+from .seen import HalfMove, Seen
 
 VARIANTS = {"crazyhouse": "Crazyhouse", "fischer": "Chess960", "bughouse": "Bughouse"}
 SECOND = 1.0  # to which a game's beginning is told
@@ -44,8 +45,11 @@ class Played:
             return False
         if kept.reason:
             is_end = kept.start + len(kept.half_moves) == len(self.seen.half_moves)
-            return is_end and (kept.reason, kept.result) == (self.seen.reason, self.seen.result) and self._reads(
-                kept, self.seen.half_moves)
+            return (
+                is_end
+                and (kept.reason, kept.result) == (self.seen.reason, self.seen.result)
+                and self._reads(kept, self.seen.half_moves)
+            )
         return any(self._reads(kept, it) for it in (self.seen.half_moves, *self.seen.given_up))
 
     def seconds_from(self, kept: Kept) -> float:
@@ -65,7 +69,7 @@ class Played:
             held = self.seen.hands_behind(kept.start)
             if [sorted(it) for it in kept.hands] != [sorted(it) for it in held]:
                 return False
-        return kept.half_moves == [(it.short, self._clock(it), clock(it.took)) for it in half_moves[kept.start:end]]
+        return kept.half_moves == [(it.short, self._clock(it), clock(it.took)) for it in half_moves[kept.start : end]]
 
     def _clock(self, it: HalfMove) -> str:
         """What a player's clock had behind a half-move, as PGN says it; nothing without clocks."""
@@ -92,7 +96,9 @@ class Dark:
 class Judge:
     """Says what is wrong, and counts what became of the games of each part."""
 
-    def __init__(self, played: list[Played], kept: list[Kept], pairs: list[Pair], dark: list[Dark], slack: float) -> None:
+    def __init__(
+        self, played: list[Played], kept: list[Kept], pairs: list[Pair], dark: list[Dark], slack: float
+    ) -> None:
         self.played, self.kept, self.pairs = played, kept, pairs
         self.dark, self.slack = dark, slack
         self.counts: dict[str, Counter[str]] = defaultdict(Counter)
@@ -143,7 +149,9 @@ class Judge:
             count["nothing to keep"] += 1
         elif len(it.pieces) == 1 and ended and not ended[0].start:
             count["whole"] += 1
-        elif not any(dark.begun - self.slack < seen.ended and seen.begun < dark.ended + self.slack for dark in self.dark):
+        elif not any(
+            dark.begun - self.slack < seen.ended and seen.begun < dark.ended + self.slack for dark in self.dark
+        ):
             if len(it.pieces) == 1 and ended:
                 count["begun late"] += 1
                 count["half-moves missed"] += ended[0].start
@@ -184,11 +192,15 @@ class Judge:
                 continue  # said already
             if [kept[it].tags["Partner"] for it in links] != list(reversed(links)):
                 yield f"{links} don't name each other"
-            due = sorted(((half, board) for board, link in zip("AB", links)
-                          for half in part_of(by_link[link].seen, kept[link])), key=lambda it: it[0].place)
+            due = sorted(
+                ((half, board) for board, link in zip("AB", links) for half in part_of(by_link[link].seen, kept[link])),
+                key=lambda it: it[0].place,
+            )
             is_timed = by_link[links[0]].who[2] != "-"
-            if not any(pair.half_moves == [of_a_pair(*it, is_timed) for it in order]
-                       for order in orders(due, min(kept[it].begun for it in links))):
+            if not any(
+                pair.half_moves == [of_a_pair(*it, is_timed) for it in order]
+                for order in orders(due, min(kept[it].begun for it in links))
+            ):
                 yield f"the pair of {links} has other half-moves than its games, or another order"
         bughouse = sum("Partner" in it.tags for it in self.kept)
         if bughouse != 2 * len(self.pairs):
@@ -196,8 +208,8 @@ class Judge:
 
 
 def orders(due: list[tuple[HalfMove, str]], begun: float) -> Iterator[list[tuple[HalfMove, str]]]:
-    """The order of a pair's half-moves. Where each board had one as the scribe first saw them nobody tells it which came
-    first, and the first board's may stand first."""
+    """The order of a pair's half-moves. Where each board had one as the scribe first saw them nobody tells it which
+    came first, and the first board's may stand first."""
     yield due
     if [(half.ply, board) for half, board in due[:2]] == [(1, "B"), (1, "A")] and due[1][0].moment < begun + SECOND:
         yield [due[1], due[0], *due[2:]]
@@ -208,4 +220,4 @@ def of_a_pair(half: HalfMove, board: str, is_timed: bool) -> tuple[str, int, str
 
 
 def part_of(seen: Seen, kept: Kept) -> list[HalfMove]:
-    return seen.half_moves[kept.start:kept.start + len(kept.half_moves)]
+    return seen.half_moves[kept.start : kept.start + len(kept.half_moves)]

@@ -7,7 +7,7 @@ from dataclasses import dataclass, field
 from datetime import datetime, timedelta
 from pathlib import Path
 
-from scribe.archive import Archive
+from ficsd_companions.scribe.archive import Archive
 
 GAME = re.compile(r"((?:\[.*\]\n)+)\n((?:.+\n)+)\n")
 TAG = re.compile(r'^\[(\w+) "(.*)"\]$', re.MULTILINE)
@@ -25,7 +25,9 @@ class Kept:
     start: int  # how many half-moves were made before its first one
     ranks: tuple[str, ...] | None  # the men in the position that its FEN tells
     hands: tuple[str, str] | None
-    half_moves: list[tuple[str, str, str]]  # each with what its player's clock had, where there are clocks, and its time
+    half_moves: list[
+        tuple[str, str, str]
+    ]  # each with what its player's clock had, where there are clocks, and its time
     reason: str
     result: str
 
@@ -82,8 +84,10 @@ def read(folder: Path) -> tuple[list[Kept], list[Pair]]:
 
 
 def pair_of(head: str, movetext: str) -> Pair:
-    half_moves = [(board.upper(), 2 * int(number) - board.isupper(), word, int(left) if left else None)
-                  for number, board, word, left in OF_A_PAIR.findall(movetext.replace("\n", " "))]
+    half_moves = [
+        (board.upper(), 2 * int(number) - board.isupper(), word, int(left) if left else None)
+        for number, board, word, left in OF_A_PAIR.findall(movetext.replace("\n", " "))
+    ]
     return Pair(dict(TAG.findall(head)), half_moves)
 
 

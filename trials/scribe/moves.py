@@ -52,7 +52,10 @@ def pawn_steps(board: Board, men: dict[str, str], square: str, man: str) -> Iter
     ends = list(takewhile(lambda it: it not in men, line(square, 0, up, farthest, men)))
     passed = FILES[board.double_push] + ("6" if board.side == "W" else "3") if board.double_push >= 0 else ""
     for across in (-1, 1):
-        ends += [it for it in line(square, across, up, 1, men)
-                 if it == passed or it in men and men[it].isupper() != man.isupper()]
+        ends += [
+            it
+            for it in line(square, across, up, 1, men)
+            if it == passed or it in men and men[it].isupper() != man.isupper()
+        ]
     for end in ends:
         yield square + end + ("=Q" if end[1] in "18" else "")

@@ -5,21 +5,22 @@ from contextlib import suppress
 from dataclasses import dataclass
 from random import Random
 
-from engine_bot.last_resort import tried
-from ficslink.errors import LinkError, RefusalError
+from ficsd_companions.bot.last_resort import tried
+from ficslink import LinkError, Refusal, RefusalError
 from ficslink.link import Link
 from ficslink.pace import Pace
-from moves import words
-from seen import Eye, Seen
+
+from .moves import words
+from .seen import Eye, Seen
 
 PATIENCE = 120.0
 # of all links together: where many wait the server's own news, ten times a second, are soon enough, and a process in
 # Python has no time for more
 PACE = Pace(0.025, 250)
 AGAIN = 0.05  # seconds, before what was refused is tried again
-PASS_BY_WAITING = (24, 33, 34, 35)  # a name that is still in, somebody who still plays, no desk
-GAME_IS_OVER = (10, 20)
-NOT_FALLEN = 14
+# a name that is still in, somebody who still plays, no desk
+PASS_BY_WAITING = {Refusal.HANDLE_TAKEN, Refusal.PLAYING, Refusal.NO_CHALLENGE, Refusal.NO_DESK}
+GAME_IS_OVER = {Refusal.GAME_OVER, Refusal.NOT_PLAYING}
 
 
 class Player:
@@ -39,7 +40,7 @@ class Player:
                 break
             except RefusalError as refusal:
                 await self.link.close()
-                if refusal.number not in PASS_BY_WAITING:
+                if refusal.refusal not in PASS_BY_WAITING:
                     raise
                 await asyncio.sleep(AGAIN)
         if answer.prompt == "password: ":
@@ -96,7 +97,9 @@ class Game:
         self.seen: dict[Player, list[Seen]] = {}
         self.made = 0
         self.end, self.length = self._plan()
-        self.takebacks = {self.length // 2} if len(boards) == 1 and not self.is_of_simul and dice.random() < 0.15 else ()
+        self.takebacks = (
+            {self.length // 2} if len(boards) == 1 and not self.is_of_simul and dice.random() < 0.15 else ()
+        )
         time = "0 1" if self.end == self.flag else dice.choice(("0 0", "5 0", "2 12", "15 5", "0 20"))
         self.terms = f"{time} {variant}"
 
@@ -146,7 +149,7 @@ class Game:
                 await black.say(f"accept {white.name}")
                 break
             except RefusalError as refusal:
-                if refusal.number not in PASS_BY_WAITING:
+                if refusal.refusal not in PASS_BY_WAITING:
                     raise
             await asyncio.sleep(AGAIN)
         await self.find()
@@ -192,7 +195,7 @@ class Game:
                 self.made += 1
                 return True
             except RefusalError as refusal:
-                if refusal.number in GAME_IS_OVER:
+                if refusal.refusal in GAME_IS_OVER:
                     await mover.say("")
                     return True
         return False
@@ -261,7 +264,7 @@ class Game:
                 await other.say(f"resume {one.name}")
                 break
             except RefusalError as refusal:
-                if refusal.number not in PASS_BY_WAITING:
+                if refusal.refusal not in PASS_BY_WAITING:
                     raise
             await asyncio.sleep(AGAIN)
         await self.find()

@@ -47,12 +47,14 @@ class Seen:
             took, left = board.took.strip("()"), board.left("black" if board.side == "W" else "white")
             self.half_moves.append(HalfMove(board.ply, board.short, took, left, board.ranks, moment, place))
         elif board.ply != len(self.half_moves):
-            raise ValueError(f"{self.white} and {self.black} are behind {board.ply} half-moves, and "
-                             f"{len(self.half_moves)} were seen")
+            raise ValueError(
+                f"{self.white} and {self.black} are behind {board.ply} half-moves, and "
+                f"{len(self.half_moves)} were seen"
+            )
 
     def take_back(self, count: int) -> None:
         self.given_up.append(list(self.half_moves))
-        del self.half_moves[len(self.half_moves) - count:]
+        del self.half_moves[len(self.half_moves) - count :]
         self.hands = {ply: it for ply, it in self.hands.items() if ply <= len(self.half_moves)}
 
     def hands_behind(self, ply: int) -> tuple[str, str]:

@@ -2,13 +2,14 @@
 
 import getpass
 import sys
+from collections.abc import Sequence
 
 from .store import Refused
 
 MOST_PASSWORD = 800  # bytes
 
 
-def line(question):
+def line(question: str) -> str:
     """A line that answers a question."""
     print(question, end="", file=sys.stderr, flush=True)
     said = sys.stdin.readline()
@@ -17,7 +18,7 @@ def line(question):
     return said.rstrip("\n")
 
 
-def one_of(question, answers):
+def one_of(question: str, answers: Sequence[str]) -> str:
     """Asks until the answer is one of these, of which the beginning is enough."""
     while True:
         said = line(f"{question} [{'/'.join(answers)}] ").strip().lower()
@@ -26,7 +27,7 @@ def one_of(question, answers):
             return fits[0]
 
 
-def hidden(question):
+def hidden(question: str) -> str:
     """A line that isn't shown on the terminal."""
     if not sys.stdin.isatty():
         return line(question)
@@ -36,7 +37,7 @@ def hidden(question):
         raise Refused("there was no answer; nothing was changed") from None
 
 
-def password(name):
+def password(name: str) -> str:
     """A password that a player can type, which is given twice."""
     first = hidden(f"New password of {name}: ")
     if not (0 < len(first) <= MOST_PASSWORD and all(" " <= it <= "~" for it in first)) or first != first.strip():

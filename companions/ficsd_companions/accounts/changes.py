@@ -1,13 +1,16 @@
 """What operators change in a store: a password, a name, an account, games."""
 
+from collections.abc import Sequence
+
 from . import records
-from .store import Refused
+from .records import Account, Game
+from .store import Change, Refused, Store
 
 PUT = "UPDATE records SET key = ?, record = ? WHERE key = ?"
 DELETE = "DELETE FROM records WHERE key = ?"
 
 
-def account_of(store, name):
+def account_of(store: Store, name: str) -> Account:
     """The account of that name."""
     found = [it for it in store.accounts() if it.name.lower() == name.lower()]
     if not found:
@@ -15,25 +18,24 @@ def account_of(store, name):
     return found[0]
 
 
-def put_account(old, new):
+def put_account(old: Account, new: Account) -> Change:
     return PUT, (records.account_key(new.name), new.text(), records.account_key(old.name))
 
 
-def put_game(game):
+def put_game(game: Game) -> Change:
     return PUT, (game.key(), game.text(), game.key())
 
 
-def games_of(store, name):
+def games_of(store: Store, name: str) -> list[Game]:
     """The games that a player is in, oldest first."""
     return [it for it in store.games() if it.has(name)]
 
 
-def set_password(store, account, password):
-    new = records.Account(account.name, records.digest_of(password))
-    store.change([put_account(account, new)])
+def set_password(store: Store, account: Account, password: str) -> None:
+    store.change([put_account(account, Account(account.name, records.digest_of(password)))])
 
 
-def check_new_name(store, old, new):
+def check_new_name(store: Store, old: str, new: str) -> None:
     """Refuses a name that nobody can have, or that somebody has or had."""
     if not records.is_handle(new) or new.lower() == "guest":
         raise Refused(f"{new} can't be a name: names are 3 to 17 letters, and not the word guest")
@@ -42,26 +44,35 @@ def check_new_name(store, old, new):
     if any(it.name.lower() == new.lower() for it in store.accounts()):
         raise Refused(f"{new} is somebody's account already")
     if left := games_of(store, new):
-        raise Refused(f"{len(left)} adjourned games are of somebody who was {new}, whose games these then would be; "
-                      f"`clear --player {new}` takes them away")
+        raise Refused(
+            f"{len(left)} adjourned games are of somebody who was {new}, whose games these then would be; "
+            f"`clear --player {new}` takes them away"
+        )
 
 
-def rename(store, account, new):
+def rename(store: Store, account: Account, new: str) -> int:
     """Gives an account, and its place in each game, another name; answers how many games."""
     check_new_name(store, account.name, new)
     games = games_of(store, account.name)
-    store.change([put_account(account, records.Account(new, account.digest)),
-                  *(put_game(store.whole(it).renamed(account.name, new)) for it in games)])
+    store.change(
+        [
+            put_account(account, Account(new, account.digest)),
+            *(put_game(store.whole(it).renamed(account.name, new)) for it in games),
+        ]
+    )
     return len(games)
 
 
-def remove(store, account, games):
+def remove(store: Store, account: Account, games: Sequence[Game]) -> None:
     """Takes an account away, and these games."""
-    store.change([(DELETE, (records.account_key(account.name),)), *((DELETE, (it.key(),)) for it in games)],
-                 accounts=-1, games=-len(games))
+    store.change(
+        [(DELETE, (records.account_key(account.name),)), *((DELETE, (it.key(),)) for it in games)],
+        accounts=-1,
+        games=-len(games),
+    )
 
 
-def chosen_games(store, player, oldest, numbers):
+def chosen_games(store: Store, player: str | None, oldest: int | None, numbers: tuple[int, int] | None) -> list[Game]:
     """The games that are meant, oldest first: those of a player, of numbers, and of these so many of the oldest."""
     games = games_of(store, player) if player else store.games()
     if numbers:
@@ -69,5 +80,5 @@ def chosen_games(store, player, oldest, numbers):
     return games if oldest is None else games[:oldest]
 
 
-def clear(store, games):
+def clear(store: Store, games: Sequence[Game]) -> None:
     store.change([(DELETE, (it.key(),)) for it in games], games=-len(games))

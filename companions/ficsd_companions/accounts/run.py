@@ -6,72 +6,94 @@ It is no part of what is proved. Each change is one transaction, before which th
 """
 
 import argparse
-import re
 import sys
+from collections.abc import Callable
+from pathlib import Path
 
 from ficsd_companions.cli.program import program
+from ficsd_companions.cli.words import count
 
 from . import asking, changes, records
 from .store import Refused, Spoiled, Store
 
-STORE = "/var/lib/ficsd/club.db"
+STORE = Path("/var/lib/ficsd/club.db")
 KEPT_GAMES = "whoever enters under that name then can go on with them"
 
 
-def count(word):
-    """A number from 1 on."""
-    if not re.fullmatch(r"[1-9]\d{0,18}", word):
-        raise argparse.ArgumentTypeError("a number from 1 on is wanted")
-    return int(word)
+number = count(10**18 - 1)
 
 
-def numbers(word):
+class Chosen(argparse.Namespace):
+    """The words of the command line."""
+
+    store: Path
+    program: str
+    act: "Act"
+    name: str
+    old: str
+    new: str
+    games: str | None
+    oldest: int | None
+    player: str | None
+    numbers: tuple[int, int] | None
+    yes: bool
+
+
+Act = Callable[[Store, Chosen], None]
+
+
+def numbers(word: str) -> tuple[int, int]:
     """The first and the last of some numbers: N, or N-M."""
     first, _, last = word.partition("-")
-    first, last = count(first), count(last or first)
-    if last < first:
+    low, high = number(first), number(last or first)
+    if high < low:
         raise argparse.ArgumentTypeError("the second number is below the first")
-    return first, last
+    return low, high
 
 
-def show_accounts(store, _):
+def show_accounts(store: Store, chosen: Chosen) -> None:
     accounts, games = store.accounts(), store.games()
     for account in accounts:
         print(account.name, sum(it.has(account.name) for it in games))
-    print(f"{len(accounts)} accounts of at most {records.MOST_ACCOUNTS}, "
-          f"{len(games)} adjourned games of at most {records.MOST_GAMES}")
+    print(
+        f"{len(accounts)} accounts of at most {records.MOST_ACCOUNTS}, "
+        f"{len(games)} adjourned games of at most {records.MOST_GAMES}"
+    )
 
 
-def show_games(store, chosen):
+def show_games(store: Store, chosen: Chosen) -> None:
     for game in changes.games_of(store, chosen.name) if chosen.name else store.games():
         print(game.line())
 
 
-def set_password(store, chosen):
+def set_password(store: Store, chosen: Chosen) -> None:
     account = changes.account_of(store, chosen.name)
     changes.set_password(store, account, asking.password(account.name))
     print(f"{account.name} has the new password")
 
 
-def rename(store, chosen):
+def rename(store: Store, chosen: Chosen) -> None:
     account = changes.account_of(store, chosen.old)
     games = changes.rename(store, account, chosen.new)
     print(f"{account.name} is {chosen.new} now, also in {games} adjourned games")
 
 
-def remove(store, chosen):
+def remove(store: Store, chosen: Chosen) -> None:
     account = changes.account_of(store, chosen.name)
     games = changes.games_of(store, account.name)
     what = chosen.games
     if games and not what:
-        what = asking.one_of(f"{account.name} is in {len(games)} adjourned games. Remove them too, or keep them? "
-                             f"(Kept, {KEPT_GAMES}.)", ("remove", "keep"))
+        what = asking.one_of(
+            f"{account.name} is in {len(games)} adjourned games. Remove them too, or keep them? "
+            f"(Kept, {KEPT_GAMES}.)",
+            ("remove", "keep"),
+        )
     gone = games if what == "remove" else []
     changes.remove(store, account, gone)
     print(f"{account.name} has no account any more; {len(gone)} adjourned games went with it")
 
 
-def clear(store, chosen):
+def clear(store: Store, chosen: Chosen) -> None:
     games = changes.chosen_games(store, chosen.player, chosen.oldest, chosen.numbers)
     if not games:
         raise Refused("there are no such games")
@@ -83,25 +105,36 @@ def clear(store, chosen):
     print(f"{len(games)} adjourned games are cleared")
 
 
-def read_words():
+def read_words() -> Chosen:
     words = argparse.ArgumentParser(
-        prog="fics_accounts", description=__doc__.split("\n\n")[0],
+        prog="fics_accounts",
+        description=(__doc__ or "").split("\n\n")[0],
         epilog="Statuses: 0 done; 1 nothing was changed, and why is said; 2 other words than these; 3 a change could "
-               "neither be kept nor taken back, and where the copy lies is said.")
-    words.add_argument("--store", default=STORE, metavar="FILE", help=f"the store: {STORE} where it is left out")
-    words.add_argument("--program", metavar="FILE", help="the ficsd that checks the store: the one that this belongs "
-                       "to where it is left out")
+        "neither be kept nor taken back, and where the copy lies is said.",
+    )
+    words.add_argument(
+        "--store", type=Path, default=STORE, metavar="FILE", help=f"the store: {STORE} where it is left out"
+    )
+    words.add_argument(
+        "--program",
+        default=program(),
+        metavar="FILE",
+        help="the ficsd that checks the store: the one that this belongs " "to where it is left out",
+    )
     commands = words.add_subparsers(required=True, metavar="COMMAND")
 
-    def command(name, act, says):
+    def command(name: str, act: Act, says: str) -> argparse.ArgumentParser:
         it = commands.add_parser(name, help=says, description=says)
         it.set_defaults(act=act)
         return it
 
     command("list", show_accounts, "who has an account, and in how many adjourned games each is")
-    it = command("games", show_games, "adjourned games, those that lie longest first: number, players, minutes, "
-                                      "increment, variant, half-moves")
-    it.add_argument("name", nargs="?", help="those of this player alone")
+    it = command(
+        "games",
+        show_games,
+        "adjourned games, those that lie longest first: number, players, minutes, " "increment, variant, half-moves",
+    )
+    it.add_argument("name", nargs="?", default="", help="those of this player alone")
     it = command("password", set_password, "sets a password, which is asked for twice")
     it.add_argument("name")
     it = command("rename", rename, "gives an account another name, in its adjourned games too")
@@ -109,24 +142,32 @@ def read_words():
     it.add_argument("new")
     it = command("remove", remove, "takes an account away")
     it.add_argument("name")
-    it.add_argument("--games", choices=("remove", "keep"), help="what becomes of its adjourned games; it is asked for "
-                    "where this is left out. Kept, " + KEPT_GAMES)
+    it.add_argument(
+        "--games",
+        choices=("remove", "keep"),
+        help="what becomes of its adjourned games; it is asked for " "where this is left out. Kept, " + KEPT_GAMES,
+    )
     it = command("clear", clear, "takes adjourned games away: those that all of these words fit")
-    it.add_argument("--oldest", type=count, metavar="N", help="as many of them, those that lie longest")
+    it.add_argument("--oldest", type=number, metavar="N", help="as many of them, those that lie longest")
     it.add_argument("--player", metavar="NAME", help="those that this player is in")
-    it.add_argument("--numbers", type=numbers, metavar="N-M", help="those of these numbers, or of one; a new game gets "
-                    "the least number that is free, so that a number doesn't say how old a game is")
+    it.add_argument(
+        "--numbers",
+        type=numbers,
+        metavar="N-M",
+        help="those of these numbers, or of one; a new game gets "
+        "the least number that is free, so that a number doesn't say how old a game is",
+    )
     it.add_argument("--yes", action="store_true", help="doesn't ask")
-    chosen = words.parse_args()
+    chosen = words.parse_args(namespace=Chosen())
     if chosen.act is clear and not (chosen.oldest or chosen.player or chosen.numbers):
         it.error("which games? --oldest, --player or --numbers say it")
     return chosen
 
 
-def main():
+def main() -> int:
     chosen = read_words()
     try:
-        with Store(chosen.store, [chosen.program or program()]) as store:
+        with Store(chosen.store, chosen.program) as store:
             chosen.act(store, chosen)
     except (Refused, Spoiled) as why:
         print(f"fics_accounts: {why}", file=sys.stderr)

@@ -5,17 +5,26 @@ server's own `check` has to find in it what should be there; else the copy comes
 while, so that no server takes it.
 """
 
-import contextlib
 import os
 import signal
 import sqlite3
 import subprocess
+from collections.abc import Callable, Iterator, Sequence
+from contextlib import closing, contextmanager, suppress
 from pathlib import Path
+from types import TracebackType
+from typing import TypeVar
 
 from . import records
+from .records import Account, Game
 
-WHO_HAS_IT = ("database is locked: a server has it open, or a sqlite3. Stop the server first, as by "
-              "`systemctl stop ficsd`, and start it again behind the change")
+Read = TypeVar("Read")
+Change = tuple[str, tuple[bytes, ...]]  # a line of SQL and its values
+
+WHO_HAS_IT = (
+    "database is locked: a server has it open, or a sqlite3. Stop the server first, as by "
+    "`systemctl stop ficsd`, and start it again behind the change"
+)
 
 
 class Refused(Exception):
@@ -26,7 +35,7 @@ class Spoiled(Exception):
     """A change that could neither be kept nor be taken back."""
 
 
-def words_of(error, path):
+def words_of(error: sqlite3.Error, path: Path) -> str:
     """What an error of SQLite means to an operator."""
     code = getattr(error, "sqlite_errorname", "") or ""
     if code.startswith(("SQLITE_BUSY", "SQLITE_LOCKED")):
@@ -38,8 +47,8 @@ def words_of(error, path):
     return f"{path}: {error}"
 
 
-@contextlib.contextmanager
-def said_in_words(path):
+@contextmanager
+def said_in_words(path: Path) -> Iterator[None]:
     """Errors of SQLite and of the system become a refusal."""
     try:
         yield
@@ -49,8 +58,8 @@ def said_in_words(path):
         raise Refused(f"{error.filename or path}: {error.strerror}") from None
 
 
-@contextlib.contextmanager
-def undisturbed():
+@contextmanager
+def undisturbed() -> Iterator[None]:
     """Lets Ctrl-C and the signals that end a program wait."""
     before = signal.pthread_sigmask(signal.SIG_BLOCK, {signal.SIGINT, signal.SIGTERM, signal.SIGHUP})
     try:
@@ -59,7 +68,12 @@ def undisturbed():
         signal.pthread_sigmask(signal.SIG_SETMASK, before)
 
 
-def flush(path):
+def beside(path: Path, end: str) -> Path:
+    """The file beside one whose name has that end more."""
+    return path.with_name(path.name + end)
+
+
+def flush(path: Path) -> None:
     handle = os.open(path, os.O_RDONLY)
     try:
         os.fsync(handle)
@@ -68,22 +82,22 @@ def flush(path):
 
 
 class Store:
-    def __init__(self, path, checker):
-        """Opens and locks the store at the path; `checker` has the words of a program that checks one."""
-        self.path, self.checker = os.path.realpath(path), checker
-        self.copy = self.path + ".before"
-        if not os.path.isfile(self.path):
+    """A store that is open and locked; `checker` is the program that checks one."""
+
+    def __init__(self, path: Path, checker: str) -> None:
+        self.path, self.checker = path.resolve(), checker
+        self.copy = beside(self.path, ".before")
+        if not self.path.is_file():
             raise Refused(f"there is no store at {path}")
         with said_in_words(path):
-            self.base = sqlite3.connect(Path(self.path).as_uri() + "?mode=rw", uri=True, timeout=0,
-                                        isolation_level=None)
+            self.base = sqlite3.connect(self.path.as_uri() + "?mode=rw", uri=True, timeout=0, isolation_level=None)
         try:
             self.lock()
         except BaseException:
             self.base.close()
             raise
 
-    def lock(self):
+    def lock(self) -> None:
         """Takes the lock, which is kept until the store is closed, and looks that it is a store."""
         with said_in_words(self.path):
             for line in ("PRAGMA locking_mode = EXCLUSIVE", "PRAGMA synchronous = FULL", "BEGIN EXCLUSIVE", "COMMIT"):
@@ -92,17 +106,21 @@ class Store:
         if columns != [("key", "BLOB"), ("record", "BLOB")]:
             raise Refused(f"{self.path} isn't a store of ficsd: it has no such table of records")
 
-    def close(self):
+    def close(self) -> None:
         """Copies the log into the file, as far as there is room, and gives the lock back."""
         self.base.close()
 
-    def __enter__(self):
+    def __enter__(self) -> "Store":
         return self
 
-    def __exit__(self, *_):
+    def __exit__(
+        self, kind: type[BaseException] | None, error: BaseException | None, trace: TracebackType | None
+    ) -> None:
         self.close()
 
-    def rows(self, wanted, read, what="record", values=()):
+    def rows(
+        self, wanted: str, read: Callable[[bytes, bytes], Read], what: str = "record", values: tuple[bytes, ...] = ()
+    ) -> list[Read]:
         """The records that a condition names, oldest first: a row keeps its place for as long as it is there."""
         line = f"SELECT key, {what} FROM records WHERE {wanted} ORDER BY rowid"
         with said_in_words(self.path):
@@ -112,53 +130,53 @@ class Store:
         except records.BadRecord:
             raise Refused(f"{self.path} has a bad record; `ficsd check --store` names it") from None
 
-    def accounts(self):
+    def accounts(self) -> list[Account]:
         return sorted(self.rows("key < x'67'", records.read_account), key=lambda it: it.name.lower())
 
-    def games(self):
+    def games(self) -> list[Game]:
         """The heads of the games, without their half-moves, of which a store may have a gigabyte."""
         return self.rows("key >= x'67'", records.read_game, f"substr(record, 1, {records.MOST_OF_A_HEAD})")
 
-    def whole(self, game):
+    def whole(self, game: Game) -> Game:
         """The game of this head with its half-moves."""
         return self.rows("key = ?", records.read_game, values=(game.key(),))[0]
 
-    def counts(self):
+    def counts(self) -> str:
         """What `check` says of this store where all is well."""
-        accounts, games = (self.base.execute(f"SELECT count(*) FROM records WHERE key {it} x'67'").fetchone()[0]
-                           for it in ("<", ">="))
+        accounts, games = (
+            self.base.execute(f"SELECT count(*) FROM records WHERE key {it} x'67'").fetchone()[0] for it in ("<", ">=")
+        )
         return f"ok: {accounts} accounts, {games} games"
 
-    def checked(self):
+    def checked(self) -> str:
         """What `check` says."""
         try:
-            done = subprocess.run([*self.checker, "check", "--store", self.path], stdin=subprocess.DEVNULL,
-                                  capture_output=True, text=True)
+            words = [self.checker, "check", "--store", str(self.path)]
+            done = subprocess.run(words, stdin=subprocess.DEVNULL, capture_output=True, text=True)
         except OSError as error:
-            raise Refused(f"{self.checker[0]}, which checks the store, can't be run: {error.strerror}") from None
+            raise Refused(f"{self.checker}, which checks the store, can't be run: {error.strerror}") from None
         return done.stdout.strip() or done.stderr.strip() or f"status {done.returncode}"
 
-    def make_copy(self):
+    def make_copy(self) -> None:
         """Copies the store to the file beside it, which is there whole or not at all."""
-        new, like = self.copy + ".new", os.stat(self.path)
-        with contextlib.suppress(FileNotFoundError):
-            os.unlink(new)
+        new, like = beside(self.copy, ".new"), self.path.stat()
+        new.unlink(missing_ok=True)
         try:
             os.close(os.open(new, os.O_CREAT | os.O_EXCL | os.O_WRONLY, 0o600))
             os.chown(new, like.st_uid, like.st_gid)
-            os.chmod(new, like.st_mode & 0o777)
-            with contextlib.closing(sqlite3.connect(new)) as copy:
+            new.chmod(like.st_mode & 0o777)
+            with closing(sqlite3.connect(new)) as copy:
                 self.base.backup(copy)
             flush(new)
-            os.rename(new, self.copy)
-            flush(os.path.dirname(self.copy))
+            new.rename(self.copy)
+            flush(self.copy.parent)
         except BaseException:
-            for it in (new, new + "-wal", new + "-journal", new + "-shm"):
-                with contextlib.suppress(OSError):
-                    os.unlink(it)
+            for end in ("", "-wal", "-journal", "-shm"):
+                with suppress(OSError):
+                    beside(new, end).unlink()
             raise
 
-    def transact(self, lines):
+    def transact(self, lines: Sequence[Change]) -> None:
         """Runs lines of SQL with their values, all of them or none."""
         self.base.execute("BEGIN IMMEDIATE")
         try:
@@ -171,7 +189,7 @@ class Store:
                 self.base.execute("ROLLBACK")
             raise
 
-    def change(self, lines, accounts=0, games=0):
+    def change(self, lines: Sequence[Change], accounts: int = 0, games: int = 0) -> None:
         """Makes a change of so many accounts and games more; refuses it, with the store as it was, where it can't be
         made or `check` doesn't find what should be there."""
         with undisturbed(), said_in_words(self.path):
@@ -186,15 +204,17 @@ class Store:
                 self.take_back(before)
                 raise Refused(f"behind the change `check` says: {said}\nThe store is again as it was")
 
-    def take_back(self, before):
+    def take_back(self, before: str) -> None:
         """Puts the copy back, as one transaction."""
         try:
-            with contextlib.closing(sqlite3.connect(self.copy)) as copy:
+            with closing(sqlite3.connect(self.copy)) as copy:
                 copy.backup(self.base)
             said = self.checked()
         except (sqlite3.Error, Refused) as error:
             said = str(error)
         if said != before:
-            raise Spoiled(f"the change couldn't be taken back: {said}\nThe store as it was before lies in {self.copy}; "
-                          f"put it in place of {self.path}, without {os.path.basename(self.path)}-wal, while nobody "
-                          "has either")
+            raise Spoiled(
+                f"the change couldn't be taken back: {said}\nThe store as it was before lies in {self.copy}; "
+                f"put it in place of {self.path}, without {self.path.name}-wal, while nobody "
+                "has either"
+            )

@@ -1,3 +1,4 @@
-"""What `fics_face` is made of: `texts` the table, `wire` bytes, `boards` games, `typed` and `told` the two directions,
-`moves` the spelling of moves, `helps` what `help` says, `request` lines with the answers due to them, `session` one
-link with its login, `hall` all links."""
+"""What `fics_face` is made of: `server` is all links, `client` and `server_end` the two ends of one, `session` what is
+between them, with its login, and `shared` what all sessions know. `typed` and `told` are the two directions, `request`
+lines with the answers due to them, `standing` offers and seeks, `boards` games, `moves` the spelling of moves, `wire`
+bytes, `texts` FICS's texts, `helps` what `help` says."""

@@ -3,6 +3,7 @@
 import asyncio
 import re
 import socket
+from collections.abc import AsyncIterator
 
 from ficsd_companions.limits.pace import Flood, Pace
 from ficsd_companions.limits.pieces import PIECE
@@ -28,7 +29,7 @@ class Cut(Exception):
 class Client:
     """The client's end of a link."""
 
-    def __init__(self, reader, writer):
+    def __init__(self, reader: asyncio.StreamReader, writer: asyncio.StreamWriter) -> None:
         self.reader, self.writer = reader, writer
         link = writer.get_extra_info("socket")
         # a telnet may send the last byte of a command of its own as urgent data (RFC 854, the SYNCH)
@@ -42,14 +43,19 @@ class Client:
         self.first = b""  # what it sent first
 
     @property
-    def address(self):
-        return self.writer.get_extra_info("peername")[0]
+    def address(self) -> str:
+        address: str = self.writer.get_extra_info("peername")[0]
+        return address
 
-    def say(self, text):
+    def say(self, text: str) -> None:
         if not self.writer.is_closing():
             self.writer.write(text.encode("latin-1", "replace"))
 
-    async def pieces(self):
+    def say_lines(self, text: str) -> None:
+        """Says whole lines, each with the end that telnets want."""
+        self.say(text.replace("\n", "\n\r"))
+
+    async def pieces(self) -> AsyncIterator[bytes]:
         """What it sends, a line or less at a time, and no faster than it may. `Cut` comes where it has to go."""
         try:
             while piece := await self.reader.read(PIECE):
@@ -66,14 +72,14 @@ class Client:
         except Flood as flood:
             raise Cut(texts.CUT.format(flood)) from None
 
-    def look(self, piece):
+    def look(self, piece: bytes) -> None:
         """Cuts a browser off before anything of it is a line."""
         if len(self.first) <= LONGEST_METHOD:
-            self.first += piece[:LONGEST_METHOD + 1]
+            self.first += piece[: LONGEST_METHOD + 1]
             if REQUEST.match(self.first):
                 raise Cut("")
 
-    async def taken(self):
+    async def taken(self) -> None:
         """Waits until it has taken enough of what was said."""
         try:
             async with asyncio.timeout(TAKING_SECONDS):
@@ -81,20 +87,20 @@ class Client:
         except TimeoutError:
             raise Cut("") from None
 
-    def close(self):
+    def close(self) -> None:
         """Closes its link behind what was said, and cuts it off where that isn't taken."""
         self.writer.close()
         asyncio.get_running_loop().call_later(TAKING_SECONDS, self.writer.transport.abort)
 
-    async def cut(self, why):
+    async def cut(self, why: str) -> None:
         """Tells it why it is cut off, and cuts it off."""
         if why:
-            self.say(why.replace("\n", "\n\r"))
+            self.say_lines(why)
             await asyncio.sleep(READING_SECONDS)
         self.writer.transport.abort()
 
 
-def lines(piece):
+def lines(piece: bytes) -> list[bytes]:
     """A piece cut behind each line feed, and nowhere else."""
     *whole, rest = piece.split(b"\n")
     return [it + b"\n" for it in whole] + ([rest] if rest else [])

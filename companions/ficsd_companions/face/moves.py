@@ -6,6 +6,8 @@ the board that the player sees, a bishop goes there and no pawn of file b; else 
 
 import re
 
+from ficslink.board import Board
+
 DIAGONALS = ((1, 1), (1, -1), (-1, 1), (-1, -1))
 SQUARE = "[a-h][1-8]"
 PROMOTION = "(?:=?[QRBNqrbn])?"
@@ -20,11 +22,11 @@ BISHOP = re.compile(f"b[a-h][1-8]?x?{SQUARE}")  # with a file or a square behind
 EITHER = re.compile(f"bx?({SQUARE})")
 
 
-def spelled(text, board=None):
+def spelled(text: str, board: Board | None = None) -> str | None:
     """The move that a line spells, as the server reads it; none where it is no move. `board` is the line of the board
     on which the player makes it; none where that isn't known."""
     number = NUMBER.match(text)
-    word = REMARK.sub("", text[number.end():] if number else text)
+    word = REMARK.sub("", text[number.end() :] if number else text)
     if CASTLING.fullmatch(word):
         return "-".join("O" * len(word.replace("-", "")))
     if DROP.fullmatch(word):
@@ -42,13 +44,13 @@ def spelled(text, board=None):
     return None
 
 
-def of_squares(word):
+def of_squares(word: str) -> str:
     """A move from a square to another: a sign of capture between them is dropped, and a promotion is in small."""
     word = word.replace("x", "")
     return word[:-1].rstrip("=") + "=" + word[-1].lower() if word[-1].isalpha() else word
 
 
-def is_the_bishops(board, target):
+def is_the_bishops(board: Board, target: str) -> bool:
     """Whether a bishop of the side to move goes to that square, and no pawn of its file b, whatever their king says."""
     men = dict(board.men())
     if men.get(target, "-").isupper() == (board.side == "W") and target in men:
@@ -56,7 +58,7 @@ def is_the_bishops(board, target):
     return bishop_goes(board, men, target) and not pawn_goes(board, men, target)
 
 
-def bishop_goes(board, men, target):
+def bishop_goes(board: Board, men: dict[str, str], target: str) -> bool:
     """Whether the first man on one of the diagonals from there is a bishop of the side to move."""
     own = "B" if board.side == "W" else "b"
     for across, up in DIAGONALS:
@@ -68,7 +70,7 @@ def bishop_goes(board, men, target):
     return False
 
 
-def pawn_goes(board, men, target):
+def pawn_goes(board: Board, men: dict[str, str], target: str) -> bool:
     """Whether a pawn of the side to move and of file b goes there, forward or by taking, en passant too."""
     own, step, home = ("P", 1, 2) if board.side == "W" else ("p", -1, 7)
     file, rank = target[0], int(target[1])

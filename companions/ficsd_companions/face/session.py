@@ -1,137 +1,96 @@
 """One link: its login, what its client has set, and the answers that are due to it, in their order."""
 
 from collections import deque
+from collections.abc import Callable, Iterable
+from enum import Enum, auto
 
 from ficslink.board import MINE, THEIRS
-from ficslink.lines import Entered, Refused, listed, parse
+from ficslink.lines import Entered, GameListed, Refused, listed, parse
 from ficslink.stamps import ACKNOWLEDGEMENT
 from ficslink.terms import Terms
-from ficslink.texts import Parts
+from ficslink.texts import LOGIN, PASSWORD, READY, Part, Parts
 
-from . import texts
-from .boards import Game, kind_of
-from .request import Request
+from ficsd_companions.limits.budget import Budget
+
+from . import texts, typed
+from .boards import Board, Game, Role
+from .request import Render, Request
+from .shared import Shared
+from .standing import Offers, Seeks
 from .told import Told
-from .typed import Typed
 from .wire import Lines, unsealed
 
 SEAL_GREETINGS = (b"TIMESTAMP|", b"TIMESEAL2|")
 BLOCK_START, BLOCK_BREAK, BLOCK_END = "\x15", "\x16", "\x17"
 MOST_WAITING, MOST_WAITING_BYTES = 256, 32768  # lines of the client
-AT_BOARD = ("draw", "abort", "adjourn", "takeback")
 
 
-class Offer:
-    """A standing offer."""
+class Stage(Enum):
+    """How far a link has come."""
 
-    def __init__(self, index, kind, giver, taker, text):
-        self.index, self.kind, self.giver, self.taker, self.text = index, kind, giver, taker, text
-        self.at_board = kind in AT_BOARD
-
-
-class Offers:
-    """The standing offers that a session knows of, and their lines for clients that asked for them."""
-
-    def __init__(self, session):
-        self.session, self.standing, self.last = session, [], 0
-
-    def line(self, offer):
-        """The line of an offer: from another, or to another."""
-        own = offer.giver == self.session.name
-        return f"<p{'t' if own else 'f'}> {offer.index} w={offer.taker if own else offer.giver} " \
-               f"t={offer.kind} p={offer.text}"
-
-    def shown(self, lines):
-        return lines if self.session.is_set("pendinfo") else []
-
-    def add(self, kind, giver, taker, text):
-        """The lines for a new offer, in whose place an earlier one of its kind between the two is gone."""
-        gone = self.drop(lambda it: (it.kind, it.giver, it.taker) == (kind, giver, taker))
-        self.last += 1
-        self.standing.append(Offer(self.last, kind, giver, taker, text))
-        return gone + self.shown([self.line(self.standing[-1])])
-
-    def drop(self, goes):
-        """The lines for offers that are gone."""
-        gone = [it for it in self.standing if goes(it)]
-        self.standing = [it for it in self.standing if it not in gone]
-        return self.shown([f"<pr> {it.index}" for it in gone])
-
-    def first(self, fits):
-        return next((it for it in self.standing if fits(it)), None)
+    GREETING = auto()  # nothing came of the server yet
+    NAME = auto()  # a name is wanted
+    ASKED = auto()  # the server has a name, or a password, and hasn't answered
+    PASSWORD = auto()
+    RETURN = auto()  # it is in, once the client has typed a further line
+    IN = auto()
+    OVER = auto()
 
 
-class Seeks:
-    """The seeks that a session knows of."""
-
-    def __init__(self, session):
-        self.session, self.known = session, {}
-
-    def row(self, mark, n):
-        """A seek's line for clients that draw them."""
-        who, terms = self.known[n]
-        colour = terms.colour[0].upper() if terms.colour else "?"
-        return [f"{mark} {n} w={who} ti=00 rt=0P t={terms.minutes} i={terms.increment} r=u tp={kind_of(terms)} "
-                f"c={colour} rr=0-9999 a=t f=f"]
-
-    def learn(self, lines):
-        """Takes the server's list, and tells what is new in it and what is gone."""
-        before, self.known = self.known, {}
-        for line in lines:
-            if row := listed(line, "sought"):
-                self.known[row.number] = row.who, row.terms
-        told = []
-        gone = [str(it) for it in before if it not in self.known]
-        if gone and self.session.is_set("seekremove"):
-            told.append("<sr> " + " ".join(gone))
-        if self.session.is_set("seekinfo"):
-            told += [line for n in self.known if n not in before for line in self.row("<s>", n)]
-        return told
-
-    def all(self):
-        return [line for n in self.known for line in self.row("<s>", n)]
+OPEN = (Stage.NAME, Stage.PASSWORD, Stage.RETURN, Stage.IN)  # in which lines of the client are taken
 
 
 class Session:
     """One link, without its sockets: `to_client` and `to_server` take text, `end_to_server` says that no more comes,
     and `later` takes seconds and a call that is to be made then."""
 
-    def __init__(self, hall, to_client, to_server, end_to_server, later, guesses=None):
-        self.hall, self.to_client, self.to_server = hall, to_client, to_server
+    def __init__(
+        self,
+        shared: Shared,
+        to_client: Callable[[str], object],
+        to_server: Callable[[str], object],
+        end_to_server: Callable[[], object],
+        later: Callable[[float, Callable[[], object]], object],
+        guesses: Budget | None = None,
+    ) -> None:
+        self.shared, self.to_client, self.to_server = shared, to_client, to_server
         self.end_to_server, self.later, self.guesses = end_to_server, later, guesses
-        self.name, self.typed_name = "", ""
-        self.stage = "greeting"  # then name, asked, password, return, in, over
-        self.with_password = False
-        self.ahead, self.held = deque(), []
-        self.client_has_ended = self.asks_later = False
-        self.is_sealed = None
-        self.lines, self.parts = Lines(), Parts()
-        self.told, self.typed = Told(self), Typed(self)
-        self.settings, self.variables = {}, {"seek": "1", "open": "1", "shout": "1", "style": "12"}
+        self.name = self.typed_name = ""
+        self.stage = Stage.GREETING
+        self.with_password = self.client_has_ended = self.asks_later = False
+        self.is_sealed: bool | None = None  # none until the first line has come
+        self.ahead: deque[str] = deque()  # lines of the client that weren't taken yet
+        self.held: list[str] = []  # news that came before the client was told that it is in
+        self.lines, self.parts, self.told = Lines(), Parts(), Told(self)
+        self.settings: dict[str, str] = {}
+        self.variables = {"seek": "1", "open": "1", "shout": "1", "style": "12"}
+        self.lists: dict[str, list[str]] = {"channel": [], "censor": [], "noplay": []}
+        self.aliases: dict[str, str] = {}
+        self.last_told = ""  # by a `tell`
         self.offers, self.seeks = Offers(self), Seeks(self)
-        self.games, self.last_game = {}, None
-        self.listed = {}  # the games of the server's last list: number to (white, black, terms)
-        self.lists = {"channel": [], "censor": [], "noplay": []}
-        self.aliases = {}
-        # the client's lines whose answers aren't sent yet; what is answered next; the go-between's own question
-        self.queue, self.owed, self.question = deque(), deque(), None
+        self.games: dict[int, Game] = {}
+        self.last_game: Game | None = None  # of one's own, which is over
+        self.listed: dict[int, tuple[str, str, Terms]] = {}  # the games of the server's last list
+        self.queue: deque[Request] = deque()  # the client's lines whose answers aren't sent yet
+        self.owed: deque[Request] = deque()  # what is answered next
+        self.question: Request | None = None  # the go-between's own
 
     @property
-    def is_in(self):
+    def is_in(self) -> bool:
         return bool(self.name)
 
     @property
-    def is_behind(self):
+    def is_behind(self) -> bool:
         """Whether so much of what the client sent waits for its turn or its answer that no more should be taken."""
         waiting = sum(len(line) for it in self.queue for line in it.asks) + sum(map(len, self.ahead))
         return len(self.queue) + len(self.ahead) > MOST_WAITING or waiting > MOST_WAITING_BYTES
 
-    def is_set(self, name):
+    def is_set(self, name: str) -> bool:
         return self.settings.get(name, "0") != "0"
 
     # ---- bytes in ----
 
-    def from_client(self, piece):
+    def from_client(self, piece: bytes) -> None:
         """Takes bytes of the client."""
         for line in self.lines.of(piece):
             plain = unsealed(line)
@@ -146,108 +105,112 @@ class Session:
         self.to_client(self.lines.telnet.answers().decode("latin-1"))
         self.go_on()
 
-    def client_is_gone(self):
+    def client_is_gone(self) -> None:
         """The client sends no more: the server is told so behind the last line."""
         self.client_has_ended = True
         self.go_on()
 
-    def go_on(self):
+    def go_on(self) -> None:
         """Takes the lines that wait, as far as the login lets them."""
-        while self.ahead and self.stage in ("name", "password", "return", "in"):
-            line = self.ahead.popleft()
-            if self.stage == "in":
-                self.typed.line(line)
-            elif self.stage == "return":
-                self.enter("(U)")
-                if line:
-                    self.typed.line(line)
-            else:
-                if self.stage == "name":
-                    self.typed_name = line
-                self.with_password = self.stage == "password"
-                if self.with_password and line != line.strip(" "):
-                    self.put_text(texts.PASSWORD_BLANKS + "\n\n" + texts.PASSWORD)
-                    continue
-                self.stage = "asked"
-                self.try_login(line)
+        while self.ahead and self.stage in OPEN:
+            self.take(self.ahead.popleft())
         if self.client_has_ended and not self.ahead:
             self.end_to_server()
 
-    def try_login(self, line):
+    def take(self, line: str) -> None:
+        """Takes a line of the client."""
+        if self.stage in (Stage.NAME, Stage.PASSWORD):
+            return self.try_login(line)
+        is_return = self.stage is Stage.RETURN
+        if is_return:
+            self.enter("(U)")
+        if line or not is_return:
+            typed.take(self, line)
+
+    def try_login(self, line: str) -> None:
         """Sends a name, or a password in its time, so that nobody tries many."""
+        self.with_password = self.stage is Stage.PASSWORD
+        if not self.with_password:
+            self.typed_name = line
+        elif line != line.strip(" "):
+            return self.put_text(texts.PASSWORD_BLANKS + "\n\n" + PASSWORD)
+        self.stage = Stage.ASKED
         seconds = self.guesses.promise() if self.with_password and self.guesses else 0
         if seconds:
             self.later(seconds, lambda: self.to_server(line + "\n"))
         else:
             self.to_server(line + "\n")
 
-    def from_server(self, piece):
+    def from_server(self, piece: bytes) -> None:
         """Takes bytes of the server."""
-        for lines, prompt in self.parts.of(piece):
-            if self.stage in ("greeting", "asked"):
-                self.answered_login(lines, prompt)
-            elif self.stage == "return":
-                self.held += lines
+        for part in self.parts.of(piece):
+            if self.stage in (Stage.GREETING, Stage.ASKED):
+                self.answered_login(part)
+            elif self.stage is Stage.RETURN:
+                self.held += part.lines
             else:
-                self.answered(lines)
+                self.answered(part)
         self.go_on()
         self.ask_for_news_later()
 
-    def server_is_gone(self):
+    def server_is_gone(self) -> None:
         """Tells what came last of the server."""
         lines = self.parts.left()
-        if self.stage in ("greeting", "name", "asked", "password"):
+        if not self.is_in:
             self.put(lines)
         else:
             self.put([""] + self.told.all(self.held + lines))
-        self.stage = "over"
+        self.stage = Stage.OVER
 
     # ---- the login ----
 
-    def answered_login(self, lines, prompt):
-        place, entered = next(((n, it) for n, it in enumerate(map(parse, lines)) if isinstance(it, Entered)), (0, None))
-        if entered:
-            self.name = entered.who
-            self.held = lines[place + 1:]
-            if self.with_password:
-                if self.guesses:
-                    self.guesses.give_back()
-                return self.enter("")
-            text = texts.AS_GUEST if self.typed_name.lower() == "guest" else texts.AS_NEW
-            self.stage = "return"
-            return self.put_text(text.format(name=self.name))
-        if prompt == texts.PASSWORD:
-            self.stage = "password"
-            return self.put_text(texts.IS_REGISTERED.format(name=self.typed_name) + "\n" + texts.PASSWORD)
-        refused = parse(lines[0]) if lines else None
-        if self.stage == "greeting":
+    def answered_login(self, part: Part) -> None:
+        """Takes the server's first part, or its answer to a name or a password."""
+        for n, line in enumerate(map(parse, part.lines), 1):
+            if isinstance(line, Entered):
+                return self.entered(line.who, part.lines[n:])
+        if part.prompt == PASSWORD:
+            self.stage = Stage.PASSWORD
+            return self.put_text(texts.IS_REGISTERED.format(name=self.typed_name) + "\n" + PASSWORD)
+        text = "".join(it + "\n" for it in part.lines)
+        if self.stage is Stage.GREETING:
             text = texts.BANNER
-        elif isinstance(refused, Refused):
-            text = texts.LOGIN_REFUSALS.get(refused.number, lines[0] + "\n").format(name=self.typed_name)
-            text += self.drop_ahead()
-        else:
-            text = "".join(it + "\n" for it in lines)
-        self.stage = "name"
-        self.put_text(text + "\n" + texts.LOGIN if text else texts.LOGIN)
+        elif part.lines and isinstance(refused := parse(part.lines[0]), Refused):
+            known = refused.refusal.refusal
+            text = texts.LOGIN_REFUSALS.get(known, text) if known else text
+            text = text.format(name=self.typed_name) + self.drop_ahead()
+        self.stage = Stage.NAME
+        self.put_text(text + "\n" + LOGIN if text else LOGIN)
 
-    def drop_ahead(self):
+    def entered(self, name: str, news: list[str]) -> None:
+        """The server has let the client in. Who has no password is told so, and is asked for a further line."""
+        self.name, self.held = name, news
+        if self.with_password:
+            if self.guesses:
+                self.guesses.give_back()
+            return self.enter("")
+        text = texts.AS_GUEST if self.typed_name.lower() == "guest" else texts.AS_NEW
+        self.stage = Stage.RETURN
+        self.put_text(text.format(name=self.name))
+
+    def drop_ahead(self) -> str:
         """Drops what was sent ahead behind a name or a password that was refused: the server, which asks for a name
         now, would take a password for one, and everybody could read it. What the client is told of it."""
         dropped = any(self.ahead)
         self.ahead.clear()
         return texts.NOT_TAKEN if dropped else ""
 
-    def enter(self, title):
+    def enter(self, title: str) -> None:
         """The client is in: tells it so, and what came meanwhile."""
-        self.stage = "in"
+        self.stage = Stage.IN
         news, self.held = self.told.all(self.held), []
         self.put_text(texts.STARTING.format(name=self.name, title=title))
         self.put(news)
-        self.put_text(texts.PROMPT)
+        self.put_text(READY)
 
     # ---- answers ----
 
-    def ask(self, request):
+    def ask(self, request: Request) -> None:
         """Sends a request's lines to the server. It is answered behind those before it."""
         self.queue.append(request)
         for line in request.asks:
@@ -255,21 +218,21 @@ class Session:
             self.to_server(line + "\n")
         self.flush()
 
-    def answered(self, lines):
-        """Takes a part of the server: news, which begin with an empty line, or the answer that is due next."""
-        if lines and lines[0] == "" or not self.owed:
-            return self.tell(self.told.all(lines[1:] if lines and lines[0] == "" else lines))
+    def answered(self, part: Part) -> None:
+        """Takes a part of the server: news, or the answer that is due next."""
+        if part.is_news or not self.owed:
+            return self.tell(self.told.all(part.said))
         request = self.owed.popleft()
-        own = request.own(lines)
-        request.answers.append(lines[:own])
-        request.news += self.told.all(lines[own:])
+        own = request.own(part.lines)
+        request.answers.append(part.lines[:own])
+        request.news += self.told.all(part.lines[own:])
         if request is self.question:
             self.question = None
             self.tell(request.render(request.answers) + request.news)
         else:
             self.flush()
 
-    def flush(self):
+    def flush(self) -> None:
         """Sends the answers that are whole, in their order."""
         while self.queue and self.queue[0].is_answered:
             request = self.queue.popleft()
@@ -281,95 +244,102 @@ class Session:
                 self.put(lines)
                 self.put_text(BLOCK_END + "\n")
             self.put(request.news)
-            self.put_text(texts.PROMPT)
+            self.put_text(READY)
 
-    def tell(self, news):
+    def tell(self, news: list[str]) -> None:
         """Sends what came without a line of the client's; nothing where nothing did."""
         if news:
             self.put([""] + news)
-            self.put_text(texts.PROMPT)
+            self.put_text(READY)
 
-    def put(self, lines):
+    def put(self, lines: Iterable[str]) -> None:
         self.put_text("".join(it + "\n" for it in lines))
 
-    def put_text(self, text):
+    def put_text(self, text: str) -> None:
         if text:
             self.to_client(text.replace("\n", "\n\r"))
 
     # ---- questions of its own ----
 
     @property
-    def may_ask(self):
+    def may_ask(self) -> bool:
         """Whether it may ask the server something of its own: no such question waits for its answer."""
-        return self.stage == "in" and not self.client_has_ended and not self.question
+        return self.stage is Stage.IN and not self.client_has_ended and not self.question
 
-    def ask_for_seeks(self):
+    def ask_for_seeks(self) -> None:
         """Asks which seeks still stand, for a client that is told of those that are gone: the server doesn't tell."""
         if self.may_ask and self.is_set("seekremove") and self.seeks.known:
-            self.put_question("sought", self.seeks.learn)
+            self.put_question("sought", lambda answers: self.seeks.learn(answers[0]))
 
     @property
-    def waits_for_opponent(self):
+    def waits_for_opponent(self) -> bool:
         """Whether another is to move in a game of one's own."""
-        return any(it.role == "mine" and it.boards and it.boards[-1].relation == THEIRS for it in self.games.values())
+        return any(it.boards[-1].relation == THEIRS for it in self.played())
 
-    def ask_for_news_later(self):
+    def ask_for_news_later(self) -> None:
         """Asks for news a moment from now, if the other's half-move hasn't come by then."""
         if self.waits_for_opponent and not self.asks_later:
             self.asks_later = True
-            self.later(self.hall.pause(), self.ask_for_news)
+            self.later(self.shared.pause(), self.ask_for_news)
 
-    def ask_for_news(self):
+    def ask_for_news(self) -> None:
         """Asks for news with an empty line, which has no other answer."""
         self.asks_later = False
         if self.may_ask and self.waits_for_opponent:
-            self.put_question("", lambda lines: lines)
+            self.put_question("", lambda answers: answers[0])
 
-    def put_question(self, line, render):
+    def put_question(self, line: str, render: Render) -> None:
         """Sends a line of its own, of whose answer the client is told only what `render` and the news say."""
-        self.question = Request(None, 0, [line], lambda answers: render(answers[0]))
+        self.question = Request(None, 0, [line], render)
         self.owed.append(self.question)
         self.to_server(line + "\n")
 
     # ---- games ----
 
-    def begin(self, game):
+    def begin(self, game: Game) -> None:
         self.games[game.number] = game
 
-    def game_of(self, board):
+    def game_of(self, board: Board) -> Game:
         """The game of a board line; one that nobody told of is taken from the line."""
         game = self.games.get(board.game)
         if not game or (game.white, game.black) != (board.white, board.black):
+            players = board.white, board.black
             white, black, terms = self.listed.get(board.game, ("", "", None))
-            if (white, black) != (board.white, board.black):
+            if not terms or (white, black) != players:
                 terms = Terms(board.minutes, board.increment, "chess")
-            game = Game(board.game, board.white, board.black, terms)
-            game.role = "mine" if self.name in (board.white, board.black) else "watched"
+            game = Game(board.game, *players, terms, Role.MINE if self.name in players else Role.WATCHED)
             self.begin(game)
         return game
 
-    def present(self):
+    def present(self) -> Game | None:
         """The game that one plays, or else one at which one looks on."""
-        mine = [it for it in self.games.values() if it.role == "mine"]
-        return (mine or list(self.games.values()) or [None])[0]
+        return next(iter(self.by_role()), None)
 
-    def board_to_move(self):
+    def by_role(self) -> list[Game]:
+        """The games, one's own before others."""
+        return sorted(self.games.values(), key=lambda it: it.role is not Role.MINE)
+
+    def played(self) -> list[Game]:
+        """One's own games that were shown."""
+        return [it for it in self.games.values() if it.role is Role.MINE and it.boards]
+
+    def board_to_move(self) -> Board | None:
         """The board of a move that is typed now, as its player sees it: where one plays one game, is to move in it, and
         nothing that was typed before waits for its answer; else none."""
-        mine = [it for it in self.games.values() if it.role == "mine" and it.boards]
+        mine = self.played()
         if len(mine) != 1 or self.queue:
             return None
         board = mine[0].boards[-1]
         return board if board.relation == MINE else None
 
-    def game_with(self, name):
+    def game_with(self, name: str) -> Game | None:
         """The game in which that one plays, one's own before others."""
-        games = sorted(self.games.values(), key=lambda it: it.role != "mine")
-        return next((it for it in games if name in (it.white, it.black)), None)
+        return next((it for it in self.by_role() if name in (it.white, it.black)), None)
 
-    def learn_games(self, lines):
+    def learn_games(self, lines: Iterable[str]) -> None:
         """Takes the server's list of games."""
         self.listed = {}
         for line in lines:
-            if row := listed(line, "games"):
+            row = listed(line, "games")
+            if isinstance(row, GameListed):
                 self.listed[row.game] = row.white, row.black, row.terms

@@ -1,110 +1,153 @@
 """What the server says without being asked, put into FICS's words."""
 
+from collections.abc import Sequence
 from functools import lru_cache
+from typing import TYPE_CHECKING
 
 from ficslink import lines
 from ficslink.game import offer_of
+from ficslink.line import Line, News, Unknown
+from ficslink.terms import Terms
 
 from . import texts
-from .boards import Board, Game, fields_of, kind_of
+from .boards import Board, Game, Role, fields_of, kind_of
 
-# by what of `Told` a line of each class is told; one of another class is no news, and goes on as it is
-WAYS = {
-    lines.Tell: "as_it_is", lines.PartnerTell: "as_it_is", lines.ChannelTell: "as_it_is", lines.Shout: "as_it_is",
-    lines.Kibitz: "kibitz", Board: "board", lines.Hands: "hands", lines.HandsCame: "hands",
-    lines.Creating: "creating", lines.Continuing: "creating", lines.GameOver: "end", lines.Challenge: "challenge",
-    lines.ChallengeDeclined: "declined", lines.OfferDeclined: "declines", lines.Seeking: "seek",
-    lines.DrawOffered: "offer", lines.AbortOffered: "offer", lines.AdjournOffered: "offer",
-    lines.TakebackOffered: "offer", lines.TakenBack: "taken_back", lines.ResumeAsked: "resumes",
-    lines.PartnerAsked: "asks_partner", lines.Partners: "partners", lines.Parted: "parted", lines.Goodbye: "goodbye",
-}
+if TYPE_CHECKING:
+    from .session import Session
+
+HAND = "<b1>"  # with which a line of the men in hand begins
 
 
 @lru_cache(512)
-def read(line):
+def read(line: str) -> Line:
     """A line of the server; many are told the same ones."""
-    return Board.parsed(line) or lines.Unknown(line) if line.startswith("<12> ") else lines.parse(line)
+    return Board.parsed(line) or Unknown(line) if line.startswith("<12> ") else lines.parse(line)
 
 
-def is_news(line):
-    """Whether a line is news."""
-    return type(read(line)) in WAYS
+def board_of(line: str) -> Board:
+    """The board of a board line."""
+    board = read(line)
+    assert isinstance(board, Board)
+    return board
 
 
-def is_board(line):
+def is_news(line: str) -> bool:
+    """Whether a line is news; the rows of a board in text may be what a command prints."""
+    told = read(line)
+    return isinstance(told, News) and not isinstance(told, (lines.TextRank, lines.TextTurn))
+
+
+def is_board(line: str) -> bool:
     """Whether it is a board line."""
     return isinstance(read(line), Board)
 
 
-def offer_text(giver, taker, terms):
+def offer_text(giver: str, taker: str, terms: Terms) -> str:
     """A challenge as FICS tells it."""
     kind = kind_of(terms)
     colour = f" [{terms.colour}]" if terms.colour else ""
     if kind == "untimed":
         return f"{giver} (----){colour} {taker} (----) unrated untimed"
     wild = " Loaded from wild/fr" if kind == "wild/fr" else ""
-    return (f"{giver} (----){colour} {taker} (----) unrated {kind.split('/')[0]} "
-            f"{terms.minutes} {terms.increment}{wild}")
+    times = f"{terms.minutes} {terms.increment}"
+    return f"{giver} (----){colour} {taker} (----) unrated {kind.split('/')[0]} {times}{wild}"
+
+
+def row(name: str, **fields: object) -> list[str]:
+    """The lines of a row of the table."""
+    return texts.TOLD[name].format(**fields).split("\n")
 
 
 class Told:
     """The news of one session."""
 
-    def __init__(self, session):
+    def __init__(self, session: "Session") -> None:
         self.session = session
 
-    def all(self, said):
+    def all(self, said: Sequence[str]) -> list[str]:
         """The lines that the client is sent for these. FICS tells the men in hand behind each board of a variant that
         has them; the server does where they have changed."""
         told = []
-        for line, following in zip(said, said[1:] + [""]):
+        for line, following in zip(said, [*said[1:], ""]):
             told += self.one(line)
-            game = self.session.games.get(read(line).game) if is_board(line) else None
-            if game and game.hands and not following.startswith("<b1>"):
+            board = read(line)
+            game = self.session.games.get(board.game) if isinstance(board, Board) else None
+            if game and game.hands and not following.startswith(HAND):
                 told.append(game.hands)
         return told
 
-    def one(self, line):
-        """The lines that the client is sent for this one."""
-        told = read(line)
-        way = WAYS.get(type(told))
-        return getattr(self, "on_" + way)(told, line) if way else [line]
+    def one(self, line: str) -> list[str]:
+        """The lines that the client is sent for this one. Talk goes on as it is, and so does what is no news."""
+        match read(line):
+            case Board():
+                return self.board(line)
+            case lines.Kibitz() as it:
+                game = self.session.game_with(it.who) or self.session.present()
+                return row("kibitz", who=it.who, game=game.number if game else 0, text=it.text)
+            case lines.Hands() as it:
+                return self.hands(it, line)
+            case lines.Creating() | lines.Continuing() as it:
+                return self.creating(it)
+            case lines.GameOver() as it:
+                return self.end(it)
+            case lines.Seeking() as it:
+                return self.seek(it)
+            case lines.TakenBack() as it:
+                game = self.session.present()
+                return row("taken_back", game=game.number if game else 0, n=it.number)
+            case lines.OfferDeclined() as it:
+                return self.declines(it)
+            case lines.DrawOffered() | lines.AbortOffered() | lines.AdjournOffered() | lines.TakebackOffered() as it:
+                return self.offer(it, line)
+            case it:
+                return self.of_the_lobby(it, line)
 
-    def row(self, name, **fields):
-        return texts.TOLD[name].format(**fields).split("\n")
-
-    def on_as_it_is(self, told, line):
+    def of_the_lobby(self, told: Line, line: str) -> list[str]:
+        """The same of what is told of no game."""
+        offers, me = self.session.offers, self.session.name
+        match told:
+            case lines.Challenge(who, terms):
+                text = offer_text(who, me, terms)
+                return row("challenge", offer=text) + offers.add("match", who, me, text)
+            case lines.ChallengeDeclined(who):
+                return row("declined", who=who) + offers.drop(lambda it: it.kind == "match" and it.taker == who)
+            case lines.ResumeAsked(who):
+                return row("resumes", who=who)
+            case lines.PartnerAsked(who):
+                return row("asks partner", who=who)
+            case lines.Partners(who):
+                return row("partners", who=who)
+            case lines.Parted(who):
+                return row("parted", who=who)
+            case lines.Goodbye():
+                return row("goodbye")
         return [line]
-
-    def on_goodbye(self, told, line):
-        return self.row("goodbye")
 
     # ---- games ----
 
-    def on_creating(self, told, line):
+    def creating(self, told: lines.Creating | lines.Continuing) -> list[str]:
         """A game's first words wait for its first board, which in bughouse may not be the next line."""
-        game = Game(told.game, told.white, told.black, told.terms)
-        mine = self.session.name in (told.white, told.black)
-        game.role = "mine" if mine else "partner's"
-        game.opening = self.row("creating" if mine else "partner plays", how=type(told).__name__, **game.fields())
+        is_mine = self.session.name in (told.white, told.black)
+        role = Role.MINE if is_mine else Role.PARTNERS
+        game = Game(told.game, told.white, told.black, told.terms, role)
+        game.opening = row("creating" if is_mine else "partner plays", how=type(told).__name__, **game.fields())
         self.session.begin(game)
-        return self.session.offers.drop(lambda it: it.kind == "match") if mine else []
+        return self.session.offers.drop(lambda it: it.kind == "match") if is_mine else []
 
-    def on_board(self, told, line):
-        board = self.session.hall.board(line)
+    def board(self, line: str) -> list[str]:
+        board = self.session.shared.board(line)
         game = self.session.game_of(board)
         before = game.boards[-1].ply if game.boards else board.ply
         game.add(board)
-        self.session.hall.note(game)
+        self.session.shared.note(game)
         opening, game.opening = game.opening, []
         shown = opening + [board.shown(self.session.is_set("ms"))]
-        if game.role == "mine" and board.ply > before:
+        if game.role is Role.MINE and board.ply > before:
             mover = game.black if board.side == "W" else game.white
-            shown += self.session.offers.drop(
-                lambda it: it.kind == "takeback" or it.at_board and it.giver != mover)
+            shown += self.session.offers.drop(lambda it: it.kind == "takeback" or it.at_board and it.giver != mover)
         return shown
 
-    def on_hands(self, told, line):
+    def hands(self, told: lines.Hands, line: str) -> list[str]:
         """The line doesn't name the man that came last in crazyhouse: eboard skips one that does."""
         game = self.session.games.get(told.game)
         if not game:
@@ -112,69 +155,40 @@ class Told:
         game.hands = line.partition(" <- ")[0]
         return [game.hands if game.terms.kind == "crazyhouse" else line]
 
-    def on_end(self, told, line):
+    def end(self, told: lines.GameOver) -> list[str]:
         game = self.session.games.pop(told.game, None)
-        self.session.hall.forget(told.game)
+        self.session.shared.forget(told.game)
         reason = texts.ENDS.get(told.reason, told.reason)
         said = [f"{{Game {told.game} ({told.white} vs. {told.black}) {reason}}} {told.result}"]
-        if game and game.role == "watched":
+        if game and game.role is Role.WATCHED:
             said += ["", texts.DONE["unobserve"].format(told.game)]
-        if game and game.role == "mine":
+        if game and game.role is Role.MINE:
             self.session.last_game = game
             said += self.session.offers.drop(lambda it: it.at_board)
         return said
 
-    def on_taken_back(self, told, line):
-        game = self.session.present()
-        return self.row("taken_back", game=game.number if game else 0, n=told.number)
+    # ---- offers and seeks ----
 
-    def on_kibitz(self, told, line):
-        game = self.session.game_with(told.who) or self.session.present()
-        return self.row("kibitz", who=told.who, game=game.number if game else 0, text=told.text)
-
-    # ---- offers ----
-
-    def on_challenge(self, told, line):
-        offer = offer_text(told.who, self.session.name, told.terms)
-        return self.row("challenge", offer=offer) + self.session.offers.add(
-            "match", told.who, self.session.name, offer)
-
-    def on_declined(self, told, line):
-        return self.row("declined", who=told.who) + self.session.offers.drop(
-            lambda it: it.kind == "match" and it.taker == told.who)
-
-    def on_offer(self, told, line):
+    def offer(self, told: Line, line: str) -> list[str]:
         offer = offer_of(told)
+        assert offer
         game = self.session.game_with(offer.who)
-        if not game or game.role != "mine":
-            return self.row("offer elsewhere", game=game.number if game else 0, line=line)
+        if not game or game.role is not Role.MINE:
+            return row("offer elsewhere", game=game.number if game else 0, line=line)
         own = "own " if offer.who == self.session.name else ""
-        return self.row(own + offer.kind, who=offer.who, n=offer.half_moves) + self.session.offers.add(
-            offer.kind, offer.who, game.other_player(offer.who), str(offer.half_moves or "#"))
+        added = self.session.offers.add(
+            offer.kind, offer.who, game.other_player(offer.who), str(offer.half_moves or "#")
+        )
+        return row(own + offer.kind, who=offer.who, n=offer.half_moves) + added
 
-    def on_declines(self, told, line):
+    def declines(self, told: lines.OfferDeclined) -> list[str]:
         offer = self.session.offers.first(lambda it: it.at_board and it.giver != told.who)
-        said = self.row("declines", who=told.who, kind=offer.kind if offer else "draw")
+        said = row("declines", who=told.who, kind=offer.kind if offer else "draw")
         return said + self.session.offers.drop(lambda it: it is offer)
 
-    def on_resumes(self, told, line):
-        return self.row("resumes", who=told.who)
-
-    # ---- seeks and partners ----
-
-    def on_seek(self, told, line):
-        n, who, terms = told.number, told.who, told.terms
-        self.session.seeks.known[n] = who, terms
-        rows = self.session.seeks.row("<s>", n) if self.session.is_set("seekinfo") else []
+    def seek(self, told: lines.Seeking) -> list[str]:
+        self.session.seeks.known[told.number] = told.who, told.terms
+        rows = self.session.seeks.row("<s>", told.number) if self.session.is_set("seekinfo") else []
         if self.session.variables["seek"] != "0":
-            rows = self.row("seek", n=n, who=who, **fields_of(terms)) + rows
+            rows = row("seek", n=told.number, who=told.who, **fields_of(told.terms)) + rows
         return rows
-
-    def on_asks_partner(self, told, line):
-        return self.row("asks partner", who=told.who)
-
-    def on_partners(self, told, line):
-        return self.row("partners", who=told.who)
-
-    def on_parted(self, told, line):
-        return self.row("parted", who=told.who)

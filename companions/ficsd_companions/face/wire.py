@@ -14,12 +14,12 @@ class Telnet:
 
     REFUSED_BY = {DO: WONT, WILL: DONT}
 
-    def __init__(self):
+    def __init__(self) -> None:
         self.state = "text"
         self.verb = 0
         self.due = bytearray()
 
-    def text(self, piece):
+    def text(self, piece: bytes) -> bytes:
         """What of the piece is text."""
         if self.state == "text" and IAC not in piece:
             return piece
@@ -28,12 +28,12 @@ class Telnet:
             self.state = self.after(byte, kept)
         return bytes(kept)
 
-    def answers(self):
+    def answers(self) -> bytes:
         """The answers that are due to the client since they were asked for last."""
         due, self.due = bytes(self.due), bytearray()
         return due
 
-    def after(self, byte, kept):
+    def after(self, byte: int, kept: bytearray) -> str:
         """The state behind a byte, which is kept where it is text."""
         if self.state == "text":
             if byte == IAC:
@@ -49,7 +49,7 @@ class Telnet:
             return "block"
         return "text"
 
-    def after_command(self, byte, kept):
+    def after_command(self, byte: int, kept: bytearray) -> str:
         """The state behind the byte that follows an IAC."""
         if WILL <= byte <= DONT:
             self.verb = byte
@@ -62,18 +62,18 @@ class Telnet:
 class Lines:
     """Cuts a client's text into lines."""
 
-    def __init__(self):
+    def __init__(self) -> None:
         self.telnet = Telnet()
         self.rest = b""
 
-    def of(self, piece):
+    def of(self, piece: bytes) -> list[bytes]:
         """The lines that are whole with this piece, without their ends."""
         *lines, self.rest = (self.rest + self.telnet.text(piece)).split(b"\n")
         self.rest = self.rest[:LONGEST]
         return [it.replace(b"\r", b"").replace(b"\0", b"")[:LONGEST] for it in lines]
 
 
-def unsealed(line):
+def unsealed(line: bytes) -> bytes | None:
     """The text of a line that timeseal's first version has sealed; none where it isn't sealed."""
     if len(line) < 13 or not 0x80 <= line[-1] < 0x80 + len(KEY) or len(line) % GROUP != 1:
         return None

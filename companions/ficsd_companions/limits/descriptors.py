@@ -3,7 +3,7 @@
 import resource
 
 
-def most(wanted):
+def most(wanted: int) -> int:
     """The limit, which is raised to as many as are wanted where the system lets it be."""
     soft, hard = resource.getrlimit(resource.RLIMIT_NOFILE)
     if soft != resource.RLIM_INFINITY and soft < wanted:

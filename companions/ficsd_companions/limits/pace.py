@@ -8,6 +8,7 @@ import array
 import asyncio
 import fcntl
 import termios
+from typing import Protocol
 
 from .budget import Budget
 
@@ -24,49 +25,56 @@ class Flood(Exception):
     """More than a link may send; its text says which limit that is."""
 
 
+class Socket(Protocol):
+    """A socket, also one that asyncio shows of its own."""
+
+    def fileno(self) -> int:
+        ...
+
+
 class Pace:
     """The budgets of one link, which comes by that socket. What goes beyond them raises `Flood`."""
 
-    def __init__(self, link):
+    def __init__(self, link: Socket) -> None:
         self.link = link
         self.lines, self.pace = Budget(LINES_A_SECOND, LINES_AT_ONCE), Budget(PACE_A_SECOND, PACE_AT_ONCE)
         self.pings, self.bytes = Budget(PINGS_A_SECOND, PINGS_AT_ONCE), Budget(BYTES_A_SECOND, BYTES_AT_ONCE)
         self.options = Budget(OPTIONS_A_SECOND, OPTIONS_AT_ONCE)
         self.in_turn = 0
 
-    async def line(self):
+    async def line(self) -> None:
         """Counts a line, and waits where it comes before its time, or others are due."""
         if not self.lines.take():
             raise Flood(f"a flood: more than {LINES_A_SECOND} lines a second, and {LINES_AT_ONCE} at once")
         await self.give_way(self.pace.promise())
 
-    async def ping(self):
+    async def ping(self) -> None:
         """Counts what asks for a sign of life, or is one, and waits where others are due."""
         if not self.pings.take():
             raise Flood(f"a flood: more than {PINGS_A_SECOND} pings a second, and {PINGS_AT_ONCE} at once")
         await self.give_way()
 
-    async def give_way(self, seconds=0):
+    async def give_way(self, seconds: float = 0) -> None:
         """Waits so long, and every few messages a turn of the loop in any case."""
         self.in_turn += 1
         if seconds or self.in_turn >= A_TURN:
             self.in_turn = 0
             await asyncio.sleep(seconds)
 
-    def piece(self, length):
+    def piece(self, length: int) -> None:
         """Counts bytes that were read, whatever they are."""
         if unread(self.link) > AHEAD_BYTES:
             raise Flood(f"a flood: more than {AHEAD_BYTES} bytes ahead of what is taken")
         if not self.bytes.take(length):
             raise Flood(f"a flood: more than {BYTES_A_SECOND} bytes a second, and {BYTES_AT_ONCE} at once")
 
-    def telnets_own(self, length):
+    def telnets_own(self, length: int) -> None:
         """Counts bytes with some of telnet's own among them."""
         if not self.options.take(length):
             raise Flood(f"a flood: more than {OPTIONS_A_SECOND} bytes of options a second, {OPTIONS_AT_ONCE} at once")
 
 
-def unread(link):
+def unread(link: Socket) -> int:
     """How many bytes have come by a socket that weren't read."""
     count = array.array("i", [0])
     fcntl.ioctl(link.fileno(), termios.FIONREAD, count)

@@ -10,13 +10,13 @@ class Pieces(asyncio.BufferedProtocol):
 
     room = memoryview(bytearray(PIECE))  # one for all, since what is read is taken at once
 
-    def __init__(self, protocol):
+    def __init__(self, protocol: asyncio.Protocol) -> None:
         self.protocol = protocol
         for name in ("connection_made", "connection_lost", "pause_writing", "resume_writing", "eof_received"):
             setattr(self, name, getattr(protocol, name))
 
-    def get_buffer(self, _hint):
+    def get_buffer(self, sizehint: int) -> memoryview:
         return self.room
 
-    def buffer_updated(self, length):
-        self.protocol.data_received(bytes(self.room[:length]))
+    def buffer_updated(self, nbytes: int) -> None:
+        self.protocol.data_received(bytes(self.room[:nbytes]))

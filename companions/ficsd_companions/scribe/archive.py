@@ -105,8 +105,11 @@ class Archive:
 
     def given_up(self, before: datetime) -> list[Journal]:
         """The games that were lost sight of before that moment and never seen again. They wait no longer."""
-        lost = [it for it in self.waits if not it.sitting.is_adjourned
-                and datetime.fromtimestamp(it.path.stat().st_mtime) < before]
+        lost = [
+            it
+            for it in self.waits
+            if not it.sitting.is_adjourned and datetime.fromtimestamp(it.path.stat().st_mtime) < before
+        ]
         self.waits = [it for it in self.waits if it not in lost]
         return lost
 
@@ -155,8 +158,14 @@ class Archive:
         texts = [(it.link, kind_of(it) + ".pgn", f'[Link "{it.link}"]', pgn.text(it, self.site)) for it in records]
         if sitting.is_pair:
             first, second = records
-            texts.append((first.link, "-bughouse.bpgn", f'[LinkA "{first.link}"]',
-                          bpgn.text(first, second, sitting.order, self.site)))
+            texts.append(
+                (
+                    first.link,
+                    "-bughouse.bpgn",
+                    f'[LinkA "{first.link}"]',
+                    bpgn.text(first, second, sitting.order, self.site),
+                )
+            )
         for link, ending, mark, text in texts:
             file = self._file_of(link, ending)
             if not (may_stand and file.exists() and mark in read(file)):
@@ -172,10 +181,11 @@ class Archive:
         return file
 
     def _mend(self, file: Path) -> None:
-        """Takes away what is behind the last whole game: the scribe was ended as it wrote that, and its journal has it."""
+        """Takes away what is behind the last whole game: the scribe was ended as it wrote that, and its journal has
+        it."""
         if file.exists():
             text = read(file)
-            os.truncate(file, len(text[:whole_length(text)].encode()))
+            os.truncate(file, len(text[: whole_length(text)].encode()))
         self._mended.add(file)
 
 

@@ -18,10 +18,20 @@ def token(it: HalfMove, board: str) -> str:
 
 def text(first: Record, second: Record, order: list[tuple[str, HalfMove]], site: str) -> str:
     """`order` has the half-moves of both, each with its board, A or B."""
-    tags = [("Event", "Casual bughouse game"), ("Site", site), ("Date", f"{first.begun:%Y.%m.%d}"),
-            ("WhiteA", first.white), ("BlackA", first.black), ("WhiteB", second.white), ("BlackB", second.black),
-            ("TimeControl", time_control(first)), ("Result", first.result), ("Termination", termination(first.reason)),
-            ("LinkA", first.link), ("LinkB", second.link)]
+    tags = [
+        ("Event", "Casual bughouse game"),
+        ("Site", site),
+        ("Date", f"{first.begun:%Y.%m.%d}"),
+        ("WhiteA", first.white),
+        ("BlackA", first.black),
+        ("WhiteB", second.white),
+        ("BlackB", second.black),
+        ("TimeControl", time_control(first)),
+        ("Result", first.result),
+        ("Termination", termination(first.reason)),
+        ("LinkA", first.link),
+        ("LinkB", second.link),
+    ]
     if fens := [(name, fen) for name, it in (("FENA", first), ("FENB", second)) if (fen := it.fen())]:
         tags += [("SetUp", "1"), *fens]
     head = "\n".join(f'[{name} "{quoted(value)}"]' for name, value in tags)

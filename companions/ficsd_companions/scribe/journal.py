@@ -31,7 +31,9 @@ class Journal:
         """Makes the file, whole at once, with all that is known."""
         games = [[it.number, it.white, it.black, str(it.terms)] for it in self.sitting.records.values()]
         first = self.sitting.first
-        head = json.dumps({"games": games, "begun": first.begun.isoformat(), **({"late": True} if first.is_late else {})})
+        head = json.dumps(
+            {"games": games, "begun": first.begun.isoformat(), **({"late": True} if first.is_late else {})}
+        )
         new = self.path.with_suffix(".new")
         self.path.parent.mkdir(parents=True, exist_ok=True)
         new.write_text("\n".join([head, *self.sitting.lines]) + "\n", encoding="utf-8")
@@ -40,7 +42,7 @@ class Journal:
 
     def keep(self) -> None:
         """Adds what has come since."""
-        self._append(self.sitting.lines[self._written:])
+        self._append(self.sitting.lines[self._written :])
         self._written = len(self.sitting.lines)
 
     def keep_links(self) -> None:
@@ -82,12 +84,15 @@ def name_of(sitting: Sitting) -> str:
 def restored(path: Path) -> Journal | None:
     """The journal in a file; none where that isn't one. What stands behind the last whole line is a line cut off."""
     text = path.read_text(encoding="utf-8", errors="replace")
-    head, *lines = text[:text.rfind("\n") + 1].splitlines() or [""]
+    head, *lines = text[: text.rfind("\n") + 1].splitlines() or [""]
     try:
         kept = json.loads(head)
         begun = datetime.fromisoformat(kept["begun"])
-        games = [GameListed(number, white, black, terms) for number, white, black, spelled in kept["games"]
-                 if (terms := Terms.parsed(spelled))]
+        games = [
+            GameListed(number, white, black, terms)
+            for number, white, black, spelled in kept["games"]
+            if (terms := Terms.parsed(spelled))
+        ]
     except (ValueError, KeyError, TypeError):
         return None
     if not games:
@@ -99,7 +104,7 @@ def restored(path: Path) -> Journal | None:
             sitting.links = line.removeprefix(LINKS).split()
         else:
             sitting.replay(line, ended)
-    os.truncate(path, len(text[:text.rfind("\n") + 1].encode()))
+    os.truncate(path, len(text[: text.rfind("\n") + 1].encode()))
     journal = Journal(path, sitting)
     journal._written = len(sitting.lines)
     return journal

@@ -8,10 +8,18 @@ from .record import HalfMove, Record
 WIDTH = 79
 STARTING_SECONDS = 10  # a game of 0 minutes with an increment begins with so many
 TERMINATIONS = {  # what the standard calls an end, by the words of the server's reason behind the name
-    "checkmated": "normal", "resigns": "normal", "drawn by stalemate": "normal", "drawn by agreement": "normal",
-    "drawn by the 50 move rule": "normal", "drawn by repetition": "normal", "partner's game ended": "normal",
-    "forfeits on time": "time forfeit", "drawn by time": "time forfeit", "forfeits by disconnection": "abandoned",
-    "aborted": "abandoned"}
+    "checkmated": "normal",
+    "resigns": "normal",
+    "drawn by stalemate": "normal",
+    "drawn by agreement": "normal",
+    "drawn by the 50 move rule": "normal",
+    "drawn by repetition": "normal",
+    "partner's game ended": "normal",
+    "forfeits on time": "time forfeit",
+    "drawn by time": "time forfeit",
+    "forfeits by disconnection": "abandoned",
+    "aborted": "abandoned",
+}
 VARIANTS = {"crazyhouse": "Crazyhouse", "fischer": "Chess960", "bughouse": "Bughouse"}
 
 
@@ -30,8 +38,15 @@ def time_control(record: Record) -> str:
 
 
 def tags(record: Record, site: str) -> Iterator[tuple[str, str]]:
-    yield from (("Event", "Casual game"), ("Site", site), ("Date", f"{record.begun:%Y.%m.%d}"), ("Round", "-"),
-                ("White", record.white), ("Black", record.black), ("Result", record.result))
+    yield from (
+        ("Event", "Casual game"),
+        ("Site", site),
+        ("Date", f"{record.begun:%Y.%m.%d}"),
+        ("Round", "-"),
+        ("White", record.white),
+        ("Black", record.black),
+        ("Result", record.result),
+    )
     yield "Time", f"{record.begun:%H:%M:%S}"
     yield "TimeControl", time_control(record)
     yield "Termination", termination(record.reason)

@@ -153,8 +153,12 @@ def follows(before: Place, board: Board) -> bool:
     """Whether the board is what its own previous half-move makes of that place: what stands on other squares stays."""
     if (before.side == board.side) or before.ply + 1 != board.ply:
         return False
-    changed = {f"{file}{8 - row}" for row in range(8) for at, file in enumerate(FILES)
-               if before.ranks[row][at] != board.ranks[row][at]}
+    changed = {
+        f"{file}{8 - row}"
+        for row in range(8)
+        for at, file in enumerate(FILES)
+        if before.ranks[row][at] != board.ranks[row][at]
+    }
     return changed <= touched(before, board)
 
 

@@ -2,18 +2,17 @@
 
 import asyncio
 from collections.abc import Callable
+from contextlib import suppress
 
 from ficslink.answer import Answer
 from ficslink.board import Board
-from ficslink.errors import LinkError, RefusalError
+from ficslink.errors import LinkError
 from ficslink.line import Line
 from ficslink.lines import Entered, GameListed, GameOver, Hands, HandsCame
 from ficslink.link import Link
+from ficslink.observing import looks_on
 
 MOST_GAMES = 32  # at which a session may look on
-LIST_FULL = 40  # the refusal that says that one looks on at so many
-ALREADY_WATCHING = 55  # the refusal that says that one looks on
-MOST_TRIES = 4
 Told = Callable[[Line], None]
 Shown = Callable[[int, Line], None]
 
@@ -24,8 +23,8 @@ def desk_of(game: int) -> int:
 
 
 class Watcher:
-    """A session that looks on. What it hears of games goes to `told`, in the order in which it comes; `shown` is told of
-    the first board of a desk at which it looks on anew, once more."""
+    """A session that looks on. What it hears of games goes to `told`, in the order in which it comes; `shown` is told,
+    once more, of the first board of a desk at which it looks on anew."""
 
     is_full = False
 
@@ -75,45 +74,27 @@ class Watcher:
         """At how many more desks it may look on."""
         return MOST_GAMES - len(self.desks) if self.is_in else 0
 
+    async def ask(self, line: str) -> Answer:
+        """Says a line; its answer."""
+        if not self._link:
+            raise LinkError("not in")
+        return await self._link.ask(line)
+
     async def games(self) -> list[GameListed]:
         """The games that are listed now."""
-        if not self._link:
-            raise LinkError("not in")
-        return (await self._link.ask("games")).all(GameListed)
+        return (await self.ask("games")).all(GameListed)
 
     async def observe(self, game: int) -> bool:
-        """Looks on at a game; whether it does. Who comes to one that has just ended is shown its board and looks on no
-        longer, without a word: so it asks until it is told that it looks on. Who looks on at as many as may be is
-        told that in place of it, and this game is one of them where it was shown before."""
-        self.desks.add(desk_of(game))
-        was_shown = False
-        for _ in range(MOST_TRIES):
-            answer = await self._answer_to(f"observe {game}")
-            if answer == ALREADY_WATCHING or answer == LIST_FULL and was_shown:
-                return True
-            if answer == LIST_FULL:  # maybe it looks on there already
-                await self._answer_to(f"unobserve {game}")
-            elif isinstance(answer, int):
-                break
-            else:
-                was_shown = True
-                self._shown(desk_of(game), answer.lines[0])
-        self.desks.discard(desk_of(game))
-        return False
-
-    async def _answer_to(self, line: str) -> Answer | int:
-        """Says a line; its answer, or the number of its refusal."""
-        if not self._link:
-            raise LinkError("not in")
-        try:
-            return await self._link.ask(line)
-        except RefusalError as refusal:
-            return refusal.number
+        """Looks on at a game; whether it does."""
+        desk = desk_of(game)
+        self.desks.add(desk)
+        does = await looks_on(self.ask, game, lambda answer: self._shown(desk, answer.lines[0]))
+        if not does:
+            self.desks.discard(desk)
+        return does
 
     async def leave(self) -> None:
         if self._link:
-            try:
+            with suppress(LinkError):  # it is closed already
                 await self._link.ask("quit")
-            except LinkError:
-                pass  # it is closed already
             await self._link.close()

@@ -1,1 +1,2 @@
-"""What an operator's programs see of a server from beside it: its hall, its store and its disk."""
+"""What an operator's programs see of a server from beside it: `guest` who is in and plays, `shelf` its store and its
+disk. `run` is fics_watch, and `stop` is what a server's unit does at a stop."""

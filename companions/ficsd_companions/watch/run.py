@@ -5,45 +5,107 @@ It is no part of what is proved. It reads the store beside the server and enters
 """
 
 import argparse
-import re
-import sys
+from pathlib import Path
 
 from ficsd_companions.accounts import records
 from ficsd_companions.cli.program import program
-from . import hall, shelf
+from ficsd_companions.cli.words import count, port
+
+from . import guest, shelf
 
 MOST_MEMBERS = 256
 CROSSED = 3
 WARNING = "<4>"  # by which the journal knows a line of a warning
+STORE = Path("/var/lib/ficsd/club.db")
 
 
-def number(word):
-    if not re.fullmatch(r"\d{1,9}", word):
-        raise argparse.ArgumentTypeError("a number is wanted")
-    return int(word)
+class Chosen(argparse.Namespace):
+    """The words of the command line."""
+
+    store: Path
+    port: int | None
+    shelf: int
+    accounts: int
+    members: int
+    disk: int
+    program: str
 
 
-def main():
+def look(chosen: Chosen) -> tuple[list[str], list[str]]:
+    """What was found, and the bounds that are crossed, each in words."""
+    accounts, games = shelf.counts(chosen.program, chosen.store)
+    free, why = shelf.free_mebibytes(chosen.store), shelf.why_no_room(chosen.store)
+    found = [
+        f"{games} adjourned games of at most {records.MOST_GAMES}",
+        f"{accounts} accounts of at most {records.MOST_ACCOUNTS}",
+        f"{free} MiB free",
+    ]
+    crossed = []
+    if games > chosen.shelf:
+        crossed.append(
+            f"more than {chosen.shelf} adjourned games; where the shelf is full no game begins. "
+            "`fics_accounts clear` makes room"
+        )
+    if accounts > chosen.accounts:
+        crossed.append(f"more than {chosen.accounts} accounts; `fics_accounts remove` makes room")
+    if free < chosen.disk:
+        crossed.append(f"less than {chosen.disk} MiB free on the disk of the store")
+    if why:
+        crossed.append(f"the disk of the store takes nothing ({why}): what is new isn't kept")
+    if chosen.port:
+        members = guest.members(chosen.port)
+        found.append(f"{members} members of at most {MOST_MEMBERS}")
+        if members > chosen.members:
+            crossed.append(f"more than {chosen.members} members")
+    return found, crossed
+
+
+def read_words() -> Chosen:
     words = argparse.ArgumentParser(
-        prog="fics_watch", description=__doc__.split("\n\n")[0],
+        prog="fics_watch",
+        description=(__doc__ or "").split("\n\n")[0],
         epilog="Statuses: 0 no bound is crossed; 1 the store or the hall couldn't be looked at, and why is said; "
-               f"2 other words than these; {CROSSED} a bound is crossed.")
-    words.add_argument("--store", default="/var/lib/ficsd/club.db", metavar="FILE", help="the store: %(default)s where "
-                       "it is left out")
-    words.add_argument("--port", type=number, metavar="P", help="the server's port on this machine; without it members "
-                       "aren't counted")
-    for name, bound, says in (("shelf", 9000, "adjourned games"), ("accounts", 3700, "accounts"),
-                              ("members", 230, "members")):
-        words.add_argument(f"--{name}", type=number, default=bound, metavar="N",
-                           help=f"the most {says} of which nothing is said: {bound} where it is left out")
-    words.add_argument("--disk", type=number, default=200, metavar="N", help="the fewest MiB of free room of which "
-                       "nothing is said: 200 where it is left out")
-    words.add_argument("--program", metavar="FILE", help="the ficsd that checks the store: the one that this belongs to "
-                       "where it is left out")
-    chosen = words.parse_args()
+        f"2 other words than these; {CROSSED} a bound is crossed.",
+    )
+    words.add_argument(
+        "--store", type=Path, default=STORE, metavar="FILE", help="the store: %(default)s where it is " "left out"
+    )
+    words.add_argument(
+        "--port", type=port, metavar="P", help="the server's port on this machine; without it members " "aren't counted"
+    )
+    bound = count(999_999_999, 0)
+    for name, usual, says in (
+        ("shelf", 9000, "adjourned games"),
+        ("accounts", 3700, "accounts"),
+        ("members", 230, "members"),
+    ):
+        words.add_argument(
+            f"--{name}",
+            type=bound,
+            default=usual,
+            metavar="N",
+            help=f"the most {says} of which nothing is said: {usual} where it is left out",
+        )
+    words.add_argument(
+        "--disk",
+        type=bound,
+        default=200,
+        metavar="N",
+        help="the fewest MiB of free room of which " "nothing is said: 200 where it is left out",
+    )
+    words.add_argument(
+        "--program",
+        default=program(),
+        metavar="FILE",
+        help="the ficsd that checks the store: the one " "that this belongs to where it is left out",
+    )
+    return words.parse_args(namespace=Chosen())
+
+
+def main() -> int:
     try:
-        found, crossed = look(chosen)
-    except (hall.Closed, shelf.Unreadable, OSError) as why:
+        found, crossed = look(read_words())
+    except (guest.NoAnswer, shelf.Unreadable, OSError) as why:
         print(f"{WARNING}fics_watch: {why}")
         return 1
     print(f"fics_watch: {', '.join(found)}")

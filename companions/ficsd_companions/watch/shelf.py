@@ -1,24 +1,28 @@
 """What is in the store of a server, also while the server has it, and whether its disk takes more."""
 
-import contextlib
 import os
 import re
 import shutil
 import sqlite3
 import subprocess
 import tempfile
+from collections.abc import Iterator
+from contextlib import closing, contextmanager, suppress
+from pathlib import Path
 
 from ficsd_companions.accounts import records
 
 ROOM = 65536  # bytes; some records of a store
 TRIES = 5  # to copy a store while nothing is put into it
 
+Marks = list[tuple[int, int]]
+
 
 class Unreadable(Exception):
     """What `check` says of a store that isn't good."""
 
 
-def counts(program, path):
+def counts(program: str, path: Path) -> tuple[int, int]:
     """How many accounts and adjourned games the store has."""
     done = subprocess.run([program, "check", "--store", path], stdin=subprocess.DEVNULL, capture_output=True, text=True)
     found = re.fullmatch(r"ok: (\d+) accounts, (\d+) games\n", done.stdout)
@@ -27,48 +31,53 @@ def counts(program, path):
     return int(found[1]), int(found[2])
 
 
-@contextlib.contextmanager
-def copied(path, folder):
+def log_of(path: Path) -> Path:
+    """The file in which SQLite has what isn't in the store's yet."""
+    return path.with_name(path.name + "-wal")
+
+
+@contextmanager
+def copied(path: Path, folder: Path) -> Iterator[sqlite3.Connection]:
     """A copy of the file and its log in a folder, opened by SQLite."""
     with tempfile.TemporaryDirectory(dir=folder) as inner:
-        copy = os.path.join(inner, "club.db")
+        copy = Path(inner, "club.db")
         for _ in range(TRIES):
             before = marks(path)
-            for end in ("", "-wal"):
-                with contextlib.suppress(FileNotFoundError):
-                    os.unlink(copy + end)
-                if end == "" or os.path.exists(path + end):
-                    shutil.copy(path + end, copy + end)
+            shutil.copy(path, copy)
+            log_of(copy).unlink(missing_ok=True)
+            if log_of(path).exists():
+                shutil.copy(log_of(path), log_of(copy))
             if marks(path) == before:  # so that the two belong together
                 break
-        with contextlib.closing(sqlite3.connect(copy)) as base:
+        with closing(sqlite3.connect(copy)) as base:
             yield base
 
 
-def names_of_accounts(base):
+def names_of_accounts(base: sqlite3.Connection) -> set[str]:
     """The names of the accounts, in small letters."""
     keys = base.execute("SELECT key FROM records WHERE key < ?", (records.GAMES_FROM,)).fetchall()
     return {key[1:].decode("ascii", "replace") for key, in keys}
 
 
-def count_of_games(base):
-    return base.execute("SELECT count(*) FROM records WHERE key >= ?", (records.GAMES_FROM,)).fetchone()[0]
+def count_of_games(base: sqlite3.Connection) -> int:
+    found: tuple[int] = base.execute("SELECT count(*) FROM records WHERE key >= ?", (records.GAMES_FROM,)).fetchone()
+    return found[0]
 
 
-def marks(path):
+def marks(path: Path) -> Marks:
     """What changes with each record that is put."""
     found = []
-    for it in (path, path + "-wal"):
-        with contextlib.suppress(FileNotFoundError):
-            stat = os.stat(it)
+    for it in (path, log_of(path)):
+        with suppress(FileNotFoundError):
+            stat = it.stat()
             found.append((stat.st_size, stat.st_mtime_ns))
     return found
 
 
-def why_no_room(path):
+def why_no_room(path: Path) -> str | None:
     """Why the disk takes no more bytes in the store's folder; nothing where it does."""
     try:
-        with tempfile.TemporaryFile(dir=os.path.dirname(os.path.realpath(path)), buffering=0) as file:
+        with tempfile.TemporaryFile(dir=path.resolve().parent, buffering=0) as file:
             file.write(os.urandom(ROOM))
             os.fsync(file.fileno())
     except OSError as error:
@@ -76,7 +85,7 @@ def why_no_room(path):
     return None
 
 
-def free_mebibytes(path):
+def free_mebibytes(path: Path) -> int:
     """How much room is left in the store's folder for who serves."""
-    disk = os.statvfs(os.path.dirname(os.path.realpath(path)))
+    disk = os.statvfs(path.resolve().parent)
     return disk.f_bavail * disk.f_frsize // 2**20

@@ -17,12 +17,14 @@ import json
 import os
 import signal
 import sqlite3
-import sys
 import time
+from dataclasses import asdict, dataclass
+from pathlib import Path
 
 from ficsd_companions.cli.program import program
+from ficsd_companions.cli.words import count, port
 
-from . import hall, shelf
+from . import guest, shelf
 
 LOOK_EVERY = 0.1  # seconds
 AT_MOST = {"note": 10, "keep": 60}  # seconds, where no others are said
@@ -33,127 +35,155 @@ NOT_KEPT = 4
 FAULT, WARNING = "<3>", "<4>"  # by which the journal knows a line of an error, and one of a warning
 
 
-def end_in(seconds):
+class Chosen(argparse.Namespace):
+    """The words of the command line."""
+
+    act: str
+    file: Path
+    store: Path
+    port: int
+    seconds: int | None
+    counting: int
+    program: str
+
+    @property
+    def most(self) -> int:
+        """How many seconds it may take."""
+        return self.seconds or AT_MOST[self.act]
+
+
+@dataclass(frozen=True)
+class Noted:
+    """What `note` has found before the links are cut, as far as it knew it."""
+
+    shelf: int = 0  # games that were adjourned before
+    running: int | None = None  # games that a cut link adjourns; none where nobody knows
+
+    def missing(self, games: int) -> int:
+        """How many of the games that ran aren't among so many on the shelf; none where nobody knows."""
+        return max(0, self.shelf + self.running - games) if self.running else 0
+
+
+def end_in(seconds: int) -> None:
     """Ends by a TimeoutError what takes longer."""
-    def late(*_):
+
+    def late(*_: object) -> None:
         raise TimeoutError(f"it took longer than {seconds} seconds")
+
     signal.signal(signal.SIGALRM, late)
     signal.alarm(seconds)
 
 
-def note(chosen):
+def note(chosen: Chosen) -> int:
     """Writes down how many games are on the shelf, and how many run that a cut link adjourns."""
-    known = {}
-    end_in(chosen.seconds)
+    known = Noted()
+    end_in(chosen.most)
     try:
-        running = hall.games_of_one_board(chosen.port, chosen.seconds)
-        with shelf.copied(chosen.store, os.path.dirname(chosen.file)) as base:
+        running = guest.games_of_one_board(chosen.port, chosen.most)
+        with shelf.copied(chosen.store, chosen.file.parent) as base:
             names, games = shelf.names_of_accounts(base), shelf.count_of_games(base)
-        known = {"running": sum(all(it.lower() in names for it in players) for players in running), "shelf": games}
-    except (hall.Closed, OSError, sqlite3.Error) as why:
+        known = Noted(games, sum(all(it.lower() in names for it in players) for players in running))
+    except (guest.NoAnswer, OSError, sqlite3.Error) as why:
         print(f"ficsd: which games run isn't known: {why}")
     signal.alarm(0)
-    with open(chosen.file, "w", encoding="utf-8") as file:
-        json.dump(known, file)
+    chosen.file.write_text(json.dumps(asdict(known)), encoding="utf-8")
     return 0
 
 
-def noted(path):
-    """What `note` has written down, as far as it knew it."""
+def noted(file: Path) -> Noted:
+    """What `note` has written down."""
     try:
-        with open(path, encoding="utf-8") as file:
-            known = json.load(file)
-        os.unlink(path)
-    except (OSError, ValueError):
-        known = {}
-    return known.get("shelf"), known.get("running")
+        known = Noted(**json.loads(file.read_text(encoding="utf-8")))
+        file.unlink()
+    except (OSError, ValueError, TypeError):
+        return Noted()
+    return known
 
 
-def missing(games, before, running):
-    """How many of the games that ran aren't among those on the shelf; none where nobody knows."""
-    return max(0, before + running - games) if running else 0
-
-
-def missing_now(chosen, before, running):
-    """The same of what is in the store by now."""
-    if not running:
+def missing_now(chosen: Chosen, before: Noted) -> int:
+    """How many of the games that ran aren't in the store by now."""
+    if not before.running:
         return 0
-    with shelf.copied(chosen.store, os.path.dirname(chosen.file)) as base:
-        return missing(shelf.count_of_games(base), before, running)
+    with shelf.copied(chosen.store, chosen.file.parent) as base:
+        return before.missing(shelf.count_of_games(base))
 
 
-def wait_until_at_rest(chosen, before, running):
+def wait_until_at_rest(chosen: Chosen, before: Noted) -> int:
     """Waits until nothing was put for a while, and answers how many games are missing."""
-    end = time.monotonic() + chosen.seconds
+    end = time.monotonic() + chosen.most
     marks, since, left = shelf.marks(chosen.store), time.monotonic(), None
-    least = AT_REST_WITH_SOME_MISSING if running is None else AT_REST
+    least = AT_REST_WITH_SOME_MISSING if before.running is None else AT_REST
     while (now := time.monotonic()) < end:
         if marks != (marks := shelf.marks(chosen.store)):
             since, left = now, None
         elif now - since >= least:
-            left = missing_now(chosen, before, running) if left is None else left
+            left = missing_now(chosen, before) if left is None else left
             if not left or now - since >= AT_REST_WITH_SOME_MISSING:
                 return left
         time.sleep(LOOK_EVERY)
-    left = missing_now(chosen, before, running)
+    left = missing_now(chosen, before)
     if left or now - since < least:
         # to put one record may take longer than that, so where some are missing nobody knows whether more come
-        print(f"{FAULT}ficsd: the store hadn't come to rest after {chosen.seconds} seconds")
+        print(f"{FAULT}ficsd: the store hadn't come to rest after {chosen.most} seconds")
     return left
 
 
-def keep(chosen):
+def keep(chosen: Chosen) -> int:
     """Waits for the store, and says what is kept and what isn't."""
-    before, running = noted(chosen.file)
+    before = noted(chosen.file)
     why_full, left = None, 0
     try:
-        end_in(chosen.seconds + TO_LOOK)
-        left = wait_until_at_rest(chosen, before, running)
+        end_in(chosen.most + TO_LOOK)
+        left = wait_until_at_rest(chosen, before)
         why_full = shelf.why_no_room(chosen.store)
         end_in(chosen.counting)
         accounts, games = shelf.counts(chosen.program, chosen.store)
-        left = missing(games, before, running)
-        tell_kept(accounts, games, running, left)
+        left = before.missing(games)
+        tell_kept(accounts, games, before.running, left)
     except TimeoutError as why:
         print(f"{FAULT}ficsd: what is kept couldn't be counted: {why}")
     except (shelf.Unreadable, OSError, sqlite3.Error) as why:
         print(f"{FAULT}ficsd: the store can't be read: {why}")
         return NOT_KEPT
-    return tell_lost(why_full, running, left)
+    return tell_lost(why_full, before.running, left)
 
 
-def tell_kept(accounts, games, running, left):
+def tell_kept(accounts: int, games: int, running: int | None, left: int) -> None:
     ran = ""
     if running:
         ran = f"; {running - left} of the {running} that ran between players with accounts are among them"
     print(f"ficsd: kept: {accounts} accounts and {games} adjourned games{ran}")
 
 
-def tell_lost(why_full, running, left):
+def tell_lost(why_full: str | None, running: int | None, left: int) -> int:
     """Says what is lost, and answers the status that this has."""
     if why_full and running and not left:  # what is new is put in its order, so all before these games is there too
         print(f"{WARNING}ficsd: the disk takes nothing ({why_full}); what is new was kept in the room that the log had")
     elif why_full:
-        print(f"{FAULT}ficsd: LOST: the disk takes nothing ({why_full}), so accounts and games that are new since then "
-              f"are lost{f', {left} of those that ran just now among them' if left else ''}")
+        print(
+            f"{FAULT}ficsd: LOST: the disk takes nothing ({why_full}), so accounts and games that are new since then "
+            f"are lost{f', {left} of those that ran just now among them' if left else ''}"
+        )
         return NOT_KEPT
     elif left:
-        print(f"{FAULT}ficsd: LOST: {left} games that ran; where links can't be cut (`man ficsd`, STOPPING) all of "
-              "them are")
+        print(
+            f"{FAULT}ficsd: LOST: {left} games that ran; where links can't be cut (`man ficsd`, STOPPING) all of "
+            "them are"
+        )
     return 0
 
 
-def main():
-    words = argparse.ArgumentParser(prog="stop_server", description=__doc__.split("\n\n")[0])
+def main() -> int:
+    words = argparse.ArgumentParser(prog="stop_server", description=(__doc__ or "").split("\n\n")[0])
+    most = count(10**6)
     words.add_argument("act", choices=("note", "keep"))
-    words.add_argument("file")
-    words.add_argument("--store", required=True)
-    words.add_argument("--port", type=int, default=0)
-    words.add_argument("--seconds", type=int)
-    words.add_argument("--counting", type=int, default=30)
+    words.add_argument("file", type=Path)
+    words.add_argument("--store", type=Path, required=True)
+    words.add_argument("--port", type=port, default=0)
+    words.add_argument("--seconds", type=most)
+    words.add_argument("--counting", type=most, default=30)
     words.add_argument("--program", default=program())
-    chosen = words.parse_args()
-    chosen.seconds = chosen.seconds or AT_MOST[chosen.act]
+    chosen = words.parse_args(namespace=Chosen())
     if "MAINPID" not in os.environ:
         return 0
     return note(chosen) if chosen.act == "note" else keep(chosen)

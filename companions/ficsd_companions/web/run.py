@@ -66,6 +66,19 @@ def options() -> argparse.ArgumentParser:
         metavar="FOLDER",
         help="the page's files: the folder page beside this program where it is left out",
     )
+    add_visitors(words)
+    words.add_argument(
+        "--archive",
+        type=Path,
+        metavar="DIR",
+        help="the folder into which fics_scribe writes: its games are shown below /games/",
+    )
+    words.add_argument("--plain", action="store_true", help="refuse stamped lines: every clock is the server's own")
+    return words
+
+
+def add_visitors(words: argparse.ArgumentParser) -> None:
+    """What says who may come."""
     words.add_argument(
         "--host",
         type=name,
@@ -89,14 +102,6 @@ def options() -> argparse.ArgumentParser:
         metavar="ADDRESS",
         help="an address or network of a proxy whose X-Forwarded-For counts; as often as wanted",
     )
-    words.add_argument(
-        "--archive",
-        type=Path,
-        metavar="DIR",
-        help="the folder into which fics_scribe writes: its games are shown below /games/",
-    )
-    words.add_argument("--plain", action="store_true", help="refuse stamped lines: every clock is the server's own")
-    return words
 
 
 def main() -> int:

@@ -1,8 +1,8 @@
 /** Makes games of random moves, each as a script for `ficsd replay`: `random_games.mjs SEED COUNT` prints a row of
  * JSON for each, { variant, script }. The moves are those that the page shows as allowed; what is none the server refuses. */
 
-import { page } from "../web_modules/page.mjs";
-import { shownMoves } from "../web_modules/played_on.mjs";
+import { page } from "../page/modules/page.mjs";
+import { shownMoves } from "../page/modules/played_on.mjs";
 
 const legal = await page("legal.js");
 const { positionOfFen, usualPosition } = await page("archive/fen_read.js");

@@ -7,7 +7,7 @@ import signal
 import subprocess
 import threading
 import time
-from collections.abc import Callable
+from collections.abc import Awaitable, Callable, Mapping
 from contextlib import suppress
 from pathlib import Path
 from typing import IO, Any
@@ -23,8 +23,14 @@ class Run:
     """A program that runs, and what it has written by now: `out` and `log` are lists of lines."""
 
     def __init__(self, *words: object, **more: Any) -> None:
-        self.process = subprocess.Popen([str(it) for it in words], stdin=subprocess.DEVNULL, stdout=subprocess.PIPE,
-                                        stderr=subprocess.PIPE, text=True, **more)
+        self.process = subprocess.Popen(
+            [str(it) for it in words],
+            stdin=subprocess.DEVNULL,
+            stdout=subprocess.PIPE,
+            stderr=subprocess.PIPE,
+            text=True,
+            **more,
+        )
         self.out: list[str] = []
         self.log: list[str] = []
         streams = (self.process.stdout, self.out), (self.process.stderr, self.log)
@@ -97,8 +103,9 @@ class Run:
 class Server(Run):
     """The chess server, over a store where one is named, at a port of its own where none is named."""
 
-    def __init__(self, store: Path | str | None = None, port: int | None = None,
-                 ahead: tuple[object, ...] = ()) -> None:
+    def __init__(
+        self, store: Path | str | None = None, port: int | None = None, ahead: tuple[object, ...] = ()
+    ) -> None:
         self.port, self.store = port or free_port(), store
         over = ("--store", store) if store else ()
         super().__init__(*ahead, paths.program, "serve", "--port", self.port, *over)
@@ -124,8 +131,9 @@ def running(program: Path) -> list[int]:
     return found
 
 
-def wait_until(holds: Callable[[], bool], unless: Callable[[], bool] = lambda: False,
-               seconds: float = PATIENCE) -> bool:
+def wait_until(
+    holds: Callable[[], bool], unless: Callable[[], bool] = lambda: False, seconds: float = PATIENCE
+) -> bool:
     """Waits until something holds: whether it does, before the patience ends or the other thing comes to be."""
     deadline = time.monotonic() + seconds
     while not holds():
@@ -135,12 +143,24 @@ def wait_until(holds: Callable[[], bool], unless: Callable[[], bool] = lambda: F
     return True
 
 
-async def async_wait_until(holds: Callable[[], bool], unless: Callable[[], bool] = lambda: False,
-                           seconds: float = PATIENCE) -> bool:
-    """The same beside the other tasks of an event loop."""
+async def async_wait_until(
+    holds: Callable[[], bool | Awaitable[bool]], unless: Callable[[], bool] = lambda: False, seconds: float = PATIENCE
+) -> bool:
+    """The same beside the other tasks of an event loop; what is to hold may have to be awaited itself."""
+
+    async def holds_now() -> bool:
+        it = holds()
+        return await it if isinstance(it, Awaitable) else it
+
     deadline = time.monotonic() + seconds
-    while not holds():
-        if time.monotonic() > deadline or unless() and not holds():
+    while not await holds_now():
+        if time.monotonic() > deadline or unless() and not await holds_now():
             return False
         await asyncio.sleep(LOOK_EVERY)
     return True
+
+
+def ended(*words: object, given: str = "", env: Mapping[str, str] | None = None) -> subprocess.CompletedProcess[str]:
+    """A program that has ended by itself: what it has said to what it was given, and its status."""
+    line = [str(it) for it in words]
+    return subprocess.run(line, input=given, capture_output=True, text=True, timeout=PATIENCE, env=env, check=False)

@@ -29,8 +29,21 @@ def installed(tmp_path_factory: pytest.TempPathFactory) -> Path:
     folder = tmp_path_factory.mktemp("installed")
     copy = shutil.copytree(paths.COMPANIONS, folder / "companions", ignore=shutil.ignore_patterns("tests", "build"))
     written("/usr/bin/python3", "-m", "venv", "--without-pip", "--system-site-packages", folder / "house")
-    written("/usr/bin/python3", "-m", "pip", "--python", folder / "house" / "bin" / "python3", "install", "-q", "--no-index",
-            "--no-build-isolation", "--no-cache-dir", "--root-user-action=ignore", copy / "ficslink", copy)
+    written(
+        "/usr/bin/python3",
+        "-m",
+        "pip",
+        "--python",
+        folder / "house" / "bin" / "python3",
+        "install",
+        "-q",
+        "--no-index",
+        "--no-build-isolation",
+        "--no-cache-dir",
+        "--root-user-action=ignore",
+        copy / "ficslink",
+        copy,
+    )
     return folder / "house"
 
 
@@ -48,12 +61,15 @@ def test_its_page_is_whole(installed: Path) -> None:
 
     def files(folder: Path) -> set[Path]:
         return {it.relative_to(folder) for it in folder.rglob("*") if it.suffix in (".js", ".css", ".html", ".svg")}
+
     assert files(page) == files(paths.PAGE) != set()
 
 
 def test_each_folder_is_a_package_that_is_installed() -> None:
-    house = paths.COMPANIONS / "ficsd_companions"
-    folders = {f"ficsd_companions.{it.parent.name}" for it in house.glob("*/__init__.py")}
+    inside = [
+        it.parent.relative_to(paths.COMPANIONS) for it in paths.COMPANIONS.glob("ficsd_companions/*/**/__init__.py")
+    ]
+    folders = {".".join(it.parts) for it in inside}
     named = set(PROJECT["tool"]["setuptools"]["packages"])
     assert named == folders | {"ficsd_companions", "ficsd_companions.page"}
 
@@ -61,8 +77,11 @@ def test_each_folder_is_a_package_that_is_installed() -> None:
 @pytest.mark.parametrize("name", SCRIPTS)
 def test_a_launcher_begins_what_the_script_begins(name: str) -> None:
     module, _, function = SCRIPTS[name].partition(":")
-    first, *_ = [it for it in ast.walk(ast.parse(paths.companion(name).read_text(encoding="utf-8")))
-                 if isinstance(it, ast.ImportFrom)]
+    first, *_ = [
+        it
+        for it in ast.walk(ast.parse(paths.companion(name).read_text(encoding="utf-8")))
+        if isinstance(it, ast.ImportFrom)
+    ]
     assert (first.module, first.names[0].name) == (module, function)
 
 

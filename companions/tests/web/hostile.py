@@ -13,14 +13,16 @@ import struct
 import sys
 import time
 
-HANDSHAKE = (b"GET /link HTTP/1.1\r\nHost: 127.0.0.1\r\nConnection: Upgrade\r\nUpgrade: websocket\r\n"
-             b"Sec-WebSocket-Version: 13\r\nSec-WebSocket-Key: AAAAAAAAAAAAAAAAAAAAAA==\r\n\r\n")
+HANDSHAKE = (
+    b"GET /link HTTP/1.1\r\nHost: 127.0.0.1\r\nConnection: Upgrade\r\nUpgrade: websocket\r\n"
+    b"Sec-WebSocket-Version: 13\r\nSec-WebSocket-Key: AAAAAAAAAAAAAAAAAAAAAA==\r\n\r\n"
+)
 TEXT, PART, PING, PONG, CLOSE = 0x81, 0x00, 0x89, 0x8A, 0x8
 BYTES_A_SECOND = 400_000  # of each tab
 MASK = b"\1\2\3\4"
 
 
-def frame(kind, payload=b""):
+def frame(kind: int, payload: bytes = b"") -> bytes:
     """A frame as a browser sends it, masked."""
     masked = bytes(byte ^ MASK[n % 4] for n, byte in enumerate(payload))
     size = len(payload)
@@ -29,9 +31,14 @@ def frame(kind, payload=b""):
 
 
 KINDS = {
-    "pings": frame(PING), "pongs": frame(PONG), "lines": frame(TEXT), "long-lines": frame(TEXT, b"x" * 1000),
-    "fragments": frame(0x01) + frame(PART) * 50, "silence": b"",
-    "steady-lines": frame(TEXT, b"who"), "requests": b"GET / HTTP/1.1\r\nHost: 127.0.0.1\r\n\r\n",
+    "pings": frame(PING),
+    "pongs": frame(PONG),
+    "lines": frame(TEXT),
+    "long-lines": frame(TEXT, b"x" * 1000),
+    "fragments": frame(0x01) + frame(PART) * 50,
+    "silence": b"",
+    "steady-lines": frame(TEXT, b"who"),
+    "requests": b"GET / HTTP/1.1\r\nHost: 127.0.0.1\r\n\r\n",
 }
 RATES = {"steady-lines": 40 * len(frame(TEXT, b"who"))}
 
@@ -39,7 +46,7 @@ RATES = {"steady-lines": 40 * len(frame(TEXT, b"who"))}
 class Tab:
     """One tab, which sends what it sends, and takes to pieces what it is told."""
 
-    def __init__(self, port, piece, rate):
+    def __init__(self, port: int, piece: bytes, rate: float) -> None:
         self.piece, self.rate = piece, rate
         self.link = socket.create_connection(("127.0.0.1", port), timeout=30)
         self.heard = b""
@@ -49,7 +56,7 @@ class Tab:
         self.link.setblocking(False)
         self.sent, self.begin = 0, time.monotonic()
 
-    def shake_hands(self):
+    def shake_hands(self) -> None:
         self.link.sendall(HANDSHAKE)
         while b"\r\n\r\n" not in self.heard:
             more = self.link.recv(4096)
@@ -60,7 +67,7 @@ class Tab:
         if b" 101 " not in head:
             raise ConnectionError(head)
 
-    def send(self):
+    def send(self) -> None:
         """Sends as much as is due by now, from where it stopped."""
         due = int((time.monotonic() - self.begin) * self.rate) - self.sent
         if due > 0 and self.piece:
@@ -70,7 +77,7 @@ class Tab:
             except BlockingIOError:
                 pass
 
-    def close_told(self):
+    def close_told(self) -> str | None:
         """The code and the reason of a close, where one was told."""
         try:
             piece = self.link.recv(65536)
@@ -87,14 +94,14 @@ class Tab:
                 size, at = struct.unpack("!H", self.heard[2:4])[0], 4
             if len(self.heard) < at + size:
                 return None
-            kind, payload, self.heard = self.heard[0] & 0xF, self.heard[at:at + size], self.heard[at + size:]
+            kind, payload, self.heard = self.heard[0] & 0xF, self.heard[at : at + size], self.heard[at + size :]
             if kind == CLOSE:
                 return f"{struct.unpack('!H', payload[:2])[0]} {payload[2:].decode()}"
         return None
 
 
-def main():
-    kind, port, count, seconds = sys.argv[1], *map(int, sys.argv[2:])
+def main() -> None:
+    kind, (port, count, seconds) = sys.argv[1], map(int, sys.argv[2:])
     name, comes_again = kind.removesuffix("-again"), kind.endswith("-again")
     reads = "unread" not in name
     name = name.replace("unread-", "")

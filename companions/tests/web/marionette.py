@@ -6,27 +6,41 @@ import shutil
 import socket
 import subprocess
 import tempfile
-import time
 from pathlib import Path
+from typing import Any
 
-from . import places
+from tests.kit.ports import free_port
+from tests.kit.running import wait_until
 
 # the last word but one lets us run scripts in the browser itself
 COMMAND = ("/usr/bin/firefox-esr", "--headless", "--marionette", "--remote-allow-system-access", "--profile")
 STARTS_WITHIN = 120  # seconds
 # Selenium's names of commands, and Marionette's
 NAMES = {
-    "newSession": "WebDriver:NewSession", "setTimeouts": "WebDriver:SetTimeouts",
-    "get": "WebDriver:Navigate", "goBack": "WebDriver:Back", "refresh": "WebDriver:Refresh",
-    "getCurrentUrl": "WebDriver:GetCurrentURL", "getTitle": "WebDriver:GetTitle",
-    "newWindow": "WebDriver:NewWindow", "switchToWindow": "WebDriver:SwitchToWindow", "close": "WebDriver:CloseWindow",
-    "w3cGetCurrentWindowHandle": "WebDriver:GetWindowHandle", "w3cGetWindowHandles": "WebDriver:GetWindowHandles",
-    "findElement": "WebDriver:FindElement", "findElements": "WebDriver:FindElements",
-    "clickElement": "WebDriver:ElementClick", "clearElement": "WebDriver:ElementClear",
-    "sendKeysToElement": "WebDriver:ElementSendKeys", "getElementText": "WebDriver:GetElementText",
-    "getElementRect": "WebDriver:GetElementRect", "getElementAttribute": "WebDriver:GetElementAttribute",
-    "w3cExecuteScript": "WebDriver:ExecuteScript", "actions": "WebDriver:PerformActions",
-    "clearActionState": "WebDriver:ReleaseActions", "screenshot": "WebDriver:TakeScreenshot",
+    "newSession": "WebDriver:NewSession",
+    "setTimeouts": "WebDriver:SetTimeouts",
+    "get": "WebDriver:Navigate",
+    "goBack": "WebDriver:Back",
+    "refresh": "WebDriver:Refresh",
+    "getCurrentUrl": "WebDriver:GetCurrentURL",
+    "getTitle": "WebDriver:GetTitle",
+    "newWindow": "WebDriver:NewWindow",
+    "switchToWindow": "WebDriver:SwitchToWindow",
+    "close": "WebDriver:CloseWindow",
+    "w3cGetCurrentWindowHandle": "WebDriver:GetWindowHandle",
+    "w3cGetWindowHandles": "WebDriver:GetWindowHandles",
+    "findElement": "WebDriver:FindElement",
+    "findElements": "WebDriver:FindElements",
+    "clickElement": "WebDriver:ElementClick",
+    "clearElement": "WebDriver:ElementClear",
+    "sendKeysToElement": "WebDriver:ElementSendKeys",
+    "getElementText": "WebDriver:GetElementText",
+    "getElementRect": "WebDriver:GetElementRect",
+    "getElementAttribute": "WebDriver:GetElementAttribute",
+    "w3cExecuteScript": "WebDriver:ExecuteScript",
+    "actions": "WebDriver:PerformActions",
+    "clearActionState": "WebDriver:ReleaseActions",
+    "screenshot": "WebDriver:TakeScreenshot",
     "setContext": "Marionette:SetContext",
 }
 
@@ -34,25 +48,24 @@ NAMES = {
 class Marionette:
     """The connection to a Firefox of its own, by which Selenium's commands are executed."""
 
-    def __init__(self):
+    def __init__(self) -> None:
         self.folder = tempfile.mkdtemp(prefix="firefox.")
-        port = places.free_port()
+        port = free_port()
         Path(self.folder, "user.js").write_text(f'user_pref("marionette.port", {port});\n')
         self.process = subprocess.Popen([*COMMAND, self.folder], stdout=subprocess.DEVNULL, stderr=subprocess.DEVNULL)
-        self.file, self.last = self.connected(port), 0
+        if not wait_until(lambda: self.connects(port), seconds=STARTS_WITHIN):
+            raise TimeoutError("Firefox doesn't start")
+        self.last = 0
         self.read()  # its greeting
 
-    def connected(self, port):
-        deadline = time.monotonic() + STARTS_WITHIN
-        while True:
-            try:
-                return socket.create_connection(("127.0.0.1", port)).makefile("rwb")
-            except OSError:
-                if time.monotonic() > deadline:
-                    raise
-                time.sleep(0.2)
+    def connects(self, port: int) -> bool:
+        try:
+            self.file = socket.create_connection(("127.0.0.1", port)).makefile("rwb")
+        except OSError:
+            return False
+        return True
 
-    def read(self):
+    def read(self) -> Any:
         """One message: its length, a colon, and JSON."""
         size = b""
         while not size.endswith(b":"):
@@ -61,7 +74,7 @@ class Marionette:
             size += byte
         return json.loads(self.file.read(int(size[:-1])))
 
-    def ask(self, name, fields):
+    def ask(self, name: str, fields: dict[str, Any]) -> tuple[Any, Any]:
         """The error of a command, or None, and its result."""
         self.last += 1
         text = json.dumps([0, self.last, name, fields]).encode()
@@ -71,7 +84,7 @@ class Marionette:
         assert number == self.last, f"the answer {number} to the question {self.last}"
         return error, result
 
-    def execute(self, command, fields):
+    def execute(self, command: str, fields: dict[str, Any] | None) -> dict[str, Any]:
         """What Selenium calls."""
         fields = {key: value for key, value in (fields or {}).items() if key != "sessionId"}
         if command == "newSession":
@@ -82,7 +95,7 @@ class Marionette:
         is_wrapped = isinstance(result, dict) and set(result) == {"value"}
         return {"value": result["value"] if is_wrapped else result}
 
-    def end(self):
+    def end(self) -> None:
         self.process.kill()
         self.process.wait()
         shutil.rmtree(self.folder, ignore_errors=True)

@@ -2,84 +2,148 @@
 pages."""
 
 import asyncio
-import tempfile
-import unittest
+import contextlib
+import json
+import os
+from collections.abc import AsyncIterator
+from dataclasses import dataclass
 from pathlib import Path
+from typing import Any
 
-from . import places
-from .tabs import Tabs
+from tests.kit.go_between import GoBetween
+
+from .tabs import PATIENCE, Tab, Tabs
 
 OPENING = b"Free Internet Chess Server profile\n\rlogin: "
+MARK = "\x01"  # before what the go-between and a tab with a seat tell each other
 
 
 class End:
     """The server's end of a link."""
 
-    def __init__(self, reader, writer):
+    def __init__(self, reader: asyncio.StreamReader, writer: asyncio.StreamWriter) -> None:
         self.reader, self.writer = reader, writer
 
-    async def line(self):
-        """The next line, with its end."""
-        return await asyncio.wait_for(self.reader.readline(), places.PATIENCE)
+    async def line(self, seconds: float = PATIENCE) -> bytes:
+        """The next line, with its end; an empty one where the go-between has closed."""
+        return await asyncio.wait_for(self.reader.readline(), seconds)
 
-    async def asked(self):
+    async def asked(self) -> bytes:
         """The next line that isn't the go-between's own question for news, which is answered."""
         while (line := await self.line()) == b"\n":
             await self.say("fics% ")
         return line
 
-    async def is_silent(self, seconds):
+    async def is_silent(self, seconds: float) -> bool:
         """Whether nothing comes for so long."""
         try:
             return not await asyncio.wait_for(self.reader.read(1), seconds)
         except asyncio.TimeoutError:
             return True
 
-    async def say(self, text):
+    async def say(self, text: str | bytes) -> None:
         self.writer.write(text if isinstance(text, bytes) else text.encode("latin-1"))
         await self.writer.drain()
 
-    def close(self):
+    def close(self) -> None:
         self.writer.close()
 
 
-class Played(unittest.IsolatedAsyncioTestCase):
-    """A test that plays the server. `words` are those of the go-between besides its ports."""
+def fields_of(message: str) -> dict[str, Any]:
+    """What the go-between tells a tab with a seat."""
+    assert message[:1] == MARK
+    fields: dict[str, Any] = json.loads(message[1:])
+    return fields
 
-    words = "--tabs-from-one", "256"
 
-    async def asyncSetUp(self):
-        asyncio.get_running_loop().set_debug(False)
-        self.ends = asyncio.Queue()
-        self.door = await asyncio.start_server(lambda *it: self.ends.put_nowait(End(*it)), "127.0.0.1", 0, backlog=300)
-        self.folder = tempfile.TemporaryDirectory()
-        self.page = Path(self.folder.name, "page")
-        self.page.mkdir()
-        self.page.joinpath("index.html").write_text("<title>A page</title>")
-        port = self.door.sockets[0].getsockname()[1]
-        self.go_between = await asyncio.to_thread(places.GoBetween, port, self.page, self.words)
-        self.tabs = Tabs(self.go_between)
-        self.watch = await self.ends.get()
+@dataclass
+class Played:
+    """A server's door and the links that come by it, and the tabs of the go-between before it."""
 
-    async def asyncTearDown(self):
-        await self.tabs.close()
-        self.door.close()
-        self.go_between.end()
-        self.folder.cleanup()
+    door: asyncio.Server
+    ends: asyncio.Queue[End]
+    page: Path
+    go_between: GoBetween
+    tabs: Tabs
+    watch: End  # the go-between's own link
 
-    async def link(self, **words):
+    def memory(self) -> int:
+        """What the go-between holds, in bytes."""
+        pages = Path(f"/proc/{self.go_between.id}/statm").read_text(encoding="utf-8").split()[1]
+        return int(pages) * os.sysconf("SC_PAGE_SIZE")
+
+    @staticmethod
+    def unread(here: int, there: int) -> int:
+        """How many bytes wait in the socket of a port that is linked with another one."""
+        for line in Path("/proc/net/tcp").read_text(encoding="utf-8").splitlines()[1:]:
+            *ends, _, queues = line.split()[1:5]
+            if [here, there] == [int(it.rpartition(":")[2], 16) for it in ends]:
+                return int(queues.rpartition(":")[2], 16)
+        raise AssertionError("no such link")
+
+    async def end(self) -> End:
+        """The next link that comes."""
+        return await asyncio.wait_for(self.ends.get(), PATIENCE)
+
+    async def link(self, **words: Any) -> tuple[Tab, End]:
         """A tab, and its link at the server, before the login."""
         tab = await self.tabs.open(**words)
-        end = await asyncio.wait_for(self.ends.get(), places.PATIENCE)
-        await end.say(OPENING)
-        self.assertEqual(await tab.part(), ["Free Internet Chess Server profile", "login: "])
-        return tab, end
+        return tab, await self.opened(tab)
 
-    async def entered(self, name="Ann"):
+    async def opened(self, tab: Tab) -> End:
+        """The link of a tab that has just come, once the tab was told the opening."""
+        end = await self.end()
+        await end.say(OPENING)
+        assert await tab.part() == ["Free Internet Chess Server profile", "login: "]
+        return end
+
+    @staticmethod
+    async def goes_in(tab: Tab, end: End, name: str) -> None:
+        await tab.send(name)
+        assert await end.line() == name.encode() + b"\n"
+        await end.say(f"Entered as {name}.\n\rfics% ")
+        assert await tab.part() == [f"Entered as {name}.", "fics% "]
+
+    async def entered(self, name: str = "Ann") -> tuple[Tab, End]:
         """A tab that is in, and its link at the server."""
         tab, end = await self.link()
-        await tab.send(name)
-        self.assertEqual(await end.line(), name.encode() + b"\n")
-        await end.say(f"Entered as {name}.\n\rfics% ")
-        self.assertEqual(await tab.part(), [f"Entered as {name}.", "fics% "])
+        await self.goes_in(tab, end, name)
         return tab, end
+
+    async def seat(self, token: str | None = None, **fields: object) -> tuple[Tab, dict[str, Any]]:
+        """A tab that has asked for a seat, and what it was answered."""
+        tab = await self.wish(token, **fields)
+        return tab, fields_of(await tab.message())
+
+    async def wish(self, token: str | None = None, **fields: object) -> Tab:
+        """A tab that has asked for a seat."""
+        tab = await self.tabs.open(protocols=("seat",))
+        await tab.send(MARK + json.dumps({"seat": token, **fields}))
+        return tab
+
+    async def seated(self, name: str = "Ann") -> tuple[Tab, End, str]:
+        """A tab that is in, its link at the server, and its token."""
+        tab, answer = await self.seat()
+        assert (answer["taken"], answer["heard"], answer["name"]) == ("new", 0, None)
+        end = await self.opened(tab)
+        await self.goes_in(tab, end, name)
+        return tab, end, answer["seat"]
+
+
+@contextlib.asynccontextmanager
+async def playing(folder: Path, words: tuple[object, ...]) -> AsyncIterator[Played]:
+    """A server to be played, and a go-between with these words, and a page in that folder, before it."""
+    ends: asyncio.Queue[End] = asyncio.Queue()
+    door = await asyncio.start_server(lambda *it: ends.put_nowait(End(*it)), "127.0.0.1", 0, backlog=300)
+    page = folder / "page"
+    page.mkdir()
+    page.joinpath("index.html").write_text("<title>A page</title>")
+    port = door.sockets[0].getsockname()[1]
+    go_between = await asyncio.to_thread(GoBetween, port, words, page)
+    tabs = Tabs(go_between)
+    try:
+        yield Played(door, ends, page, go_between, tabs, await asyncio.wait_for(ends.get(), PATIENCE))
+    finally:
+        await tabs.close()
+        door.close()
+        go_between.end()

@@ -1,10 +1,9 @@
 """What is looked at of a page without a mouse and without sight: the names of controls, what Tab reaches, contrasts,
 and the room that is needed."""
 
-from selenium.webdriver.common.action_chains import ActionChains
 from selenium.webdriver.common.keys import Keys
 
-from .browser import NARROW, WIDE, Evening
+from .browser import NARROW, WIDE, Window
 
 LEAST_CONTRAST, LEAST_OF_LARGE = 4.5, 3.0
 MOST_TABS = 400
@@ -81,47 +80,59 @@ for (const element of document.body.querySelectorAll("*")) {
 }
 return bad.filter(Boolean);
 """
+# what the system has, what the member has chosen, and which board
+DRESSED = (
+    ("light", "auto", "meadow"),
+    ("dark", "auto", "wood"),
+    ("dark", "light", "wood"),
+    ("light", "dark", "meadow"),
+)
 DRESSES = "Object.assign(document.documentElement.dataset, { theme: arguments[0], board: arguments[1] })"
 
 
-class Reached(Evening):
-    """An evening whose pages are looked at so."""
+def check_names(window: Window) -> None:
+    window.front()
+    assert window.browser.nameless() == []
 
-    def check_names(self, window):
+
+def check_tabs(window: Window) -> None:
+    """Tab goes to each control that is seen, the squares of a board aside, to which the arrows go."""
+    assert window.script(UNREACHABLE) == []
+    wanted = set(window.script(REACHABLE))
+    window.script("document.activeElement.blur(); window.scrollTo(0, 0)")
+    reached: set[str] = set()
+    for _ in range(MOST_TABS):
+        window.press(Keys.TAB)
+        reached.add(window.script(FOCUSED))
+        if wanted <= reached:
+            break
+    assert wanted - reached == set()
+
+
+def check_contrasts(window: Window) -> None:
+    """Both schemes, as the system has them and as the member chose against it; both boards."""
+    for scheme, theme, board in DRESSED:
         window.front()
-        self.assertEqual(window.browser.nameless(), [])
+        window.browser.prefer_scheme(scheme)
+        window.script(DRESSES, theme, board)
+        assert window.script(CONTRASTS, LEAST_CONTRAST, LEAST_OF_LARGE) == [], (scheme, theme, board)
+    window.script(DRESSES, "auto", "meadow")
+    window.browser.prefer_scheme(None)
 
-    def check_tabs(self, window):
-        """Tab goes to each control that is seen, the squares of a board aside, to which the arrows go."""
-        self.assertEqual(window.script(UNREACHABLE), [])
-        wanted = set(window.script(REACHABLE))
-        window.script("document.activeElement.blur(); window.scrollTo(0, 0)")
-        reached = set()
-        for _ in range(MOST_TABS):
-            ActionChains(window.driver).send_keys(Keys.TAB).perform()
-            reached.add(window.script(FOCUSED))
-            if wanted <= reached:
-                break
-        self.assertEqual(wanted - reached, set())
 
-    def check_contrasts(self, window):
-        """Both schemes, as the system has them and as the member chose against it; both boards."""
-        for scheme, theme, board in (("light", "auto", "meadow"), ("dark", "auto", "wood"), ("dark", "light", "wood"),
-                                     ("light", "dark", "meadow")):
-            window.front()
-            window.browser.prefer_scheme(scheme)
-            window.script(DRESSES, theme, board)
-            self.assertEqual(window.script(CONTRASTS, LEAST_CONTRAST, LEAST_OF_LARGE), [], (scheme, theme, board))
-        window.script(DRESSES, "auto", "meadow")
-        window.browser.prefer_scheme(None)
+def check_fits(window: Window, what: object = None) -> None:
+    """Nothing needs more than the narrow window that it is in."""
+    assert window.script("return document.documentElement.scrollWidth") <= NARROW[0], what
 
-    def check_narrow(self, window):
-        window.resize(NARROW)
-        self.assertLessEqual(window.script("return document.documentElement.scrollWidth"), NARROW[0])
-        window.resize(WIDE)
 
-    def check_all(self, window):
-        self.check_names(window)
-        self.check_contrasts(window)
-        self.check_narrow(window)
-        self.check_tabs(window)
+def check_narrow(window: Window) -> None:
+    window.resize(NARROW)
+    check_fits(window)
+    window.resize(WIDE)
+
+
+def check_all(window: Window) -> None:
+    check_names(window)
+    check_contrasts(window)
+    check_narrow(window)
+    check_tabs(window)

@@ -1,12 +1,16 @@
 """Tabs without a browser: WebSockets."""
 
 import asyncio
+from collections.abc import Callable, Iterable
+from typing import Any, NoReturn
 
 import aiohttp
+import pytest
+from ficslink.texts import PROMPTS
 
-from . import places
+from tests.kit.go_between import GoBetween
 
-PROMPTS = ("login: ", "password: ", "fics% ")
+PATIENCE = 60  # seconds
 
 
 class Closed(Exception):
@@ -17,19 +21,28 @@ class Tab:
     """One WebSocket, whose messages are told apart into answers and news. `heard` has all lines of both, in order,
     and `unread` those that `told` hasn't found."""
 
-    def __init__(self, socket):
+    def __init__(self, socket: aiohttp.ClientWebSocketResponse) -> None:
         self.socket = socket
-        self.heard, self.unread = [], []
+        self.heard: list[str] = []
+        self.unread: list[str] = []
 
-    async def message(self):
+    async def message(self) -> str:
         """The next message."""
-        async with asyncio.timeout(places.PATIENCE):
+        async with asyncio.timeout(PATIENCE):
             got = await self.socket.receive()
-        if got.type == aiohttp.WSMsgType.TEXT:
-            return got.data
-        raise Closed(self.socket.close_code, got.extra)
+        if got.type != aiohttp.WSMsgType.TEXT:
+            raise Closed(self.socket.close_code, got.extra)
+        text: str = got.data
+        return text
 
-    async def part(self):
+    async def closed(self) -> tuple[int, str]:
+        """The code and the reason with which it is closed."""
+        with pytest.raises(Closed) as why:
+            await self.message()
+        code, reason = why.value.args
+        return code, reason
+
+    async def part(self) -> list[str]:
         """The messages up to a prompt, and with it."""
         messages = [await self.message()]
         while messages[-1] not in PROMPTS:
@@ -39,70 +52,80 @@ class Tab:
         self.unread += lines
         return messages
 
-    async def send(self, line):
+    async def reads(self) -> NoReturn:
+        """Takes what comes, for ever."""
+        while True:
+            await self.part()
+
+    async def send(self, line: str) -> None:
         await self.socket.send_str(line)
 
-    async def answer(self):
+    async def answer(self) -> list[str]:
         """The next part that isn't news."""
         while (part := await self.part())[0] == "":
             pass
         return part
 
-    async def ask(self, line):
+    async def ask(self, line: str) -> list[str]:
         """Sends a line; its answer without the prompt."""
         await self.send(line)
         return (await self.answer())[:-1]
 
-    async def told(self, fits):
+    async def told(self, fits: Callable[[str], bool]) -> str:
         """The first line that fits and wasn't found before."""
-        while not (found := next((it for it in self.unread if fits(it)), None)):
+        while (found := next((it for it in self.unread if fits(it)), None)) is None:
             await self.part()
         self.unread.remove(found)
         return found
 
-    async def enter(self, name):
+    async def enter(self, name: str) -> None:
         """Goes in under a name."""
         await self.answer()
         answer = await self.ask(name)
-        if answer[0] != f"Entered as {name}.":
-            raise AssertionError(answer)
+        assert answer[0] == f"Entered as {name}."
 
-    async def close(self):
+    async def close(self) -> None:
         await self.socket.close()
 
-    def cut(self):
+    def cut(self) -> None:
         """Cuts the link without a word, as a machine does that is switched off."""
-        transport = self.transport
-        if transport:
-            transport.abort()
+        if self.transport:
+            self.transport.abort()
         self.socket._response.close()
 
     @property
-    def transport(self):
+    def transport(self) -> asyncio.Transport | None:
         connection = self.socket._response.connection
-        return connection and connection.transport
+        return connection.transport if connection else None  # type: ignore[return-value]  # aiohttp says less of it
 
 
 class Tabs:
     """Tabs of one go-between, all closed at the end."""
 
-    def __init__(self, go_between):
+    def __init__(self, go_between: GoBetween) -> None:
         self.go_between = go_between
-        self.opened = []  # a socket that nobody holds is closed
+        self.opened: list[Tab] = []  # a socket that nobody holds is closed
         self.session = aiohttp.ClientSession(connector=aiohttp.TCPConnector(limit=0))
 
-    async def open(self, **words):
+    async def open(self, **words: Any) -> Tab:
         address = self.go_between.address("/link")
         self.opened.append(Tab(await self.session.ws_connect(address, max_msg_size=0, **words)))
         return self.opened[-1]
 
-    async def open_all(self, names):
+    async def refused(self, **words: Any) -> int:
+        """The status with which a tab isn't let in."""
+        with pytest.raises(aiohttp.WSServerHandshakeError) as why:
+            await self.open(**words)
+        return why.value.status
+
+    async def open_all(self, names: Iterable[str]) -> list[Tab]:
         """Tabs that are in, under these names."""
+        names = list(names)
         tabs = await asyncio.gather(*(self.open() for _ in names))
         await asyncio.gather(*(tab.enter(name) for tab, name in zip(tabs, names)))
         return tabs
 
-    async def close(self):
+    async def close(self) -> None:
         for tab in self.opened:
             tab.cut()
         await self.session.close()

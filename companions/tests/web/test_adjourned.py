@@ -1,49 +1,76 @@
 """A game is adjourned, the server is ended and started on its store, and the game goes on."""
 
-import os
-import tempfile
+import contextlib
+from collections.abc import Iterator
+from pathlib import Path
+
+import pytest
+
+from tests.kit.go_between import GoBetween
+from tests.kit.running import Server
 
 from .browser import Evening
+
+pytestmark = pytest.mark.browser
 
 PASSWORDS = {"Ann": "swordfish", "Ben": "knight"}
 
 
-class Adjourned(Evening):
-    def setUp(self):
-        folder = tempfile.TemporaryDirectory()
-        self.addCleanup(folder.cleanup)
-        self.store = os.path.join(folder.name, "club.db")
-        super().setUp()
+@pytest.fixture
+def store(tmp_path: Path) -> Path:
+    return tmp_path / "club.db"
 
-    def test_another_day(self):
-        windows = [self.window(it) for it in PASSWORDS]
-        for it in windows:
-            it.open("settings", "#settings-open")
-            it.write("register-password", PASSWORDS[it.name])
-            it.click("#register")
-            it.until(lambda it=it: it.script("return document.getElementById('register-password').value") == "", "sent")
-            it.shut("settings")
-        ann, ben = windows
-        self.begin(ann, ben)
-        self.play(ann, ben, ("e2e4", "e7e5"))
-        ann.click("#adjourn")
-        ben.click('#offers [data-command="adjourn"]')
-        for it in windows:
-            it.sees("adjourned", "#status")
-            it.sees("Ann – Ben", "#stored")
-            it.view("lobby")
-            self.assertTrue(it.is_seen('#stored [data-command^="resume "]'))
-        self.server.end()
-        for it in windows:
-            it.until(lambda it=it: it.is_seen("#login"), "the login")
-        self.assertEqual(self.go_between.rest(), ("closed\n", 0))
-        self.start()
-        self.close_all()
-        ann, ben = (self.window(name, password) for name, password in PASSWORDS.items())
-        ann.click('#stored [data-command="resume Ben"]')
-        ben.click('#calls [data-command="resume Ann"]')
-        for it in (ann, ben):
-            it.sees_man("wP", "e4")
-            it.sees_man("bP", "e5")
-        ann.move("g1", "f3")
-        ben.sees_man("wN", "f3")
+
+@pytest.fixture
+def server(store: Path) -> Iterator[Server]:
+    it = Server(store)
+    yield it
+    it.end()
+
+
+def test_another_day(evening: Evening, store: Path) -> None:
+    windows = [evening.window(it) for it in PASSWORDS]
+    for it in windows:
+        it.open("settings", "#settings-open")
+        it.write("register-password", PASSWORDS[it.name])
+        it.click("#register")
+        it.until(lambda: it.script("return document.getElementById('register-password').value") == "", "sent")
+        it.shut("settings")
+    ann, ben = windows
+    evening.begin(ann, ben)
+    evening.play(ann, ben, ("e2e4", "e7e5"))
+    ann.click("#adjourn")
+    ben.click('#offers [data-command="adjourn"]')
+    for it in windows:
+        it.sees("adjourned", "#status")
+        it.sees("Ann – Ben", "#stored")
+        it.view("lobby")
+        assert it.is_seen('#stored [data-command^="resume "]')
+    evening.server.end()
+    for it in windows:
+        it.until(lambda: it.is_seen("#login"), "the login")
+    assert (evening.go_between.rest(), evening.go_between.out) == (0, ["ready", "closed"])
+    evening.end()
+    goes_on(evening, store)
+
+
+def goes_on(before: Evening, store: Path) -> None:
+    with contextlib.ExitStack() as stack:
+        server = Server(store)
+        stack.callback(server.end)
+        go_between = GoBetween(server.port)
+        stack.callback(go_between.end)
+        evening = Evening(before.browser, server, go_between)
+        stack.callback(evening.end)
+        resume(evening)
+
+
+def resume(evening: Evening) -> None:
+    ann, ben = (evening.window(name, password) for name, password in PASSWORDS.items())
+    ann.click('#stored [data-command="resume Ben"]')
+    ben.click('#calls [data-command="resume Ann"]')
+    for it in (ann, ben):
+        it.sees_man("wP", "e4")
+        it.sees_man("bP", "e5")
+    ann.move("g1", "f3")
+    ben.sees_man("wN", "f3")

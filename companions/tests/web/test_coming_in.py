@@ -2,44 +2,47 @@
 lost: where the page's files come slowly, or the texts of another language."""
 
 import shutil
-import tempfile
 from pathlib import Path
 
-from . import places
+import pytest
+
+from tests.kit import paths
+
 from .browser import Evening
+
+pytestmark = pytest.mark.browser
 
 SLOWLY = "await new Promise((keep) => { setTimeout(keep, 3000); });\n"
 SPEAKS_GERMAN = 'localStorage.setItem("language", "de");\n'
 WHERE = "return location.href"
 
 
-class ComingIn(Evening):
+@pytest.fixture
+def page(tmp_path: Path) -> Path:
     """A page of which one file comes late."""
+    folder: Path = shutil.copytree(paths.PAGE, tmp_path / "page")
+    return folder
 
-    def start(self):
-        folder = tempfile.TemporaryDirectory()
-        self.addCleanup(folder.cleanup)
-        self.page = Path(folder.name, "page")
-        shutil.copytree(places.PAGE, self.page)
-        self.server = places.Server()
-        self.go_between = places.GoBetween(self.server.port, self.page)
 
-    def write(self, name, change):
-        path = self.page / name
-        path.write_text(change(path.read_text()))
+def change(page: Path, name: str, before: str, after: str) -> None:
+    """Changes the beginning of a file, wherever in the page it lies."""
+    (file,) = page.rglob(name)
+    file.write_text(file.read_text().replace(before, after, 1))
 
-    def test_who_enters_before_the_page_has_begun(self):
-        self.write("lines.js", lambda text: SLOWLY + text)
-        ann = self.window("Ann", enters=False, path="/icon.svg")
-        ann.script("setTimeout(() => location.assign(arguments[0]), 0)", self.go_between.address())
-        ann.enter()
-        self.assertEqual(ann.script(WHERE), self.go_between.address())
 
-    def test_who_enters_before_its_language_is_there(self):
-        self.write("texts/de.js", lambda text: SLOWLY + text)
-        self.page.joinpath("speaks.js").write_text(SPEAKS_GERMAN)
-        self.write("index.html", lambda text: text.replace("<script", '<script src="speaks.js"></script>\n<script', 1))
-        ann = self.window("Ann")
-        self.assertEqual(ann.text("#lobby-title"), "Halle")
-        self.assertEqual(ann.text('#ways [data-view="board"]').strip(), "Brett")
-        self.assertEqual(ann.script(WHERE), self.go_between.address())
+def test_who_enters_before_the_page_has_begun(evening: Evening, page: Path) -> None:
+    change(page, "lines.js", "", SLOWLY)
+    ann = evening.window("Ann", enters=False, path="/icon.svg")
+    ann.script("setTimeout(() => location.assign(arguments[0]), 0)", evening.go_between.address())
+    ann.enter()
+    assert ann.script(WHERE) == evening.go_between.address()
+
+
+def test_who_enters_before_its_language_is_there(evening: Evening, page: Path) -> None:
+    change(page, "de.js", "", SLOWLY)
+    page.joinpath("speaks.js").write_text(SPEAKS_GERMAN)
+    change(page, "index.html", "<script", '<script src="speaks.js"></script>\n<script')
+    ann = evening.window("Ann")
+    assert ann.text("#lobby-title") == "Halle"
+    assert ann.text('#ways [data-view="board"]').strip() == "Brett"
+    assert ann.script(WHERE) == evening.go_between.address()

@@ -3,9 +3,12 @@ page asks for the two of the member's own behind what may change them."""
 
 import time
 
+import pytest
+
 from .browser import Evening
-from .plain import Plain
 from .test_small_boards import NOTES_LINES
+
+pytestmark = pytest.mark.browser
 
 REST_SECONDS = 9  # more than twice what a page waits that asks again and again
 SENT = "return window.sent.map((it) => it.replace('\\u0001', ''))"
@@ -13,37 +16,35 @@ FILES = "return performance.getEntriesByType('resource').map((it) => new URL(it.
 SHARED, OWN = {"who", "sought", "games"}, {"pending", "stored"}
 
 
-class ListsTold(Evening):
-    def test_what_a_page_at_rest_sends(self):
-        cat = self.window("Cat", enters=False, path="/?plain")
-        cat.script(NOTES_LINES)
-        cat.enter()
-        cat.sees("Cat (you)", "#players .who")
-        dan = Plain(self.server.port, "Dan")
-        self.addCleanup(dan.close)
-        dan.ask("seek 3 0")
-        cat.sees("3+0", "#seeks .time")
-        cat.sees("Dan", "#players .who")
-        time.sleep(REST_SECONDS)
-        lines = cat.script(SENT)
-        self.assertEqual([it for it in lines if it in SHARED], [])
-        self.assertEqual({it: lines.count(it) for it in OWN}, dict.fromkeys(OWN, 1))
-        self.assertEqual([it for it in lines if "lists" in it], ['{"lists":true}'])
-        cat.view("board")
-        cat.until(lambda: cat.script(SENT)[-1] == '{"lists":false}', "the lists out of sight")
-        dan.ask("match Cat 5 0")
-        cat.sees("Dan challenges you", "#calls")
+def test_what_a_page_at_rest_sends(evening: Evening) -> None:
+    cat = evening.window("Cat", enters=False, path="/?plain")
+    cat.script(NOTES_LINES)
+    cat.enter()
+    cat.sees("Cat (you)", "#players .who")
+    dan = evening.plain("Dan")
+    dan.ask("seek 3 0")
+    cat.sees("3+0", "#seeks .time")
+    cat.sees("Dan", "#players .who")
+    time.sleep(REST_SECONDS)  # of a page at rest
+    lines = cat.script(SENT)
+    assert [it for it in lines if it in SHARED] == []
+    assert {it: lines.count(it) for it in OWN} == dict.fromkeys(OWN, 1)
+    assert [it for it in lines if "lists" in it] == ['{"lists":true}']
+    cat.view("board")
+    cat.until(lambda: cat.script(SENT)[-1] == '{"lists":false}', "the lists out of sight")
+    dan.ask("match Cat 5 0")
+    cat.sees("Dan challenges you", "#calls")
 
-    def test_rows_that_change_ask_for_no_file(self):
-        cat = self.window("Cat")
-        cat.sees("Cat (you)", "#players .who")
-        asked = cat.script(FILES)
-        self.assertIn("/icons.svg", asked)
-        for name in ("Dan", "Eve", "Fay"):
-            link = Plain(self.server.port, name)
-            self.addCleanup(link.close)
-            cat.sees(name, "#players .who")
-            link.ask("seek 3 0")
-            cat.until(lambda: cat.is_seen(f'#players [data-challenge="{name}"] use[href^="#"]'), "a drawing")
-        cat.until(lambda: cat.texts("#players .does").count("seeks 3+0") == 3, "what they do")
-        self.assertEqual(cat.script(FILES), asked)
+
+def test_rows_that_change_ask_for_no_file(evening: Evening) -> None:
+    cat = evening.window("Cat")
+    cat.sees("Cat (you)", "#players .who")
+    asked = cat.script(FILES)
+    assert "/icons.svg" in asked
+    for name in ("Dan", "Eve", "Fay"):
+        link = evening.plain(name)
+        cat.sees(name, "#players .who")
+        link.ask("seek 3 0")
+        cat.until(lambda: cat.is_seen(f'#players [data-challenge="{name}"] use[href^="#"]'), "a drawing")
+    cat.until(lambda: cat.texts("#players .does").count("seeks 3+0") == 3, "what they do")
+    assert cat.script(FILES) == asked

@@ -2,11 +2,19 @@
 
 import asyncio
 import json
+from collections.abc import AsyncIterator, Coroutine, Iterable
+from contextlib import asynccontextmanager
 
-from . import places
-from .evenings import Evening, name
-from .test_seats import MARK
-from .tabs import Tab
+import pytest
+
+from tests.kit.go_between import GoBetween
+from tests.kit.running import Server, async_wait_until
+
+from .evenings import name
+from .played import MARK
+from .tabs import Tab, Tabs
+
+pytestmark = [pytest.mark.slow, pytest.mark.usefixtures("goes_first")]
 
 TABS = 250
 SECONDS = 12
@@ -18,66 +26,77 @@ AT_MOST = 1 / 4  # of the processor time that the go-between takes where each ta
 class SeatedTab(Tab):
     """A tab with a seat, whose lists are put aside as they come."""
 
-    def __init__(self, tab):
+    def __init__(self, tab: Tab) -> None:
         super().__init__(tab.socket)
-        self.lists = {}
+        self.lists: dict[str, list[str]] = {}
 
-    async def message(self):
+    async def message(self) -> str:
         while (text := await super().message()).startswith(MARK):
             self.lists.update(json.loads(text[1:]))
         return text
 
+    async def wants_lists(self, wants: bool) -> None:
+        await self.send(MARK + json.dumps({"lists": wants}))
 
-class LobbyCost(Evening):
-    def setUp(self):
-        places.come_first(self)
-
-    async def seated(self, names):
-        """Tabs with seats that are in, under these names."""
-        tabs = [SeatedTab(it) for it in await asyncio.gather(*(self.tabs.open(protocols=("seat",)) for _ in names))]
-        for it in tabs:
-            await it.send(MARK + '{"seat": null}')
-        await asyncio.gather(*(tab.enter(name) for tab, name in zip(tabs, names)))
-        return tabs
-
-    async def cost(self, what):
-        """The processor time that the go-between takes, in seconds a second."""
-        before = [it.seconds() for it in (self.go_between, self.server)]
-        await asyncio.sleep(SECONDS)
-        shares = [(it.seconds() - b) / SECONDS for it, b in zip((self.go_between, self.server), before)]
-        print(f"\n{TABS} tabs in the lobby, {what}: {100 * shares[0]:.1f} % of a processor in the go-between, "
-              f"{100 * shares[1]:.1f} % in the server", flush=True)
-        return shares[0]
-
-    async def asks(self, tab, n):
+    async def asks(self, n: int) -> None:
+        """Asks for its lists for ever, as the n-th tab."""
         await asyncio.sleep(EVERY_SECONDS * n / TABS)
         while True:
             for line in LISTS:
-                await tab.ask(line)
+                await self.ask(line)
             await asyncio.sleep(EVERY_SECONDS)
 
-    async def reads(self, tab):
-        while True:
-            await tab.part()
 
-    async def test_told_and_asked(self):
-        names = [name("Tab", n) for n in range(TABS)]
-        tabs = await self.seated(names)
-        reading = [asyncio.create_task(self.reads(it)) for it in tabs]
-        for it in tabs:
-            await it.send(MARK + '{"lists": true}')
-        await asyncio.sleep(2 * EVERY_SECONDS)
-        told = await self.cost("their lists told")
-        self.assertTrue(all(sorted(it.lists["who"]) == sorted(names) and it.lists["games"] == [] for it in tabs))
-        for it in tabs:
-            await it.send(MARK + '{"lists": false}')
-        for it in reading:
+async def seated(tabs: Tabs, names: list[str]) -> list[SeatedTab]:
+    """Tabs with seats that are in, under these names."""
+    opened = [SeatedTab(it) for it in await asyncio.gather(*(tabs.open(protocols=("seat",)) for _ in names))]
+    for it in opened:
+        await it.send(MARK + '{"seat": null}')
+    await asyncio.gather(*(tab.enter(name) for tab, name in zip(opened, names)))
+    return opened
+
+
+@asynccontextmanager
+async def meanwhile(work: Iterable[Coroutine[None, None, None]]) -> AsyncIterator[None]:
+    """Work that goes on for so long."""
+    tasks = [asyncio.create_task(it) for it in work]
+    try:
+        yield
+    finally:
+        for it in tasks:
             it.cancel()
-        await asyncio.gather(*reading, return_exceptions=True)
-        asking = [asyncio.create_task(self.asks(it, n)) for n, it in enumerate(tabs)]
-        await asyncio.sleep(EVERY_SECONDS)
-        asked = await self.cost("their lists asked for")
-        for it in asking:
-            it.cancel()
-        await asyncio.gather(*asking, return_exceptions=True)
-        self.assertLess(told, AT_MOST * asked)
+        await asyncio.gather(*tasks, return_exceptions=True)
+
+
+async def cost(go_between: GoBetween, server: Server, what: str) -> float:
+    """The processor time that the go-between takes, in seconds a second."""
+    before = [it.seconds() for it in (go_between, server)]
+    await asyncio.sleep(SECONDS)
+    shares = [(it.seconds() - b) / SECONDS for it, b in zip((go_between, server), before)]
+    print(
+        f"\n{TABS} tabs in the lobby, {what}: {100 * shares[0]:.1f} % of a processor in the go-between, "
+        f"{100 * shares[1]:.1f} % in the server",
+        flush=True,
+    )
+    return shares[0]
+
+
+async def test_told_and_asked(server: Server, go_between: GoBetween, tabs: Tabs) -> None:
+    names = [name("Tab", n) for n in range(TABS)]
+    opened = await seated(tabs, names)
+
+    def know_all() -> bool:
+        return all(sorted(it.lists.get("who", [])) == sorted(names) and it.lists.get("games") == [] for it in opened)
+
+    async with meanwhile(it.reads() for it in opened):
+        for it in opened:
+            await it.wants_lists(True)
+        assert await async_wait_until(know_all)
+        told = await cost(go_between, server, "their lists told")
+        assert know_all()
+        for it in opened:
+            await it.wants_lists(False)
+    async with meanwhile(it.asks(n) for n, it in enumerate(opened)):
+        await asyncio.sleep(EVERY_SECONDS)  # until each has begun
+        asked = await cost(go_between, server, "their lists asked for")
+    assert told < AT_MOST * asked

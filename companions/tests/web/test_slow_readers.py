@@ -3,10 +3,11 @@ socket never waits, so that telling one tab its lists can't keep others from the
 
 import asyncio
 import socket
-import unittest
 
 from ficsd_companions.web.gate import Gate
 from ficsd_companions.web.link import MOST_UNSENT
+
+from tests.kit.running import async_wait_until
 
 MUCH, PIECE = 2**20, 2048
 
@@ -14,11 +15,13 @@ MUCH, PIECE = 2**20, 2048
 class Porter:
     """Lets everybody in and out."""
 
-    def lets_in(self, _gate):
+    def lets_in(self, gate: Gate) -> bool:
         return True
 
-    def lets_out(self, _gate):
+    def lets_out(self, gate: Gate) -> None:
         pass
+
+    has_tab = lets_out
 
 
 class Writer(asyncio.Protocol):
@@ -26,34 +29,32 @@ class Writer(asyncio.Protocol):
 
     waits = False
 
-    def pause_writing(self):
+    def pause_writing(self) -> None:
         self.waits = True
 
-    def resume_writing(self):
+    def resume_writing(self) -> None:
         self.waits = False
 
 
-class SlowReaders(unittest.IsolatedAsyncioTestCase):
-    async def test_nobody_waits_with_little_unsent(self):
-        loop = asyncio.get_running_loop()
-        writer = Writer()
-        it = Gate(Porter(), writer)
-        door = await loop.create_server(lambda: it, "127.0.0.1", 0)
-        with socket.socket() as reader:
-            reader.setsockopt(socket.SOL_SOCKET, socket.SO_RCVBUF, PIECE)
-            reader.setblocking(False)
-            await loop.sock_connect(reader, door.sockets[0].getsockname())
-            while not it.is_in:
-                await asyncio.sleep(0.01)
-            it.socket.setsockopt(socket.SOL_SOCKET, socket.SO_SNDBUF, PIECE)
-            it.transport.write(b"x" * MUCH)
-            self.assertTrue(writer.waits)
-            seen = []
-            while writer.waits:
-                seen.append(it.unsent)
-                await loop.sock_recv(reader, PIECE)
-                await asyncio.sleep(0)
-            self.assertGreaterEqual(min(seen), MOST_UNSENT)
-            self.assertGreater(len(seen), 100)
-            it.abort()
-        door.close()
+async def test_nobody_waits_with_little_unsent() -> None:
+    loop = asyncio.get_running_loop()
+    writer = Writer()
+    it = Gate(Porter(), writer)
+    door = await loop.create_server(lambda: it, "127.0.0.1", 0)
+    with socket.socket() as reader:
+        reader.setsockopt(socket.SOL_SOCKET, socket.SO_RCVBUF, PIECE)
+        reader.setblocking(False)
+        await loop.sock_connect(reader, door.sockets[0].getsockname())
+        assert await async_wait_until(lambda: it.is_in)
+        it.socket.setsockopt(socket.SOL_SOCKET, socket.SO_SNDBUF, PIECE)
+        it.transport.write(b"x" * MUCH)
+        assert writer.waits
+        seen: list[int] = []
+        while writer.waits:
+            seen.append(it.unsent)
+            await loop.sock_recv(reader, PIECE)
+            await asyncio.sleep(0)  # a turn of the loop
+        assert min(seen) >= MOST_UNSENT
+        assert len(seen) > 100
+        it.abort()
+    door.close()

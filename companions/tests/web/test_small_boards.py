@@ -1,8 +1,12 @@
 """The lobby's small boards move while they are seen; the page looks on at few games for them, and at none otherwise,
 as the lines tell that it sends."""
 
-from .browser import Evening
+import pytest
+
+from .browser import Evening, Window
 from .plain import Plain
+
+pytestmark = pytest.mark.browser
 
 MOST = 6  # games at which a page looks on for small boards
 CARD = "#games li:not(.none)"
@@ -16,86 +20,83 @@ WebSocket.prototype.send = function (line) { window.sent.push(line); send.call(t
 LOOKING = "return window.sent.filter((it) => /^(un)?observe /.test(it))"
 
 
-class SmallBoards(Evening):
-    def setUp(self):
-        super().setUp()
-        self.plain = []
-        self.addCleanup(lambda: [it.close() for it in self.plain])
+def pair(evening: Evening, white: str, black: str) -> tuple[Plain, Plain]:
+    """A game of two without a page."""
+    links = evening.plain(white), evening.plain(black)
+    links[0].ask(f"match {black} 5 0 white")
+    links[1].ask(f"accept {white}")
+    return links
 
-    def pair(self, white, black):
-        """A game of two without a page."""
-        links = [Plain(self.server.port, it) for it in (white, black)]
-        self.plain += links
-        links[0].ask(f"match {black} 5 0 white")
-        links[1].ask(f"accept {white}")
-        return links
 
-    def looker(self):
-        """A window whose lines are noted, as they are without stamps."""
-        cat = self.window("Cat", enters=False, path="/?plain")
-        cat.script(NOTES_LINES)
-        cat.enter()
-        return cat
+def looker(evening: Evening) -> Window:
+    """A window whose lines are noted, as they are without stamps."""
+    cat = evening.window("Cat", enters=False, path="/?plain")
+    cat.script(NOTES_LINES)
+    cat.enter()
+    return cat
 
-    def test_they_move_while_they_are_seen(self):
-        ann, ben = self.pair("Ann", "Ben")
-        cat = self.looker()
-        cat.until(lambda: cat.script(LETTER, 1, "e2") == "P", "the small board")
-        ann.ask("e4")
-        cat.until(lambda: cat.script(LETTER, 1, "e4") == "P" and cat.script(LETTER, 1, "e2") == "-", "the move")
-        ann.ask("kibitz not for Cat")
-        ann.ask("draw")
-        self.assertEqual(cat.script(LOOKING), ["observe 1"])
-        cat.view("board")
-        cat.until(lambda: cat.script(LOOKING) == ["observe 1", "unobserve 1"], "it looks on no longer")
-        ben.ask("e5")
-        cat.view("lobby")
-        cat.until(lambda: cat.script(LETTER, 1, "e5") == "p", "the move that came meanwhile")
-        ann.ask("resign")
-        cat.until(lambda: not cat.all(CARD), "no game any more")
-        self.assertEqual(cat.texts('#said [data-said="game"]'), [])
-        self.assertFalse(cat.is_seen("#board"))
-        self.assertEqual(cat.complaints(), [])
 
-    def test_who_looks_on_at_one_hears_and_says_what_is_said_there(self):
-        ann, _ = self.pair("Ann", "Ben")
-        dan, _ = self.pair("Dan", "Eve")
-        cat = self.looker()
-        cat.until(lambda: len(cat.all(KNOWN)) == 2, "both small boards")
-        cat.click('#games [data-command="observe 3"]')
-        cat.until(lambda: cat.is_seen("#board") and "Dan – Eve" in cat.text("#status"), "the board")
-        self.assertEqual(cat.script(LOOKING),
-                         ["observe 1", "observe 3", "unobserve 1", "unobserve 3", "observe 3"])
-        cat.say("quite new", "game")
-        cat.sees("Cat: quite new", '#said [data-said="game"]')
-        self.assertIn("Cat kibitzes: quite new", dan.ask(""))
-        self.assertNotIn("kibitzes: quite new", ann.ask(""))
-        cat.view("lobby")
-        ann.ask("e4")
-        cat.click('#games [data-show="3"]')
-        cat.until(lambda: cat.is_seen("#board"), "the board again")
-        self.assertEqual(len(cat.script(LOOKING)), 5)
+def test_they_move_while_they_are_seen(evening: Evening) -> None:
+    ann, ben = pair(evening, "Ann", "Ben")
+    cat = looker(evening)
+    cat.until(lambda: cat.script(LETTER, 1, "e2") == "P", "the small board")
+    ann.ask("e4")
+    cat.until(lambda: cat.script(LETTER, 1, "e4") == "P" and cat.script(LETTER, 1, "e2") == "-", "the move")
+    ann.ask("kibitz not for Cat")
+    ann.ask("draw")
+    assert cat.script(LOOKING) == ["observe 1"]
+    cat.view("board")
+    cat.until(lambda: cat.script(LOOKING) == ["observe 1", "unobserve 1"], "it looks on no longer")
+    ben.ask("e5")
+    cat.view("lobby")
+    cat.until(lambda: cat.script(LETTER, 1, "e5") == "p", "the move that came meanwhile")
+    ann.ask("resign")
+    cat.until(lambda: not cat.all(CARD), "no game any more")
+    assert cat.texts('#said [data-said="game"]') == []
+    assert not cat.is_seen("#board")
+    assert cat.complaints() == []
 
-    def test_few_at_a_time(self):
-        names = "abcdefgh"
-        for it in names:
-            self.pair(f"White{it}", f"Black{it}")
-        cat = self.window("Cat", enters=False, path="/?plain")
-        cat.resize((1920, 1080))
-        cat.script(NOTES_LINES)
-        cat.enter()
-        cat.until(lambda: len(cat.all(CARD)) == len(names), "a card for each game")
-        cat.until(lambda: len(cat.all(KNOWN)) == MOST, "boards that are known")
-        lines = cat.script(LOOKING)
-        self.assertEqual(len(lines) - 2 * sum(it.startswith("un") for it in lines), MOST)
 
-    def test_what_an_earlier_page_looked_on_at_is_left(self):
-        ann, _ = self.pair("Ann", "Ben")
-        cat = self.window("Cat")
-        cat.until(lambda: cat.script(LETTER, 1, "e2") == "P", "the small board")
-        cat.front()
-        cat.driver.refresh()
-        cat.until(lambda: cat.text("#me") == "Cat" and cat.script(LETTER, 1, "e2") == "P", "the page again")
-        ann.ask("e4")
-        cat.until(lambda: cat.script(LETTER, 1, "e4") == "P", "the move")
-        self.assertFalse(cat.is_seen("#board"))
+def test_who_looks_on_at_one_hears_and_says_what_is_said_there(evening: Evening) -> None:
+    ann, _ = pair(evening, "Ann", "Ben")
+    dan, _ = pair(evening, "Dan", "Eve")
+    cat = looker(evening)
+    cat.until(lambda: len(cat.all(KNOWN)) == 2, "both small boards")
+    cat.click('#games [data-command="observe 3"]')
+    cat.until(lambda: cat.is_seen("#board") and "Dan – Eve" in cat.text("#status"), "the board")
+    assert cat.script(LOOKING) == ["observe 1", "observe 3", "unobserve 1", "unobserve 3", "observe 3"]
+    cat.say("quite new", "game")
+    cat.sees("Cat: quite new", '#said [data-said="game"]')
+    assert "Cat kibitzes: quite new" in dan.ask("")
+    assert "kibitzes: quite new" not in ann.ask("")
+    cat.view("lobby")
+    ann.ask("e4")
+    cat.click('#games [data-show="3"]')
+    cat.until(lambda: cat.is_seen("#board"), "the board again")
+    assert len(cat.script(LOOKING)) == 5
+
+
+def test_few_at_a_time(evening: Evening) -> None:
+    names = "abcdefgh"
+    for it in names:
+        pair(evening, f"White{it}", f"Black{it}")
+    cat = evening.window("Cat", enters=False, path="/?plain")
+    cat.resize((1920, 1080))
+    cat.script(NOTES_LINES)
+    cat.enter()
+    cat.until(lambda: len(cat.all(CARD)) == len(names), "a card for each game")
+    cat.until(lambda: len(cat.all(KNOWN)) == MOST, "boards that are known")
+    lines = cat.script(LOOKING)
+    assert len(lines) - 2 * sum(it.startswith("un") for it in lines) == MOST
+
+
+def test_what_an_earlier_page_looked_on_at_is_left(evening: Evening) -> None:
+    ann, _ = pair(evening, "Ann", "Ben")
+    cat = evening.window("Cat")
+    cat.until(lambda: cat.script(LETTER, 1, "e2") == "P", "the small board")
+    cat.front()
+    cat.driver.refresh()
+    cat.until(lambda: cat.text("#me") == "Cat" and cat.script(LETTER, 1, "e2") == "P", "the page again")
+    ann.ask("e4")
+    cat.until(lambda: cat.script(LETTER, 1, "e4") == "P", "the move")
+    assert not cat.is_seen("#board")

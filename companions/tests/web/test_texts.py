@@ -3,62 +3,71 @@
 import json
 import re
 import subprocess
-import tempfile
-import unittest
-from pathlib import Path
 
-from . import places
+import pytest
 
-TABLES = "const tables = {}; for (const code of process.argv.slice(1)) { " \
+from tests.kit import paths
+
+TABLES = (
+    "const tables = {}; for (const code of process.argv.slice(1)) { "
     "tables[code] = (await import(`${process.cwd()}/${code}.mjs`)).TEXTS; } console.log(JSON.stringify(tables));"
-NAMED = (r'\bt\(\s*"([^"]+)"', r'data-t(?:-label|-placeholder|-title)?="([^"]+)"', r'"((?:[a-z-]+\.)[a-z-]+)" : "',
-         r': "((?:[a-z-]+\.)[a-z-]+)"\)')
+)
+NAMED = (
+    r'\bt\(\s*"([^"]+)"',
+    r'data-t(?:-label|-placeholder|-title)?="([^"]+)"',
+    r'"((?:[a-z-]+\.)[a-z-]+)" : "',
+    r': "((?:[a-z-]+\.)[a-z-]+)"\)',
+)
+LANGUAGE = re.compile("[a-z]{2}")
 BUILT = r"\bt\(\s*`([^`$]+)\$\{"  # the beginning of a key that ends in something else
 
 
-def tables():
+Tables = dict[str, dict[str, str]]
+
+
+@pytest.fixture(scope="module")
+def tables(tmp_path_factory: pytest.TempPathFactory) -> Tables:
     """Of each language's code its texts, as the page's modules have them."""
-    with tempfile.TemporaryDirectory() as folder:
-        files = sorted(Path(places.PAGE, "texts").glob("*.js"))
-        for it in files:
-            Path(folder, f"{it.stem}.mjs").write_text(it.read_text())
-        words = ["node", "--input-type=module", "-e", TABLES, *(it.stem for it in files)]
-        return json.loads(subprocess.run(words, cwd=folder, check=True, capture_output=True, text=True).stdout)
+    folder = tmp_path_factory.mktemp("texts")
+    files = [it for it in (paths.PAGE / "texts").glob("*.js") if LANGUAGE.fullmatch(it.stem)]
+    for it in files:
+        (folder / f"{it.stem}.mjs").write_text(it.read_text())
+    words = ["node", "--input-type=module", "-e", TABLES, *(it.stem for it in files)]
+    told = subprocess.run(words, cwd=folder, check=True, capture_output=True, text=True).stdout
+    found: Tables = json.loads(told)
+    return found
 
 
-def sources():
+def sources() -> list[str]:
     """The page's modules, and its files of HTML."""
-    modules = (it for it in Path(places.PAGE).rglob("*.js") if it.parent.name != "texts")
-    return [it.read_text() for it in [*modules, *Path(places.PAGE).glob("*.html")]]
+    modules = (it for it in paths.PAGE.rglob("*.js") if it.parent.name != "texts" or not LANGUAGE.fullmatch(it.stem))
+    return [it.read_text() for it in [*modules, *paths.PAGE.glob("*.html")]]
 
 
-class Texts(unittest.TestCase):
-    @classmethod
-    def setUpClass(cls):
-        cls.tables = tables()
+def test_all_languages_have_the_same_texts(tables: Tables) -> None:
+    assert "de" in tables
+    english = tables["en"]
+    for code, texts in tables.items():
+        assert sorted(texts) == sorted(english), code
+        for key, text in texts.items():
+            assert text.strip(), (code, key)
+            here, there = (set(re.findall(r"\{\w+\}", it)) for it in (text, english[key]))
+            assert here == there, (code, key)
 
-    def test_all_languages_have_the_same_texts(self):
-        self.assertIn("de", self.tables)
-        english = self.tables["en"]
-        for code, texts in self.tables.items():
-            self.assertEqual(sorted(texts), sorted(english), code)
-            for key, text in texts.items():
-                self.assertTrue(text.strip(), (code, key))
-                places_of = [set(re.findall(r"\{\w+\}", it)) for it in (text, english[key])]
-                self.assertEqual(*places_of, (code, key))
 
-    def test_each_refusal_has_its_text(self):
-        documented = Path(places.TOP, "docs", "CLIENTS.md").read_text().partition("\n## Refusals\n")[2]
-        numbers = re.findall(r"^\| (\d+) \| \w+ \|", documented, re.M)
-        self.assertGreater(len(numbers), 50)
-        self.assertEqual(sorted(f"refusal.{it}" for it in numbers),
-                         sorted(it for it in self.tables["en"] if it.startswith("refusal.")))
+def test_each_refusal_has_its_text(tables: Tables) -> None:
+    documented = (paths.TOP / "docs" / "CLIENTS.md").read_text().partition("\n## Refusals\n")[2]
+    numbers = re.findall(r"^\| (\d+) \| \w+ \|", documented, re.M)
+    assert len(numbers) > 50
+    texts = sorted(it for it in tables["en"] if it.startswith("refusal."))
+    assert texts == sorted(f"refusal.{it}" for it in numbers)
 
-    def test_each_text_that_the_page_names_is_there(self):
-        english = self.tables["en"]
-        for source in sources():
-            for form in NAMED:
-                for key in re.findall(form, source):
-                    self.assertIn(key, english)
-            for beginning in re.findall(BUILT, source):
-                self.assertTrue(any(key.startswith(beginning) for key in english), beginning)
+
+def test_each_text_that_the_page_names_is_there(tables: Tables) -> None:
+    english = tables["en"]
+    for source in sources():
+        for form in NAMED:
+            for key in re.findall(form, source):
+                assert key in english
+        for beginning in re.findall(BUILT, source):
+            assert any(key.startswith(beginning) for key in english), beginning

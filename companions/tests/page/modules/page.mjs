@@ -6,7 +6,7 @@ import { tmpdir } from "node:os";
 import { dirname, join } from "node:path";
 import { fileURLToPath } from "node:url";
 
-const PAGE = join(dirname(fileURLToPath(import.meta.url)), "..", "web");
+const PAGE = join(dirname(fileURLToPath(import.meta.url)), "..", "..", "..", "page");
 const folder = mkdtempSync(join(tmpdir(), "web_modules."));
 
 cpSync(PAGE, folder, { recursive: true });

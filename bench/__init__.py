@@ -1,0 +1,1 @@
+"""Timings: what programs take of a machine. `tools/bench NAME` runs one."""

@@ -1,0 +1,1 @@
+"""The hall, by threads."""

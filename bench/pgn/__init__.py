@@ -1,0 +1,1 @@
+"""`ficsd tidy`, beside pgn-extract."""

@@ -1,0 +1,1 @@
+"""`ficsd serve`, beside an echo server."""

@@ -1,0 +1,1 @@
+"""The keepers of `file_keeper` on a real disk."""

@@ -1,0 +1,1 @@
+"""What the server does under hostile use. `tools/trial hostile` runs all, each short; `hostile.NAME` one of them."""
