@@ -5,21 +5,20 @@ import signal
 from collections.abc import Awaitable, Callable
 from functools import partial
 
-from ficslink import LinkError, PasswordWanted, RefusalError
+from ficslink import LinkError, PasswordWanted, Refusal, RefusalError
 from ficslink.events import Began, CameAgain, Ended, Event, LinkLost, Moved, Offered
 from ficslink.game import OWN, Game
 from ficslink.lines import Challenge, ResumeAsked, Tell
 from ficslink.member import Member
-from ficslink.refusals import Refusal
 
-from .hall import Hall
 from .journal import say
 from .lobby import Lobby, Offers
 from .memory import Memory
-from .table import NOT_REGISTERED, Table
+from .options import Chosen
+from .table import Table, cause
 from .talk import About, Answers
 from .thinker import Brain
-from .words import Chosen
+from .visitors import Visitors
 
 LEFT, LOST, NO_NAME = 0, 1, 3  # statuses
 TICK, LOOK = 0.5, 3.0  # seconds between two looks at the clocks, and at the hall
@@ -39,9 +38,9 @@ class Host:
 
     def __init__(self, member: Member, chosen: Chosen, brain: Brain, about: About, memory: Memory) -> None:
         self.member, self.chosen, self.brain, self.memory = member, chosen, brain, memory
-        self.hall = Hall(member, chosen.hall)
-        offers = Offers(chosen.seeks, chosen.challenge, chosen.take)
-        self.lobby = Lobby(member, about.terms, offers, self.hall)
+        self.visitors = Visitors(member, chosen.hall)
+        offers = Offers(chosen.seek, chosen.challenge, chosen.take)
+        self.lobby = Lobby(member, about.terms, offers, self.visitors)
         self.answers = Answers(about)
         self.tables: dict[Game, Table] = {}
         self.errands: asyncio.Queue[Callable[[], Awaitable[None]]] = asyncio.Queue()  # of the lobby, one after another
@@ -190,7 +189,7 @@ class Host:
         """Looks at the hall where that serves for something."""
         if self.member.is_in:
             if self.chosen.hall or self.chosen.challenge or self.lobby.stored != []:
-                await self.hall.look()
+                await self.visitors.look()
             await self.lobby.rest()
             await self.lobby.take_seeks()
 
@@ -239,16 +238,16 @@ class Host:
         """Offers to adjourn a game; whether it is one that can be."""
         try:
             await table.tell("I am leaving, and offer to adjourn.")
-            return await table.send("adjourn") != NOT_REGISTERED
+            return cause(await table.send("adjourn")) is not Refusal.NOT_REGISTERED
         except LinkError:
             return True
 
 
 async def come_in(chosen: Chosen, password: str | None) -> Member:
     """Comes in, and makes an account of the name where there is none and a password was given."""
-    where = f"{chosen.host}:{chosen.port}"
+    where = chosen.server
     try:
-        member = await Member.enter(chosen.host, chosen.port, chosen.name, password, settings=("set shout 0",))
+        member = await Member.enter(*where, chosen.name, password, settings=("set shout 0",))
         if password and not member.is_registered:
             await member.do(f"register {password}")
             say(f"{member.name} has an account now")

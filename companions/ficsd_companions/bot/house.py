@@ -62,8 +62,12 @@ class House:
         async with self.turns:
             try:
                 process = await asyncio.create_subprocess_exec(
-                    *tied([self.program, "bot", str(depth)]), stdin=asyncio.subprocess.PIPE,
-                    stdout=asyncio.subprocess.PIPE, stderr=asyncio.subprocess.DEVNULL, start_new_session=True)
+                    *tied([self.program, "bot", str(depth)]),
+                    stdin=asyncio.subprocess.PIPE,
+                    stdout=asyncio.subprocess.PIPE,
+                    stderr=asyncio.subprocess.DEVNULL,
+                    start_new_session=True,
+                )
             except OSError as fault:
                 raise HouseFault(f"{self.program} can't be run: {fault.strerror}") from fault
             try:

@@ -1,28 +1,17 @@
-"""The log, a line each on the standard error."""
+"""The bot's log."""
 
 import logging
 
-from ficslink.texts import shown
-
-FORM, MOMENT = "%(asctime)s %(message)s", "%H:%M:%S"
+from ficsd_companions.cli import log
 
 _logger = logging.getLogger("fics_bot")
 
 
-class Printable(logging.Formatter):
-    """Tells by its number whatever a terminal would obey."""
-
-    def format(self, record: logging.LogRecord) -> str:
-        return shown(super().format(record))
-
-
 def begin() -> None:
-    """Has the lines of this program and of the library written."""
-    handler = logging.StreamHandler()
-    handler.setFormatter(Printable(FORM, MOMENT))
-    logging.basicConfig(level=logging.INFO, handlers=[handler])
+    """Has it written, each line with the time of day."""
+    log.begin("%(asctime)s %(message)s", "%H:%M:%S")
 
 
 def say(text: str) -> None:
-    """Writes a line, with the time of day."""
+    """Writes a line."""
     _logger.info("%s", text)

@@ -4,16 +4,16 @@ import time
 from collections.abc import Sequence
 from dataclasses import dataclass
 
-from ficslink import RefusalError
+from ficslink import Refusal, RefusalError
 from ficslink import Terms as GameTerms
 from ficslink.lines import Challenge, SeekMade, Sought, Stored
 from ficslink.member import Member
 
-from .hall import Hall
 from .journal import say
 from .terms import Terms, Wanted
+from .visitors import Visitors
 
-GONE_OR_PLAYING = (32, 33)  # refusals of what may be asked later
+GONE_OR_PLAYING = (Refusal.NO_SUCH_PLAYER, Refusal.PLAYING)  # of what may be asked later
 LEAVING = "I am leaving."
 AS_GIVER = "I play several games at a time, and so I have White."
 
@@ -30,8 +30,8 @@ class Offers:
 class Lobby:
     """What is done beside the boards. Each call of it comes behind the end of the one before."""
 
-    def __init__(self, member: Member, terms: Terms, offers: Offers, hall: Hall) -> None:
-        self.member, self.terms, self.offers, self.hall = member, terms, offers, hall
+    def __init__(self, member: Member, terms: Terms, offers: Offers, visitors: Visitors) -> None:
+        self.member, self.terms, self.offers, self.visitors = member, terms, offers, visitors
         self.is_giver = False  # whether it gives a simul, as who plays several games at a time has to
         self.is_closing = False
         self.seeking = False
@@ -112,7 +112,7 @@ class Lobby:
             self.seeking = all(it.all(SeekMade) for it in answers)
         if self.offers.challenge:
             who, terms = self.offers.challenge
-            if who.lower() in map(str.lower, self.hall.players):
+            if self.visitors.is_there(who):
                 await self.tried(f"match {who} {terms}")
 
     async def take_seeks(self) -> None:
@@ -133,13 +133,13 @@ class Lobby:
         if self.stored is None:
             self.stored = (await self.member.do("stored")).all(Stored)
         others = {it.black if it.white == self.member.name else it.white for it in self.stored}
-        self.asked &= self.hall.players
-        for who in sorted(others & self.hall.players - self.asked):
+        self.asked &= self.visitors.players
+        for who in sorted(others & self.visitors.players - self.asked):
             if self.member.own_games:
                 return
             self.asked.add(who)
             refusal = await self.tried(f"resume {who}")
-            if refusal and refusal.number not in GONE_OR_PLAYING:
+            if refusal and refusal.refusal not in GONE_OR_PLAYING:
                 say(f"{who} isn't asked to resume: {refusal}")
 
     async def tried(self, line: str) -> RefusalError | None:

@@ -1,4 +1,4 @@
-"""What a game looks like to an engine, and what its boards give a player a right to.
+"""What a game looks like to an engine, and whether it can still be won.
 
 `led` are the words of the half-moves that led to the first board that was told, where it isn't the array: of a game
 that goes on from another day they may be known.
@@ -8,13 +8,10 @@ import re
 from collections.abc import Sequence
 
 from ficslink import Board
-from ficslink.board import FILES
 from ficslink.game import Game
 
 LONG = re.compile(r"([PNBRQK])/(?:([a-h][1-8])|@@)-([a-h][1-8])(=[NBRQ])?")
 CASTLINGS = {"o-o": "O-O", "o-o-o": "O-O-O"}
-QUIET_MOST = 100
-TIMES = 3
 NO_MATE = (0, 3)  # the material with which nobody mates a bare king: nothing, a knight, a bishop
 
 
@@ -57,28 +54,6 @@ def for_uci(game: Game) -> str:
     place = "startpos" if is_usual else f"fen {first.fen(game.array)}"
     moves = game.moves(by_rook=kind == "fischer")
     return f"{place} moves {' '.join(moves)}" if moves else place
-
-
-def may_claim(game: Game) -> bool:
-    """Whether the rules give a draw to who claims it: 100 quiet half-moves, or a position for the third time. It can
-    have come again since the last half-move that isn't quiet alone, so the men in hand are the same."""
-    board = game.board
-    since = game.boards[-board.quiet - 1:]
-    return board.quiet >= QUIET_MOST or sum(same(it) == same(board) for it in since) >= TIMES
-
-
-def same(board: Board) -> tuple[object, ...]:
-    """What makes a position the same one (FIDE Laws, 9.2). A double push counts where a pawn stands beside it."""
-    rights = (board.white_short, board.white_long, board.black_short, board.black_long)
-    return board.ranks, board.side, rights, passing_file(board)
-
-
-def passing_file(board: Board) -> int:
-    """The file of a double push where a pawn of who is to move stands beside it, else -1."""
-    file = board.double_push
-    rank, pawn = ("5", "P") if board.side == "W" else ("4", "p")
-    beside = [FILES[it] for it in (file - 1, file + 1) if 0 <= it < 8]
-    return file if file >= 0 and any(board.man(it + rank) == pawn for it in beside) else -1
 
 
 def is_dead(game: Game) -> bool:

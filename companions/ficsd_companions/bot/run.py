@@ -7,18 +7,18 @@ It is no part of what is proved. It writes `ready` once it is in, and `closed` o
 import asyncio
 import sys
 
-from ficsd_companions.cli.program import BESIDE
 from ficslink import secret
 
-from . import host, journal, start, words
+from . import host, journal, options, start
 
 
-def main():
-    chosen = words.chosen(sys.argv[1:])
+def main() -> int:
+    """Plays, as the words of the command line choose; the status."""
+    chosen = options.chosen(sys.argv[1:])
     journal.begin()
     try:
         password = secret.kept_password(chosen.password) if chosen.password else None
-        status = asyncio.run(start.run(chosen, password, BESIDE))
+        status = asyncio.run(start.run(chosen, password))
     except (secret.BadSecret, start.BadChoice) as fault:
         journal.say(str(fault))
         return 2

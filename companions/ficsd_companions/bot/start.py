@@ -1,40 +1,41 @@
 """What comes before the bot comes in: its engine is tried, and so is the house's search."""
 
-import os
 import re
-from pathlib import Path
+
+from ficsd_companions.cli.program import built_program, is_program
 
 from . import host
 from .house import House, HouseFault
 from .journal import say
+from .options import Chosen
 from .talk import About
 from .terms import VARIANTS
 from .thinker import Brain
 from .uci import Engine, EngineFault, NoEngine, path_of
-from .words import Chosen
 
 LONGEST_NAME = 80
-PROGRAMS = ("ficsd", "../crates/fics_server/out/fics_server")  # beside this program: installed, and built
 
 
 class BadChoice(Exception):
     """What was chosen can't be had, and why."""
 
 
-async def run(chosen: Chosen, password: str | None, here: Path) -> int:
+async def run(chosen: Chosen, password: str | None) -> int:
     """Tries what was chosen, plays, and leaves; the status."""
-    house = await tried_house(chosen, here)
+    house = await tried_house(chosen)
     able: tuple[str, ...] = VARIANTS
     if chosen.engine is None:
         if not house:
-            raise BadChoice("the house's search needs the server's program: ./ficsd board </dev/null builds it, or "
-                            "--program FILE names it")
+            raise BadChoice(
+                "the house's search needs the server's program: ./ficsd board </dev/null builds it, or "
+                "--program FILE names it"
+            )
         brain, engine = Brain(house), f"the house's own search, {chosen.depth} half-moves ahead"
     else:
-        brain = Brain(house, found(chosen.engine), chosen.settings)
+        brain = Brain(house, found(chosen.engine), chosen.option)
         engine, able = await tried_engine(brain)
     about = About(chosen.name, engine, chosen.terms(variants_of(chosen, engine, able)))
-    for it in (*chosen.seeks, *([chosen.challenge[1]] if chosen.challenge else [])):
+    for it in (*chosen.seek, *([chosen.challenge[1]] if chosen.challenge else [])):
         if it.terms.kind not in about.terms.variants:
             raise BadChoice(f"{engine} doesn't play {it.terms.kind}")
     return await host.play(chosen, brain, about, password)
@@ -69,13 +70,12 @@ async def tried_engine(brain: Brain) -> tuple[str, tuple[str, ...]]:
     return re.sub("[^ -~]", "?", engine.name)[:LONGEST_NAME], tuple(it for it in VARIANTS if engine.plays(it))
 
 
-async def tried_house(chosen: Chosen, here: Path) -> House | None:
+async def tried_house(chosen: Chosen) -> House | None:
     """The house's search, where its program is there and answers."""
-    files = [chosen.program] if chosen.program else [here / it for it in PROGRAMS]
-    program = next((it for it in files if os.access(it, os.X_OK) and it.is_file()), None)
+    program = chosen.program or built_program()
+    if chosen.program and not is_program(chosen.program):
+        raise BadChoice(f"{chosen.program} is no program")
     if not program:
-        if chosen.program:
-            raise BadChoice(f"{chosen.program} is no program")
         if chosen.engine:
             say("the server's program isn't there: where the engine fails, the bot plays any half-move")
         return None

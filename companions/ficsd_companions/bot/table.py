@@ -6,7 +6,7 @@ import time
 from collections.abc import Awaitable, Callable
 from contextlib import suppress
 
-from ficslink import LinkError, NoGame, RefusalError
+from ficslink import LinkError, NoGame, Refusal, RefusalError
 from ficslink.game import Game, Offer
 from ficslink.member import Member
 
@@ -16,13 +16,32 @@ from .last_resort import tried
 from .memory import Memory
 from .thinker import Brain, Thinker, Thought
 
-NOT_PLAYING, NOT_YOUR_TURN, TOO_MANY_MOVES, NOT_FALLEN, NOT_REGISTERED = 20, 11, 12, 14, 53
-ILLEGAL = (*range(1, 10), 26, 28)  # the word is no allowed move, or none at all
+# the word is no allowed move, or none at all
+ILLEGAL = frozenset(
+    {
+        Refusal.AMBIGUOUS,
+        Refusal.LEAVES_KING,
+        Refusal.CASTLE_FORBIDDEN,
+        Refusal.NO_DROPS,
+        Refusal.NOT_IN_HAND,
+        Refusal.OCCUPIED,
+        Refusal.END_RANK,
+        Refusal.NO_PIECE,
+        Refusal.CANNOT_REACH,
+        Refusal.UNKNOWN,
+        Refusal.BAD_ARGUMENTS,
+    }
+)
 MOST_FAULTS = 3  # of the engine, behind which the bot offers to abort
 ABORT_PLIES = 2  # so many half-moves at most were made where it agrees to abort
 FLAG_SECONDS = 1.0  # so long behind its fall it calls the flag, and between two calls
 IDLE_HINT, IDLE_LEAVE = 300.0, 600.0  # seconds for which it waits for the other's first half-move
 STUCK_SECONDS = 60.0  # where no half-move can be made any more it waits so long for a draw
+
+
+def cause(fault: LinkError | None) -> Refusal | None:
+    """The refusal that a fault is, if it is one of those that are known."""
+    return fault.refusal if isinstance(fault, RefusalError) else None
 
 
 class Table:
@@ -45,23 +64,21 @@ class Table:
 
     # ---- what is sent ----
 
-    async def send(self, line: str) -> int:
-        """Sends a line of this game; the number of its refusal, or 0."""
-        return await self.number_of(self.member.act(self.game, line))
+    async def send(self, line: str) -> LinkError | None:
+        """Sends a line of this game; why it isn't taken, if it isn't."""
+        return await self.refused(self.member.act(self.game, line))
 
-    async def number_of(self, sending: Awaitable[object]) -> int:
-        """The number of the refusal with which a sending ends, or 0. A game that is over refuses all."""
+    async def refused(self, sending: Awaitable[object]) -> LinkError | None:
+        """The refusal with which a sending ends, if it does. A game that is over refuses all."""
         try:
             await sending
-        except RefusalError as refusal:
-            return refusal.number
-        except NoGame:
-            return NOT_PLAYING
-        return 0
+        except (RefusalError, NoGame) as refusal:
+            return refusal
+        return None
 
     async def tell(self, text: str) -> None:
         """Tells the opponent something; one who doesn't hear it is told nothing."""
-        await self.number_of(self.member.do(f"tell {self.game.opponent} {text}"))
+        await self.refused(self.member.do(f"tell {self.game.opponent} {text}"))
 
     # ---- the board ----
 
@@ -89,7 +106,7 @@ class Table:
         which this ends: what is to be done behind it is done there."""
         game = self.game
         await self.offer_abort()
-        if self.claimed != game.board.ply and (position.may_claim(game) or game.is_my_turn and position.is_dead(game)):
+        if self.claimed != game.board.ply and (game.may_claim_draw or game.is_my_turn and position.is_dead(game)):
             self.claimed = game.board.ply
             await self.send("draw")
         if game.is_my_turn:
@@ -107,16 +124,13 @@ class Table:
                 await self.send("draw")
         if self.game.board.position != board.position:
             return
-        refusal = await self.play(thought) if thought else None
-        if thought and thought.is_engines and refusal in ILLEGAL:
+        is_done = thought is not None and await self.play(thought)
+        if thought and thought.is_engines and not is_done:
             what = f"it answers {thought.word}, which is refused"
             stand_in = await self.thinker.stand_in(what, self.game, self.led)
-            refusal = await self.play(stand_in) if stand_in else None
-        if refusal is None or refusal in ILLEGAL:
+            is_done = stand_in is not None and await self.play(stand_in)
+        if not is_done:
             await self.try_words()
-        elif refusal == TOO_MANY_MOVES and self.stuck is None:
-            self.stuck = time.monotonic()
-            await self.send("draw")
 
     async def offer_abort(self) -> None:
         """Offers to abort, where the engine has failed too often."""
@@ -125,16 +139,20 @@ class Table:
             await self.tell("My engine has failed several times; I offer to abort.")
             await self.send("abort")
 
-    async def play(self, thought: Thought) -> int:
-        """Makes a half-move; the number of its refusal, or 0."""
-        return await self.number_of(self.member.move(self.game, thought.word))
+    async def play(self, thought: Thought) -> bool:
+        """Makes a half-move; whether there is nothing else to try: it is made, or none can be."""
+        refusal = cause(await self.refused(self.member.move(self.game, thought.word)))
+        if refusal is Refusal.TOO_MANY_MOVES and self.stuck is None:
+            self.stuck = time.monotonic()
+            await self.send("draw")
+        return refusal not in ILLEGAL
 
     async def try_words(self) -> None:
         """Tries words until the server takes one."""
         say(f"{self}: any half-move that the server takes; the board is {self.game.fen()}")
         white, black = self.game.hands or ("", "")
         for word in tried(self.game.board, white if self.game.colour == "white" else black):
-            if await self.number_of(self.member.move(self.game, word)) not in ILLEGAL:
+            if cause(await self.refused(self.member.move(self.game, word))) not in ILLEGAL:
                 return
 
     # ---- offers ----
@@ -169,12 +187,12 @@ class Table:
         """Agrees to the first takeback of a game."""
         if self.has_taken_back:
             await self.decline("I take back once in a game.")
-        elif await self.send(f"takeback {half_moves}") == 0:
+        elif not await self.send(f"takeback {half_moves}"):
             self.has_taken_back = True
 
     async def decline(self, why: str = "") -> None:
         """Turns an offer down."""
-        if await self.send("decline") == 0 and why:
+        if not await self.send("decline") and why:
             await self.tell(why)
 
     # ---- time ----

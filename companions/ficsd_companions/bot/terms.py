@@ -87,5 +87,7 @@ class Terms:
         return f"{minutes} {increment} {variant}"
 
     def __str__(self) -> str:
-        return (f"{named(self.variants)}, {self.minutes} minutes, an increment of {self.increments} seconds, "
-                f"{self.most} {'game' if self.most == 1 else 'games'} at a time")
+        return (
+            f"{named(self.variants)}, {self.minutes} minutes, an increment of {self.increments} seconds, "
+            f"{self.most} {'game' if self.most == 1 else 'games'} at a time"
+        )

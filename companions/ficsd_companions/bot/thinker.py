@@ -30,7 +30,7 @@ class Brain:
 
     house: House | None
     path: str | None = None
-    settings: tuple[tuple[str, str], ...] = ()
+    settings: Sequence[tuple[str, str]] = ()
 
 
 class Thinker:
@@ -86,7 +86,7 @@ class Thinker:
 
     def patience_with(self, given: Budget) -> Budget:
         """The budget of an engine, which is waited for half as long behind each of its faults."""
-        part = 0.5 ** self.faults
+        part = 0.5**self.faults
         return replace(given, stop=max(clock.LEAST, given.stop * part), fail=max(2 * clock.LEAST, given.fail * part))
 
     async def stand_in(self, what: str, game: Game, led: Sequence[str]) -> Thought | None:

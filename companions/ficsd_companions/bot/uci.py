@@ -68,8 +68,13 @@ class Engine:
         """Starts it, and sets its options."""
         try:
             self.process = await asyncio.create_subprocess_exec(
-                *tied([self.path]), stdin=asyncio.subprocess.PIPE, stdout=asyncio.subprocess.PIPE,
-                stderr=asyncio.subprocess.STDOUT, limit=LONGEST_LINE, start_new_session=True)
+                *tied([self.path]),
+                stdin=asyncio.subprocess.PIPE,
+                stdout=asyncio.subprocess.PIPE,
+                stderr=asyncio.subprocess.STDOUT,
+                limit=LONGEST_LINE,
+                start_new_session=True,
+            )
         except OSError as fault:
             raise NoEngine(f"{self.path} can't be run: {fault.strerror}") from fault
         self.send("uci")

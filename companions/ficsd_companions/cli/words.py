@@ -48,13 +48,18 @@ def count(most: int, least: int = 1) -> Callable[[str], int]:
     return read
 
 
-def seconds(least: float, most: float) -> Callable[[str], float]:
-    """A number of seconds between two bounds."""
+def amount(unit: str, least: float, most: float) -> Callable[[str], float]:
+    """A number of a unit between two bounds."""
     def read(word: str) -> float:
-        if not re.fullmatch(r"\d+(\.\d+)?", word) or not least <= float(word) <= most:
-            raise argparse.ArgumentTypeError(f"{least} to {most} seconds are wanted")
+        if not re.fullmatch(r"\d+(\.\d*)?|\.\d+", word) or not least <= float(word) <= most:
+            raise argparse.ArgumentTypeError(f"{least:g} to {most:g} {unit} are wanted")
         return float(word)
     return read
+
+
+def seconds(least: float, most: float) -> Callable[[str], float]:
+    """A number of seconds between two bounds."""
+    return amount("seconds", least, most)
 
 
 def handle(word: str) -> str:

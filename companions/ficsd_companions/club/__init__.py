@@ -1,3 +1,3 @@
-"""The parts of `./club`: `words` reads its command line, `checks` is what has to be so before anything starts, `part`
-is one of the programs that it runs, `server_file` finds the server's program, and `evening` starts them, shows what
-they say and ends them in order."""
+"""The parts of `./club`: `options` reads its command line, `checks` is what has to be so before anything starts, `part`
+is one of the programs that it runs, `search` is the program by which House searches before any proof, and `evening`
+starts them, shows what they say and ends them in order."""

@@ -18,8 +18,9 @@ def check_page() -> None:
     except OSError as fault:
         raise Missing(f"{PAGE_PYTHON} can't be run: sudo apt-get install -y python3 python3-aiohttp") from fault
     if done.returncode:
-        raise Missing("the page needs aiohttp, which isn't there; this installs it: "
-                      "sudo apt-get install -y python3-aiohttp")
+        raise Missing(
+            "the page needs aiohttp, which isn't there; this installs it: sudo apt-get install -y python3-aiohttp"
+        )
 
 
 def check_port(port: int) -> None:
@@ -29,8 +30,10 @@ def check_port(port: int) -> None:
         try:
             door.bind(("127.0.0.1", port))
         except OSError as fault:
-            raise Missing(f"port {port} can't be had ({fault.strerror}); ss -ltnp says who has it, and --port chooses "
-                          "another one") from fault
+            raise Missing(
+                f"port {port} can't be had ({fault.strerror}); ss -ltnp says who has it, and --port chooses "
+                "another one"
+            ) from fault
 
 
 def is_answering(port: int) -> bool:

@@ -4,15 +4,12 @@ import asyncio
 import shutil
 import signal
 import subprocess
-import sys
-import tempfile
-from contextlib import ExitStack
 from pathlib import Path
 
-from . import checks, server_file
+from . import checks, search
 from .checks import Missing
+from .options import Chosen
 from .part import Part
-from .words import Chosen
 
 HOUSE = "House"
 ANSWER_PAUSE = 0.3
@@ -34,8 +31,9 @@ class Evening:
         self.chosen, self.top, self.folder = chosen, top, folder
         where = f"127.0.0.1:{chosen.port}"
         self.server = Part("the server", self.server_words(), show)
-        self.page = Part("the page", [top / "companions/fics_web", "--server", where, "--listen",
-                                      str(chosen.page_port)], show)
+        self.page = Part(
+            "the page", [top / "companions/fics_web", "--server", where, "--listen", str(chosen.page_port)], show
+        )
         self.house: Part | None = None
         self.is_ending = False
         self.stop: asyncio.Future[None] = asyncio.get_running_loop().create_future()
@@ -52,10 +50,31 @@ class Evening:
         """The command of House, whose password and half-moves lie beside the store."""
         beside = self.chosen.store.absolute() if self.chosen.store else self.folder / "club"
         words: list[str | Path] = [
-            sys.executable, self.top / "companions/fics_bot", "--server", f"127.0.0.1:{self.chosen.port}", "--name",
-            HOUSE, "--engine", self.chosen.engine, "--minutes", "0..60", "--increments", "0..60", "--most", "8",
-            "--take", "5", "--password", f"{beside}-house", "--games", f"{beside}-house-games", "--grace", "3",
-            "--patience", "10", "--hall"]
+            self.top / "companions/fics_bot",
+            "--server",
+            f"127.0.0.1:{self.chosen.port}",
+            "--name",
+            HOUSE,
+            "--engine",
+            self.chosen.engine,
+            "--minutes",
+            "0..60",
+            "--increments",
+            "0..60",
+            "--most",
+            "8",
+            "--take",
+            "5",
+            "--password",
+            f"{beside}-house",
+            "--games",
+            f"{beside}-house-games",
+            "--grace",
+            "3",
+            "--patience",
+            "10",
+            "--hall",
+        ]
         return words + (["--program", program] if program else [])
 
     # ---- the beginning ----
@@ -71,7 +90,7 @@ class Evening:
         assert self.server.process
         program = self.chosen.program
         if self.chosen.is_unproved:
-            program = server_file.copied(self.server.process.pid, self.chosen.port, self.folder)
+            program = search.copied(self.top, self.server.process.pid, self.folder)
         self.house = Part(HOUSE, self.house_words(program), show)
         for it in (self.page, self.house):
             await it.begin()
@@ -101,8 +120,7 @@ class Evening:
     async def go_on(self) -> None:
         """Until it is told to end, or the server ends."""
         assert self.house
-        watches = [asyncio.create_task(it) for it in (
-            self.server_ends(), self.keep(self.page), self.keep(self.house))]
+        watches = [asyncio.create_task(it) for it in (self.server_ends(), self.keep(self.page), self.keep(self.house))]
         try:
             done, _ = await asyncio.wait((self.stop, *watches), return_when=asyncio.FIRST_COMPLETED)
             for it in done:
@@ -180,20 +198,3 @@ async def spend(chosen: Chosen, top: Path, folder: Path) -> None:
         beginning.cancel()
         await asyncio.gather(beginning, return_exceptions=True)
         await evening.end()
-
-
-def run(chosen: Chosen, top: Path) -> int:
-    """The whole of it; its status."""
-    try:
-        checks.check_page()
-        for port in (chosen.port, chosen.page_port):
-            checks.check_port(port)
-        if chosen.store:
-            checks.check_folder(chosen.store)
-        with ExitStack() as stack:
-            folder = Path(stack.enter_context(tempfile.TemporaryDirectory(prefix="club-")))
-            asyncio.run(spend(chosen, top, folder))
-    except Missing as missing:
-        print(f"club: {missing}", file=sys.stderr, flush=True)
-        return 1
-    return 0

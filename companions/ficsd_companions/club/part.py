@@ -32,8 +32,13 @@ class Part:
         """Starts it, away from this terminal's Ctrl-C."""
         self.ready.clear()
         self.process = await asyncio.create_subprocess_exec(
-            *self.words, stdin=asyncio.subprocess.DEVNULL, stdout=asyncio.subprocess.PIPE,
-            stderr=asyncio.subprocess.PIPE, start_new_session=True, limit=LONGEST_LINE)
+            *self.words,
+            stdin=asyncio.subprocess.DEVNULL,
+            stdout=asyncio.subprocess.PIPE,
+            stderr=asyncio.subprocess.PIPE,
+            start_new_session=True,
+            limit=LONGEST_LINE,
+        )
         assert self.process.stdout and self.process.stderr
         self.readers = [asyncio.create_task(self.read(it)) for it in (self.process.stdout, self.process.stderr)]
 

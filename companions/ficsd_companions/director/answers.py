@@ -9,7 +9,7 @@ from .evening import SCORES, BadFile
 from .ledger import Refused
 
 if TYPE_CHECKING:
-    from .hall import Director
+    from .director import Director
 
 PAUSE = 60.0  # seconds between two hints to one member, so that two programs don't talk without end
 
@@ -24,7 +24,7 @@ class Answers:
     async def to(self, who: str, text: str) -> None:
         """Does what a member tells, and answers."""
         words = text.strip().rstrip("?!.").split()
-        is_chief = who.lower() in self.director.chosen.chiefs
+        is_chief = who.lower() in self.director.chosen.chief
         match [it.lower() for it in words]:
             case ["join"]:
                 said = [await self._join(who)]
@@ -56,9 +56,12 @@ class Answers:
         try:
             await ledger.add(f"join {who}")
         except Refused as refused:
-            reasons = {"24": "You have joined.", "59": "It has begun, and nobody joins any more.",
-                       "60": "64 have joined, and that is all."}
-            return reasons.get(str(refused).split(" ")[1], str(refused))
+            reasons = {
+                "HandleTaken": "You have joined.",
+                "TourneyStarted": "It has begun, and nobody joins any more.",
+                "TourneyFull": "64 have joined, and that is all.",
+            }
+            return reasons.get(refused.word, str(refused))
         except (OSError, BadFile) as fault:
             return f"That can't be kept now: {fault}"
         count = len(ledger.evening.players)
@@ -88,8 +91,10 @@ class Answers:
         if not pair or not waiting or pair in director.round.playing:
             return f"Round {evening.open} of {len(evening.rounds)} is open. It is {datetime.now():%H:%M}."
         left = waiting.since + director.chosen.absent - time.monotonic()
-        return (f"Your game with {pair.other(evening.named(who) or who)} is wanted now; who isn't there at "
-                f"{datetime.now() + timedelta(seconds=left):%H:%M:%S} has lost.")
+        return (
+            f"Your game with {pair.other(evening.named(who) or who)} is wanted now; who isn't there at "
+            f"{datetime.now() + timedelta(seconds=left):%H:%M:%S} has lost."
+        )
 
     def _start(self, is_chief: bool) -> str:
         if not is_chief:
@@ -111,8 +116,11 @@ class Answers:
         try:
             await director.ledger.rule(white, black, score)
         except Refused as refused:
-            reasons = {"64": f"No round has {white} with White against {black}.", "62": "It hasn't begun."}
-            return reasons.get(str(refused).split(" ")[1], str(refused))
+            reasons = {
+                "NotPaired": f"No round has {white} with White against {black}.",
+                "TourneyNotStarted": "It hasn't begun.",
+            }
+            return reasons.get(refused.word, str(refused))
         except (OSError, BadFile) as fault:
             return f"That can't be kept now: {fault}"
         director.round.ruled(white, black)

@@ -45,8 +45,9 @@ class Waiting:
     was_told_again: bool = False
 
 
-def verdict(pair: Pair, waiting: Waiting, present: Collection[str], now: float, patience: float,
-            both_away: Verdict) -> Verdict:
+def verdict(
+    pair: Pair, waiting: Waiting, present: Collection[str], now: float, patience: float, both_away: Verdict
+) -> Verdict:
     """What becomes of a pair without a game, where `present` are those in the hall. Two who are there and don't begin
     are as if both were away once they have had the time twice."""
     if now - waiting.since < patience:

@@ -126,8 +126,9 @@ def _take(evening: Evening, line: str) -> None:
 def _name_as_paired(evening: Evening) -> None:
     """Results by the names that the pairs have."""
     by_letters = {(it.white.lower(), it.black.lower()): it for pairs in evening.rounds for it in pairs}
-    evening.results = {by_letters[pair.white.lower(), pair.black.lower()]: score
-                       for pair, score in evening.results.items()}
+    evening.results = {
+        by_letters[pair.white.lower(), pair.black.lower()]: score for pair, score in evening.results.items()
+    }
 
 
 def _row(line: str) -> Row:

@@ -2,6 +2,7 @@
 
 import os
 import re
+from collections.abc import Mapping
 from datetime import datetime
 from pathlib import Path
 
@@ -38,11 +39,26 @@ def _began(tags: dict[str, str]) -> datetime:
         return datetime.min
 
 
+def _of_evening(file: Path, archive: Path, evening: Evening) -> dict[Pair, str]:
+    return found(archive, evening, datetime.fromtimestamp(file.stat().st_mtime))
+
+
+def _is_empty(file: Path) -> bool:
+    return file.exists() and not file.stat().st_size
+
+
+def are_there(file: Path, archive: Path, evening: Evening, seen: Mapping[Pair, str]) -> bool:
+    """Whether the archive has all games that were seen to end with a result that stands; those of a file that has games
+    aren't looked for."""
+    standing = {pair for pair, score in seen.items() if evening.results.get(pair) == score}
+    return not _is_empty(file) or standing <= _of_evening(file, archive, evening).keys()
+
+
 def write(file: Path, archive: Path, evening: Evening) -> int:
     """Writes the games, in the order of the rounds; how many there are. A file that has games stays as it is."""
-    if not file.exists() or file.stat().st_size:
+    if not _is_empty(file):
         return 0
-    games = found(archive, evening, datetime.fromtimestamp(file.stat().st_mtime))
+    games = _of_evening(file, archive, evening)
     in_order = [games[pair] for pairs in evening.rounds for pair in pairs if pair in games]
     new = file.with_name(file.name + ".new")
     new.write_text("".join(in_order), encoding="utf-8")

@@ -15,7 +15,11 @@ SECONDS = 60.0  # for the program to answer
 
 
 class Refused(Exception):
-    """The program refuses a line; the text is its answer."""
+    """The program refuses a line; the text is its answer, `word` the name of the refusal."""
+
+    def __init__(self, answer: str) -> None:
+        self.word = answer.rpartition(" ")[2]
+        super().__init__(answer)
 
 
 class Ledger:
@@ -50,7 +54,7 @@ class Ledger:
         colours."""
         line, head = f"result {white} {black} {score}", f"result {white} {black} ".lower()
         at = next((number for number, it in enumerate(self.lines) if it.lower().startswith(head)), len(self.lines))
-        await self._change(self.lines[:at] + [line] + self.lines[at + 1:], at)
+        await self._change(self.lines[:at] + [line] + self.lines[at + 1 :], at)
 
     async def _change(self, lines: list[str], at: int) -> None:
         evening = await self._evening(lines)
@@ -85,9 +89,16 @@ class Ledger:
 
     def _run(self, asked: str) -> subprocess.CompletedProcess[str]:
         try:
-            return subprocess.run([self.program, "tourney"], input=asked, stdout=subprocess.PIPE,
-                                  stderr=subprocess.DEVNULL, encoding="ascii", errors="replace", timeout=SECONDS,
-                                  check=False)
+            return subprocess.run(
+                [self.program, "tourney"],
+                input=asked,
+                stdout=subprocess.PIPE,
+                stderr=subprocess.DEVNULL,
+                encoding="ascii",
+                errors="replace",
+                timeout=SECONDS,
+                check=False,
+            )
         except OSError as fault:
             raise BadFile(f"{self.program} can't be run: {fault.strerror}") from fault
         except subprocess.TimeoutExpired as fault:

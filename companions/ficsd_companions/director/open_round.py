@@ -6,7 +6,6 @@ What is here is gone with the program, and made anew from the file: the time for
 import logging
 from collections.abc import Awaitable, Callable, Collection
 
-from ficslink.errors import RefusalError
 from ficslink.game import Game
 from ficslink.lines import GameListed
 from ficslink.member import Member
@@ -15,11 +14,9 @@ from . import talk
 from .due import Verdict, Waiting, verdict
 from .evening import SCORES, Pair
 from .ledger import Ledger, Refused
-from .words import Chosen
+from .options import Chosen
 
 logger = logging.getLogger("fics_director")
-ALREADY_WATCHING = 55  # the refusal that says that one looks on
-MOST_TRIES = 4
 Tell = Callable[..., Awaitable[None]]
 ADJOURNED = "adjourned"
 
@@ -36,6 +33,7 @@ class OpenRound:
         self.adjourned: set[Pair] = set()
         self.settled: set[Pair] = set()  # pairs that get no result
         self.noted: dict[Pair, str] = {}  # results that aren't in the file yet
+        self.seen: dict[Pair, str] = {}  # the results of games that were watched to their ends, of all rounds
 
     def begin(self, now: float) -> None:
         """Nobody is known to play, and all are waited for from now on."""
@@ -83,25 +81,18 @@ class OpenRound:
                 for player in pair.players:
                     await self.tell(player, *talk.not_as_paired(pair, player, self.chosen.terms))
                 await self.announce(f"{game.white} and {game.black} play {game.terms}, which isn't as they are paired.")
-            elif await self._watches(member, game.game):
+            elif await member.watch(game.game):
                 self.playing[pair] = game.game
             else:
                 await self._missed(pair, now)
 
     def _is_as_paired(self, game: GameListed, pair: Pair) -> bool:
         wanted, terms = self.chosen.terms, game.terms
-        return (game.white.lower() == pair.white.lower() and
-                (terms.minutes, terms.increment, terms.variant) == (wanted.minutes, wanted.increment, wanted.variant))
-
-    async def _watches(self, member: Member, number: int) -> bool:
-        """Looks on at a game; whether it does. Who comes to one that has just ended is shown its board and looks on no
-        longer, without a word: so it asks until it is told that it looks on."""
-        for _ in range(MOST_TRIES):
-            try:
-                await member.do(f"observe {number}")
-            except RefusalError as refusal:
-                return refusal.number == ALREADY_WATCHING
-        return False
+        return game.white.lower() == pair.white.lower() and (terms.minutes, terms.increment, terms.variant) == (
+            wanted.minutes,
+            wanted.increment,
+            wanted.variant,
+        )
 
     async def _missed(self, pair: Pair, now: float) -> None:
         self.waiting[pair] = Waiting(now)
@@ -135,14 +126,17 @@ class OpenRound:
 
     async def ended(self, game: Game, now: float) -> None:
         """A game that was watched is over."""
-        pair = next((it for it, number in self.playing.items()
-                     if number == game.number and it.is_of(game.white, game.black)), None)
+        pair = next(
+            (it for it, number in self.playing.items() if number == game.number and it.is_of(game.white, game.black)),
+            None,
+        )
         if not pair:
             return
         del self.playing[pair]
         if pair in self.ledger.evening.results:
             self._forget(pair)
         elif game.result in SCORES:
+            self.seen[pair] = game.result
             await self.note(pair, game.result, game.reason)
         else:
             if game.reason == ADJOURNED:

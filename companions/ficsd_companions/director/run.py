@@ -7,28 +7,22 @@ by reading it. It is no part of what is proved; the pairings and the table, whic
 
 import asyncio
 import logging
-import os
 import signal
 import sys
 
-from . import talk, words
-from .evening import BadFile
-from .hall import Director, Fault
-from .ledger import Ledger
+from ficsd_companions.cli import log
 from ficslink.secret import BadSecret, password_in
-from ficslink.texts import shown
+
+from . import options, talk
+from .director import Director, Fault
+from .evening import BadFile, Row
+from .ledger import Ledger
+from .options import Chosen
 
 logger = logging.getLogger("fics_director")
 
 
-class Printable(logging.Formatter):
-    """Tells by its number whatever a terminal would obey."""
-
-    def format(self, record):
-        return shown(super().format(record))
-
-
-async def work(chosen):
+async def work(chosen: Chosen) -> list[Row]:
     """Runs the evening until its end or a signal; the table that is shown then."""
     password = password_in(chosen.password_file) if chosen.password_file else None
     director = Director(chosen, password, Ledger(chosen.file, chosen.program))
@@ -41,11 +35,10 @@ async def work(chosen):
         return []
 
 
-def main():
-    chosen = words.chosen(sys.argv[1:])
-    handler = logging.StreamHandler()
-    handler.setFormatter(Printable("fics_director: %(message)s"))
-    logging.basicConfig(level=logging.INFO, handlers=[handler])
+def main() -> int:
+    """Directs, as the words of the command line choose; the status."""
+    chosen = options.chosen(sys.argv[1:])
+    log.begin("fics_director: %(message)s")
     try:
         for row in asyncio.run(work(chosen)):
             print(talk.row(row), flush=True)

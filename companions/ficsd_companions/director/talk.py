@@ -47,8 +47,10 @@ def pairs(evening: Evening) -> list[str]:
     """The open round: its pairs, and the results that stand."""
     if not evening.open:
         return ["No round is open."]
-    shown = [f"{it.white} - {it.black}" + (f" {evening.results[it]}" if it in evening.results else "")
-             for it in evening.pairs]
+    shown = [
+        f"{it.white} - {it.black}" + (f" {evening.results[it]}" if it in evening.results else "")
+        for it in evening.pairs
+    ]
     return packed([f"Round {evening.open} of {len(evening.rounds)}: {shown[0]}", *shown[1:]], ", ")
 
 
@@ -66,8 +68,11 @@ def call(number: int, pair: Pair, player: str, terms: Terms) -> list[str]:
     """What one of a pair is told when it is to begin."""
     if player == pair.white:
         return [f"Round {number}: you have White against {pair.black}. Type: {line_to_type(pair, player, terms)}"]
-    return [f"Round {number}: you have Black against {pair.white}, who challenges you. Then type: accept "
-            f"{pair.white.lower()}", f"Or challenge by: {line_to_type(pair, player, terms)}"]
+    return [
+        f"Round {number}: you have Black against {pair.white}, who challenges you. Then type: accept "
+        f"{pair.white.lower()}",
+        f"Or challenge by: {line_to_type(pair, player, terms)}",
+    ]
 
 
 def resume(pair: Pair, player: str) -> list[str]:
@@ -78,8 +83,10 @@ def resume(pair: Pair, player: str) -> list[str]:
 
 def not_as_paired(pair: Pair, player: str, terms: Terms) -> list[str]:
     """What both are told who have begun a game on other terms or with other colours."""
-    return [f"This game doesn't count: {pair.white} has White against {pair.black}, {terms_of(terms)}. Type: abort",
-            f"Behind its end type: {line_to_type(pair, player, terms)}"]
+    return [
+        f"This game doesn't count: {pair.white} has White against {pair.black}, {terms_of(terms)}. Type: abort",
+        f"Behind its end type: {line_to_type(pair, player, terms)}",
+    ]
 
 
 def help_for(name: str, is_chief: bool) -> list[str]:

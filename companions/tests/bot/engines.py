@@ -1,7 +1,6 @@
 """Engines that speak UCI, each in its own way. They know no chess: their half-moves are those of a list, by how many
 were made before."""
 
-import os
 import sys
 from pathlib import Path
 
@@ -68,9 +67,9 @@ for line in sys.stdin:
 '''
 
 
-def engine(folder, kind):
+def engine(folder: Path, kind: str) -> Path:
     """The file of an engine of that kind; beside it `FILE.count` has a byte for each half-move it was asked for."""
-    path = Path(folder) / kind.replace(" ", "_")
+    path = folder / kind.replace(" ", "_")
     path.write_text(SCRIPT.format(python=sys.executable, kind=kind, line=LINE, count=f"{path}.count"))
-    os.chmod(path, 0o755)
+    path.chmod(0o755)
     return path

@@ -2,56 +2,60 @@
 
 import asyncio
 import re
+from contextlib import suppress
 
-from ficslink import lines
-from ficslink.errors import LinkError, NoGame, RefusalError
+from ficslink import Game, LinkError, lines
 from ficslink.events import Ended, Turn
 from ficslink.member import Member
+from tests.kit.running import async_wait_until
 
 TYPE = re.compile(r"(?:T|t)ype: (match .*|resume .*|abort)$")
 MATE = ("f3", "e5", "g4", "Qh4")
-THINKS = 0.4  # seconds, before each half-move
+THINKS = 0.4  # seconds, before each half-move, in which a director sees a game that has just begun
 
 
 class Player:
     """One whose name comes earlier in the alphabet beats those behind it."""
 
-    def __init__(self, port, name, password=None):
+    member: Member
+
+    def __init__(self, port: int, name: str, password: str | None = None) -> None:
         self.port, self.name, self.password = port, name, password
-        self.told = []
-        self.obeys, self.adjourns, self.leaves_at_game = True, False, None
-        self.adjourned_with = None
-        self.first_line = None  # typed in the place of the first line that it is told to type
+        self.told: list[str] = []
+        self.obeys, self.adjourns = True, False
+        self.adjourned_with: str | None = None
+        self.first_line: str | None = None  # typed in the place of the first line that it is told to type
         self.games = 0
-        self.tasks = []
 
-    async def come(self, joins=True):
+    async def come(self) -> None:
         self.member = await Member.enter("127.0.0.1", self.port, self.name, self.password, settings=["set shout 0"])
-        self.tasks = [asyncio.create_task(self.play()), asyncio.create_task(self.ask_for_news(joins))]
+        self.playing = asyncio.create_task(self.play())
 
-    async def go(self):
-        for task in self.tasks:
-            task.cancel()
-        await asyncio.gather(*self.tasks, return_exceptions=True)
+    async def go(self) -> None:
+        self.playing.cancel()
+        await asyncio.gather(self.playing, return_exceptions=True)
         await self.member.leave()
 
-    async def say(self, line):
-        try:
-            return await self.member.do(line)
-        except (LinkError, RefusalError):
-            return None
+    async def say(self, line: str) -> None:
+        """Says a line, which may be refused."""
+        with suppress(LinkError):
+            await self.member.do(line)
 
-    async def ask_for_news(self, joins):
-        """Hears what came, and joins until it is told that it has."""
-        ticks = 0
-        while True:
-            if joins and ticks % 5 == 0 and not any("have joined" in it for it in self.told):
-                await self.say("tell Director join")
-            await self.say("")
-            await asyncio.sleep(0.2)
-            ticks += 1
+    async def sees_guests(self) -> bool:
+        """Whether a guest is in the hall, as a scribe is one."""
+        return any(it.who.startswith("Guest") for it in (await self.member.do("who")).all(lines.Player))
 
-    async def play(self):
+    def was_told(self, part: str) -> bool:
+        """Whether the director has told it something with these words."""
+        return any(part in it for it in self.told)
+
+    async def join(self) -> None:
+        """Joins until it is told that it has, since a director may be gone."""
+        while not self.was_told("have joined"):
+            await self.say("tell Director join")
+            await async_wait_until(lambda: self.was_told("have joined"), seconds=1)
+
+    async def play(self) -> None:
         async for event in self.member.events():
             match event:
                 case lines.Tell("Director", text):
@@ -69,10 +73,10 @@ class Player:
                 case Ended(game):
                     self.games += 1
 
-    async def move(self, game):
+    async def move(self, game: Game) -> None:
         await asyncio.sleep(THINKS)
         ply = game.board.ply
-        try:
+        with suppress(LinkError):
             if self.adjourns and ply == 1:
                 self.adjourns, self.adjourned_with = False, game.opponent
                 await self.member.leave()  # by which the game is adjourned
@@ -80,5 +84,3 @@ class Player:
                 await self.member.act(game, "resign")
             else:
                 await self.member.move(game, MATE[ply])
-        except (NoGame, LinkError):
-            pass

@@ -1,4 +1,2 @@
-"""Tests of ficslink, a file for each subject. `played` plays a server, over which answers and news come as they are
-written down; `evenings` begins the real one."""
-
-HELPERS = ("played", "evenings", "engines")
+"""Tests of ficslink, a file for each subject. `conftest` has a server that a test plays, over which answers and news
+come as they are written down, and the real one; `engines` are engines that tell positions."""

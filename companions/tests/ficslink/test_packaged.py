@@ -3,45 +3,42 @@
 import shutil
 import subprocess
 import sys
-import tempfile
-import unittest
 from pathlib import Path
+from typing import Any
 
-from tests.web import places
+from tests.kit.paths import COMPANIONS
 
-PACKAGE = places.TOP / "companions" / "ficslink"
+PACKAGE = COMPANIONS / "ficslink"
 USES = "import ficslink; print(ficslink.__file__); print(repr(ficslink.parse('Your seek is 7.')))"
 
 
-class Packaged(unittest.TestCase):
-    def setUp(self):
-        folder = tempfile.TemporaryDirectory()
-        self.addCleanup(folder.cleanup)
-        self.folder = Path(folder.name)
+def run(*words: object, **settings: Any) -> tuple[int, str]:
+    """The status of a program, and what it writes."""
+    done = subprocess.run(
+        [str(it) for it in words], stdout=subprocess.PIPE, stderr=subprocess.STDOUT, text=True, check=False, **settings
+    )
+    return done.returncode, done.stdout
 
-    def run_well(self, *words, **settings):
-        """What a program writes that ends with 0."""
-        done = subprocess.run([str(it) for it in words], stdout=subprocess.PIPE, stderr=subprocess.STDOUT, text=True,
-                              **settings)
-        self.assertEqual(done.returncode, 0, done.stdout)
-        return done.stdout
 
-    def test_its_types_hold(self):
-        self.run_well("/usr/bin/mypy", "--strict", "--cache-dir", self.folder, "ficslink", cwd=PACKAGE.parent)
+def test_its_types_hold(tmp_path: Path) -> None:
+    status, said = run("/usr/bin/mypy", "--strict", "--cache-dir", tmp_path, "ficslink", cwd=PACKAGE.parent)
+    assert status == 0, said
 
-    def test_a_wrong_type_doesnt_hold(self):
-        shutil.copytree(PACKAGE, self.folder / "ficslink")
-        with open(self.folder / "ficslink" / "pace.py", "a", encoding="utf-8") as file:
-            file.write("\nPACE.every = 'often'\n")
-        done = subprocess.run(["/usr/bin/mypy", "--strict", "--cache-dir", self.folder, "ficslink"], cwd=self.folder,
-                              stdout=subprocess.PIPE, text=True)
-        self.assertEqual(done.returncode, 1, done.stdout)
 
-    def test_it_installs_without_the_network(self):
-        shutil.copytree(PACKAGE, self.folder / "package")
-        into = self.folder / "into"
-        self.run_well(sys.executable, "-m", "pip", "install", "--no-index", "--no-build-isolation", "--target", into,
-                      self.folder / "package")
-        written = self.run_well(sys.executable, "-c", USES, cwd=self.folder, env={"PYTHONPATH": str(into)})
-        self.assertEqual(written, f"{into}/ficslink/__init__.py\nSeekMade(number=7)\n")
-        self.assertTrue((into / "ficslink" / "py.typed").exists())
+def test_a_wrong_type_doesnt_hold(tmp_path: Path) -> None:
+    shutil.copytree(PACKAGE, tmp_path / "ficslink")
+    with open(tmp_path / "ficslink" / "pace.py", "a", encoding="utf-8") as file:
+        file.write("\nPACE.every = 'often'\n")
+    status, said = run("/usr/bin/mypy", "--strict", "--cache-dir", tmp_path, "ficslink", cwd=tmp_path)
+    assert status == 1, said
+
+
+def test_it_installs_without_the_network(tmp_path: Path) -> None:
+    shutil.copytree(PACKAGE, tmp_path / "package")
+    into = tmp_path / "into"
+    pip = (sys.executable, "-m", "pip", "install", "--no-index", "--no-build-isolation")
+    status, said = run(*pip, "--target", into, tmp_path / "package")
+    assert status == 0, said
+    written = run(sys.executable, "-c", USES, cwd=tmp_path, env={"PYTHONPATH": str(into)})
+    assert written == (0, f"{into}/ficslink/__init__.py\nSeekMade(number=7)\n")
+    assert (into / "ficslink" / "py.typed").exists()

@@ -8,6 +8,7 @@ import subprocess
 import threading
 import time
 from collections.abc import Awaitable, Callable, Mapping
+from contextlib import suppress
 from pathlib import Path
 from typing import IO, Any
 
@@ -105,7 +106,7 @@ class Server(Run):
     def __init__(
         self, store: Path | str | None = None, port: int | None = None, ahead: tuple[object, ...] = ()
     ) -> None:
-        self.port = port or free_port()
+        self.port, self.store = port or free_port(), store
         over = ("--store", store) if store else ()
         super().__init__(*ahead, paths.program, "serve", "--port", self.port, *over)
         self.begin()
@@ -113,6 +114,21 @@ class Server(Run):
     @property
     def address(self) -> str:
         return f"127.0.0.1:{self.port}"
+
+    def kept(self) -> str:
+        """What the program says of its store."""
+        words = [str(it) for it in (paths.program, "check", "--store", self.store)]
+        return str(subprocess.run(words, stdout=subprocess.PIPE, text=True, check=True).stdout).strip()
+
+
+def running(program: Path) -> list[int]:
+    """The processes that run a program, which a line at its head may have run by an interpreter."""
+    found = []
+    for it in Path("/proc").glob("[0-9]*"):
+        with suppress(OSError):
+            if str(program) in (it / "cmdline").read_text(encoding="utf-8").split("\0")[:2]:
+                found.append(int(it.name))
+    return found
 
 
 def wait_until(

@@ -1,4 +1,4 @@
-"""Who is in the hall, which the server tells who asks alone."""
+"""Who is in the hall, and what they play, which the server tells who asks alone."""
 
 from ficslink.lines import GameListed, Player
 from ficslink.member import Member
@@ -6,9 +6,9 @@ from ficslink.member import Member
 from .journal import say
 
 
-class Hall:
-    """The members in the hall as they were asked for last. Where it tells, each who comes or goes has a line of the
-    log, and each game of others that begins or ends."""
+class Visitors:
+    """The other members as they were asked for last. Where it tells, each who comes or goes has a line of the log, and
+    each game of theirs that begins or ends."""
 
     def __init__(self, member: Member, tells: bool) -> None:
         self.member, self.tells = member, tells
@@ -25,6 +25,10 @@ class Hall:
                 say(f"{who} has gone")
             await self.look_at_games()
         self.players = players
+
+    def is_there(self, who: str) -> bool:
+        """Whether somebody is in; capitals make no difference."""
+        return who.lower() in map(str.lower, self.players)
 
     async def look_at_games(self) -> None:
         """Asks for the games of others."""

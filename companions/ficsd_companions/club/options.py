@@ -1,12 +1,12 @@
-"""The words of the command line."""
+"""The command line."""
 
 import argparse
-import re
 from dataclasses import dataclass
 from pathlib import Path
 
+from ficsd_companions.cli.words import MOST_PORT, count
+
 PAGE_BEHIND = 2  # the page's port is so far behind the server's
-MOST_PORT = 65535 - PAGE_BEHIND
 EPILOG = """It ends at Ctrl-C, or with the server. Statuses: 0 it was told to end; 1 something that it needs isn't
 there, or the server or House has ended; 2 other words than these. docs/OPERATING.md says more."""
 
@@ -25,13 +25,6 @@ class Chosen:
     def page_port(self) -> int:
         """The port for browsers."""
         return self.port + PAGE_BEHIND
-
-
-def port(word: str) -> int:
-    """A port behind which that of the page has room."""
-    if not re.fullmatch(r"[1-9]\d{0,4}", word) or int(word) > MOST_PORT:
-        raise argparse.ArgumentTypeError(f"a port is a number from 1 to {MOST_PORT}")
-    return int(word)
 
 
 def store(word: str) -> Path:
@@ -53,19 +46,37 @@ def program(word: str) -> Path:
 def chosen(arguments: list[str]) -> Chosen:
     """What the words choose; ends with status 2 where they are others."""
     words = argparse.ArgumentParser(
-        prog="./club", epilog=EPILOG,
-        description="A club in one terminal: a chess server, its page for browsers, and House, a program to play.")
+        prog="./club",
+        epilog=EPILOG,
+        description="A club in one terminal: a chess server, its page for browsers, and House, a program to play.",
+    )
     add = words.add_argument
-    add("--port", type=port, default=5000, metavar="P",
-        help="the server's port, 5000 where it is left out; the page has the second one behind it")
-    add("--store", type=store, metavar="FILE",
-        help="keeps accounts and adjourned games in that file, from one evening to the next")
-    add("--engine", default="house:3", metavar="ENGINE",
+    add(
+        "--port",
+        type=count(MOST_PORT - PAGE_BEHIND),
+        default=5000,
+        metavar="P",
+        help="the server's port, 5000 where it is left out; the page has the second one behind it",
+    )
+    add(
+        "--store",
+        type=store,
+        metavar="FILE",
+        help="keeps accounts and adjourned games in that file, from one evening to the next",
+    )
+    add(
+        "--engine",
+        default="house:3",
+        metavar="ENGINE",
         help="by what House plays: house:1 to house:4, the server's own search so many half-moves ahead, or an engine "
-             "that speaks UCI, as stockfish")
+        "that speaks UCI, as stockfish",
+    )
     built = words.add_mutually_exclusive_group()
-    built.add_argument("--unproved", action="store_true",
-                       help="serves before any proof, after some minutes; for a first look")
+    built.add_argument(
+        "--unproved",
+        action="store_true",
+        dest="is_unproved",
+        help="serves before any proof, after some minutes; for a first look",
+    )
     built.add_argument("--program", type=program, metavar="FILE", help="serves by a program that was built elsewhere")
-    read = words.parse_args(arguments)
-    return Chosen(read.port, read.store, read.engine, read.unproved, read.program)
+    return Chosen(**vars(words.parse_args(arguments)))

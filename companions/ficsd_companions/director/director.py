@@ -4,24 +4,25 @@ import asyncio
 import logging
 import time
 from datetime import datetime
+from pathlib import Path
 
 from ficslink import lines
 from ficslink.errors import LinkError, NoServer, RefusalError
-from ficslink.refusals import WAITABLE
 from ficslink.events import CameAgain, Ended, LinkLost
 from ficslink.member import Member
+from ficslink.refusals import WAITABLE
 
 from . import due, games, talk
 from .answers import Answers
 from .evening import BadFile, Row
 from .ledger import Ledger
 from .open_round import OpenRound
-from .words import Chosen
+from .options import Chosen
 
 logger = logging.getLogger("fics_director")
 LONGEST_PAUSE = 60.0
 CALM = 0.5  # seconds between two looks at who is there, and between two while no round is open
-ARCHIVE_SECONDS = 2.0  # in which the last game stands in the archive
+ARCHIVE_SECONDS = 30.0  # in which a game that has just ended stands in the archive
 
 
 class Fault(Exception):
@@ -170,8 +171,11 @@ class Director:
         if self.chosen.pgn:
             games.begin(self.chosen.pgn)
         await self.ledger.add("start")
-        await self.announce(f"The round robin begins. {talk.terms_of(self.chosen.terms)}, "
-                            f"rounds: {len(self.ledger.evening.rounds)}.", *talk.joined(self.ledger.evening))
+        await self.announce(
+            f"The round robin begins. {talk.terms_of(self.chosen.terms)}, "
+            f"rounds: {len(self.ledger.evening.rounds)}.",
+            *talk.joined(self.ledger.evening),
+        )
 
     async def _open(self, number: int) -> None:
         await self.ledger.add(f"round {number}")
@@ -192,6 +196,11 @@ class Director:
         for player in evening.players:
             await self.tell(player, *said)
         if self.chosen.pgn and self.chosen.archive:
-            await asyncio.sleep(ARCHIVE_SECONDS)
-            count = games.write(self.chosen.pgn, self.chosen.archive, evening)
-            logger.info("%d games stand in %s", count, self.chosen.pgn)
+            await self._write_games(self.chosen.pgn, self.chosen.archive)
+
+    async def _write_games(self, file: Path, archive: Path) -> None:
+        """Writes the games, once the archive has all that were watched, or won't have them."""
+        evening, deadline = self.ledger.evening, time.monotonic() + ARCHIVE_SECONDS
+        while time.monotonic() < deadline and not games.are_there(file, archive, evening, self.round.seen):
+            await asyncio.sleep(CALM)
+        logger.info("%d games stand in %s", games.write(file, archive, evening), file)

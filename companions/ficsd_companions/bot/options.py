@@ -1,16 +1,17 @@
-"""The words of the command line."""
+"""The command line."""
 
 import argparse
 import re
-from collections.abc import Callable
 from dataclasses import dataclass
 from pathlib import Path
+
+from ficsd_companions.cli.words import Address, address, count, handle
 
 from .terms import VARIANTS, Span, Terms, Wanted
 
 HOUSE = re.compile(r"house(?::([1-4]))?")
-NAME = re.compile(r"[A-Za-z]{3,17}")
 MOST_GAMES = 32
+MOST_SEEKS = 3
 DEPTH = 3  # of the house's search
 EPILOG = """Statuses: 0 it has left, as SIGTERM or Ctrl-C told it; 1 the server isn't there, is full, or was lost and
 didn't come back; 2 other words than these, no such engine, or a password file that can't be used; 3 the name can't be
@@ -21,24 +22,23 @@ had: somebody has it, or it has an account and the password is another one."""
 class Chosen:
     """What the operator has chosen."""
 
-    host: str
-    port: int
+    server: Address
     name: str
     engine: str | None  # of UCI; none where the house plays
     depth: int
-    settings: tuple[tuple[str, str], ...]
+    option: list[tuple[str, str]]
     program: Path | None
     variants: tuple[str, ...] | None
     minutes: Span
     increments: Span
     most: int
-    seeks: tuple[Wanted, ...]
+    seek: list[Wanted]
     challenge: tuple[str, Wanted] | None
     take: int | None
     password: Path | None
     games: Path | None
-    grace: float
-    patience: float
+    grace: int
+    patience: int
     hall: bool
     count: int | None
 
@@ -47,19 +47,11 @@ class Chosen:
         return Terms(variants, self.minutes, self.increments, self.most)
 
 
-def place(word: str) -> tuple[str, int]:
-    """HOST:PORT."""
-    host, _, number = word.rpartition(":")
-    if not host or not re.fullmatch(r"[1-9]\d{0,4}", number) or int(number) > 65535:
-        raise argparse.ArgumentTypeError("a server is HOST:PORT, with a port from 1 to 65535")
-    return host.removeprefix("[").removesuffix("]"), int(number)
-
-
 def name(word: str) -> str:
-    """A handle."""
-    if not NAME.fullmatch(word) or word.lower() == "guest":
-        raise argparse.ArgumentTypeError("a name has 3 to 17 letters, and isn't guest")
-    return word
+    """A handle that isn't that of a guest."""
+    if word.lower() == "guest":
+        raise argparse.ArgumentTypeError("guest is no name of one's own")
+    return handle(word)
 
 
 def variants(word: str) -> tuple[str, ...]:
@@ -77,15 +69,6 @@ def span(word: str) -> Span:
     if not least <= most <= 600:
         raise argparse.ArgumentTypeError("that is N..M, or N alone, from 0 to 600")
     return Span(least, most)
-
-
-def whole(least: int, most: int) -> Callable[[str], int]:
-    """The reader of a whole number within bounds."""
-    def read(word: str) -> int:
-        if not re.fullmatch(r"\d{1,6}", word) or not least <= int(word) <= most:
-            raise argparse.ArgumentTypeError(f"that is a number from {least} to {most}")
-        return int(word)
-    return read
 
 
 def game(word: str) -> Wanted:
@@ -110,46 +93,121 @@ def setting(word: str) -> tuple[str, str]:
     return option.strip(), value.strip()
 
 
+def add_engine(words: argparse.ArgumentParser) -> None:
+    """The words of who thinks."""
+    add = words.add_argument
+    add(
+        "--engine",
+        default="house:3",
+        metavar="ENGINE",
+        help="house:D, the server's own search D half-moves ahead, 1 to 4 (house:3 where it is left out); or an engine "
+        "that speaks UCI, by its name on the PATH or in /usr/games, or by its file",
+    )
+    add(
+        "--option",
+        type=setting,
+        action="append",
+        default=[],
+        metavar="NAME=VALUE",
+        help='an option of the engine, as "Skill Level=3" or UCI_Elo=1500; may stand again',
+    )
+    add(
+        "--program",
+        type=Path,
+        metavar="FILE",
+        help="the server's program, for the house's search: the one that was installed or built beside this one "
+        "where it is left out",
+    )
+
+
+def add_games(words: argparse.ArgumentParser) -> None:
+    """The words of what it plays, and how it gets games."""
+    add = words.add_argument
+    add(
+        "--variants",
+        type=variants,
+        metavar="LIST",
+        help="what it plays, of chess, crazyhouse and fischer; all that its engine can where it is left out",
+    )
+    add("--minutes", type=span, default=Span(1, 30), metavar="N..M", help="1..30 where it is left out")
+    add("--increments", type=span, default=Span(0, 30), metavar="N..M", help="seconds, 0..30 where it is left out")
+    add(
+        "--most",
+        type=count(MOST_GAMES),
+        default=4,
+        metavar="N",
+        help=f"how many games it plays at a time, up to {MOST_GAMES}; 4 where it is left out",
+    )
+    add(
+        "--seek",
+        type=game,
+        action="append",
+        default=[],
+        metavar="TERMS",
+        help='seeks such a game whenever it is free, as "5 0" or "5 0 fischer", which is any array; may stand up to '
+        "three times",
+    )
+    add(
+        "--challenge",
+        type=challenge,
+        metavar="NAME TERMS",
+        help='challenges that member whenever both are free, as "Ann 5 0"',
+    )
+    add(
+        "--take",
+        type=count(3600, least=0),
+        metavar="SECONDS",
+        help="takes seeks that its words allow and that nobody else has taken for so long; none where it is left out",
+    )
+
+
+def add_stay(words: argparse.ArgumentParser) -> None:
+    """The words of its account, and of how long it stays."""
+    add = words.add_argument
+    add(
+        "--password",
+        type=Path,
+        metavar="FILE",
+        help="the password of its account, in a file that only its user reads; where there is no such file it is "
+        "made, and the account too",
+    )
+    add(
+        "--games",
+        type=Path,
+        metavar="FILE",
+        help="where it keeps the half-moves of its games, so that it can go on with adjourned ones",
+    )
+    add(
+        "--grace",
+        type=count(3600, least=0),
+        default=60,
+        metavar="SECONDS",
+        help="how long it stays behind SIGTERM for games that can't be adjourned; 60 where it is left out",
+    )
+    add(
+        "--patience",
+        type=count(86400, least=0),
+        default=120,
+        metavar="SECONDS",
+        help="how long it tries to come again behind a lost link; 120 where it is left out",
+    )
+    add("--hall", action="store_true", help="logs who comes and goes, and the games of others too")
+    add("--count", type=count(999_999), metavar="N", help="leaves behind so many games")
+
+
 def parser() -> argparse.ArgumentParser:
     """The reader of the words."""
     words = argparse.ArgumentParser(
-        prog="fics_bot", description="An engine that is a member of a server: it plays whoever challenges it.",
-        epilog=EPILOG)
+        prog="fics_bot",
+        description="An engine that is a member of a server: it plays whoever challenges it.",
+        epilog=EPILOG,
+    )
     add = words.add_argument
-    add("--server", type=place, required=True, metavar="HOST:PORT", help="the server, as localhost:5000")
+    add("--server", type=address, required=True, metavar="HOST:PORT", help="the server, as localhost:5000")
     add("--name", type=name, required=True, help="its name there")
-    add("--engine", default="house:3", metavar="ENGINE",
-        help="house:D, the server's own search D half-moves ahead, 1 to 4 (house:3 where it is left out); or an engine "
-             "that speaks UCI, by its name on the PATH or in /usr/games, or by its file")
-    add("--option", type=setting, action="append", default=[], metavar="NAME=VALUE",
-        help='an option of the engine, as "Skill Level=3" or UCI_Elo=1500; may stand again')
-    add("--program", type=Path, metavar="FILE",
-        help="the server's program, for the house's search: the one that was installed or built beside this one "
-             "where it is left out")
-    add("--variants", type=variants, metavar="LIST",
-        help="what it plays, of chess, crazyhouse and fischer; all that its engine can where it is left out")
-    add("--minutes", type=span, default=Span(1, 30), metavar="N..M", help="1..30 where it is left out")
-    add("--increments", type=span, default=Span(0, 30), metavar="N..M", help="seconds, 0..30 where it is left out")
-    add("--most", type=whole(1, MOST_GAMES), default=4, metavar="N",
-        help=f"how many games it plays at a time, up to {MOST_GAMES}; 4 where it is left out")
-    add("--seek", type=game, action="append", default=[], metavar="TERMS",
-        help='seeks such a game whenever it is free, as "5 0" or "5 0 fischer", which is any array; may stand up to '
-             "three times")
-    add("--challenge", type=challenge, metavar="NAME TERMS",
-        help='challenges that member whenever both are free, as "Ann 5 0"')
-    add("--take", type=whole(0, 3600), metavar="SECONDS",
-        help="takes seeks that its words allow and that nobody else has taken for so long; none where it is left out")
-    add("--password", type=Path, metavar="FILE",
-        help="the password of its account, in a file that only its user reads; where there is no such file it is "
-             "made, and the account too")
-    add("--games", type=Path, metavar="FILE",
-        help="where it keeps the half-moves of its games, so that it can go on with adjourned ones")
-    add("--grace", type=whole(0, 3600), default=60, metavar="SECONDS",
-        help="how long it stays behind SIGTERM for games that can't be adjourned; 60 where it is left out")
-    add("--patience", type=whole(0, 86400), default=120, metavar="SECONDS",
-        help="how long it tries to come again behind a lost link; 120 where it is left out")
-    add("--hall", action="store_true", help="logs who comes and goes, and the games of others too")
-    add("--count", type=whole(1, 999999), metavar="N", help="leaves behind so many games")
+    add_engine(words)
+    add_games(words)
+    add_stay(words)
     return words
 
 
@@ -160,11 +218,7 @@ def chosen(arguments: list[str]) -> Chosen:
     house = HOUSE.fullmatch(read.engine)
     if house and read.option:
         words.error("the house has no options; its depth stands behind it, as house:2")
-    if len(read.seek) > 3:
+    if len(read.seek) > MOST_SEEKS:
         words.error("there are three seeks at most")
-    host, port = read.server
-    engine, depth = (None, int(house[1] or DEPTH)) if house else (read.engine, DEPTH)
-    return Chosen(host, port, read.name, engine, depth,
-                  tuple(read.option), read.program, read.variants, read.minutes, read.increments, read.most,
-                  tuple(read.seek), read.challenge, read.take, read.password, read.games, read.grace, read.patience,
-                  read.hall, read.count)
+    read.engine, read.depth = (None, int(house[1] or DEPTH)) if house else (read.engine, DEPTH)
+    return Chosen(**vars(read))

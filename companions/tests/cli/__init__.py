@@ -1,0 +1,1 @@
+"""Tests of what the command lines of the programs share."""
