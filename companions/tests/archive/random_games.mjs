@@ -1,13 +1,13 @@
 /** Makes games of random moves, each as a script for `ficsd replay`: `random_games.mjs SEED COUNT` prints a row of
  * JSON for each, { variant, script }. The moves are those that the page shows as allowed; what is none the server refuses. */
 
-import { page } from "../web_modules/page.mjs";
-import { shownMoves } from "../web_modules/played_on.mjs";
+import { page } from "../page/modules/page.mjs";
+import { shownMoves } from "../page/modules/played_on.mjs";
 
-const legal = await page("legal.js");
+const legal = await page("game/legal.js");
 const { positionOfFen, usualPosition } = await page("archive/fen_read.js");
 const { behind, handsWith } = await page("archive/replay.js");
-const { arrayOf } = await page("fischer.js");
+const { arrayOf } = await page("game/fischer.js");
 
 const VARIANTS = ["chess", "crazyhouse", "fischer", "bughouse"];
 const MOST = 120; // half-moves of a board

@@ -3,7 +3,7 @@
 
 import { createInterface } from "node:readline";
 
-import { page } from "../web_modules/page.mjs";
+import { page } from "../page/modules/page.mjs";
 
 const { archivedGame, archivedPair } = await page("archive/game.js");
 

@@ -29,7 +29,7 @@ class ComingIn(Evening):
         path.write_text(change(path.read_text()))
 
     def test_who_enters_before_the_page_has_begun(self):
-        self.write("lines.js", lambda text: SLOWLY + text)
+        self.write("link/lines.js", lambda text: SLOWLY + text)
         ann = self.window("Ann", enters=False, path="/icon.svg")
         ann.script("setTimeout(() => location.assign(arguments[0]), 0)", self.go_between.address())
         ann.enter()
