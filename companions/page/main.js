@@ -5,34 +5,34 @@
  * is done there, `lobby.js` and `talk.js` are the other two views, `texts.js` has the words, and each other file is a
  * part of the page. */
 
-import { listenForActs } from "./acts.js";
-import { Alerts } from "./alerts.js";
+import { listenForActs } from "./shell/acts.js";
+import { Alerts } from "./member/alerts.js";
 import { ArchiveLinks } from "./archive/links.js";
-import { BoardView } from "./board_view.js";
-import { closeBoxes, listenForBoxes, openBy } from "./boxes.js";
-import { PartnerTalk } from "./bughouse.js";
-import { Calls } from "./calls.js";
-import { CommandLine } from "./command_line.js";
-import { listenForRefusals } from "./complaints.js";
-import { takeInDrawings } from "./drawings.js";
-import { Games } from "./games.js";
-import { Lobby } from "./lobby.js";
-import { Login } from "./login.js";
-import { listenForLooks, takeUpLooks } from "./looks.js";
-import { ask, byId, onClick, tellMember } from "./page.js";
-import { Partner } from "./partner.js";
-import { Play } from "./play.js";
-import { browserStore, listenForPreferences, Preferences } from "./preferences.js";
-import { Session } from "./session.js";
-import { Settings } from "./settings.js";
-import { Simul } from "./simul.js";
-import { SmallGames } from "./small_games.js";
-import { Sounds } from "./sounds.js";
-import { Talk } from "./talk.js";
-import { listenForTerms } from "./terms_form.js";
-import { onLanguage } from "./texts.js";
-import { Following, listenForViews, showView } from "./views.js";
-import { endInWords, keptPage, tabStore, WayBack } from "./way_back.js";
+import { BoardView } from "./board/board_view.js";
+import { closeBoxes, listenForBoxes, openBy } from "./shell/boxes.js";
+import { PartnerTalk } from "./talk/partner_talk.js";
+import { Calls } from "./lobby/calls.js";
+import { CommandLine } from "./talk/command_line.js";
+import { listenForRefusals } from "./shell/complaints.js";
+import { takeInDrawings } from "./shell/drawings.js";
+import { Games } from "./game/games.js";
+import { Lobby } from "./lobby/lobby.js";
+import { Login } from "./member/login.js";
+import { listenForLooks, takeUpLooks } from "./member/looks.js";
+import { ask, byId, onClick, tellMember } from "./shell/elements.js";
+import { Partner } from "./lobby/partner.js";
+import { Play } from "./board/play.js";
+import { browserStore, listenForPreferences, Preferences } from "./member/preferences.js";
+import { Session } from "./link/session.js";
+import { Settings } from "./member/settings.js";
+import { Simul } from "./lobby/simul.js";
+import { SmallGames } from "./lobby/small_games.js";
+import { Sounds } from "./member/sounds.js";
+import { Talk } from "./talk/talk.js";
+import { listenForTerms } from "./lobby/terms_form.js";
+import { onLanguage } from "./shell/texts.js";
+import { Following, listenForViews, showView } from "./shell/views.js";
+import { endInWords, keptPage, tabStore, WayBack } from "./link/way_back.js";
 
 const INSIDE = ["ways", "lobby", "talk", "commands-open", "leave", "member-settings"];
 

@@ -1,7 +1,7 @@
 /** A position from a FEN, as `fics_scribe` writes it: with hands in brackets, `~` behind men that came by promotion,
  * and the files of rooks for the rights to castle where king and rooks don't begin as in chess. */
 
-import { arrayOf, ARRAYS, USUAL } from "../fischer.js";
+import { arrayOf, ARRAYS, USUAL } from "../game/fischer.js";
 
 const FILES = "abcdefgh";
 const USUAL_HOMES = { king: "e", short: "h", long: "a" };

@@ -1,8 +1,8 @@
 /** A game of the archive as the page's own tables show one: each half-move's place with its clocks and hands. Of a pair
  * each place also has what stood at the other board at that moment. */
 
-import { Game } from "../game.js";
-import { Terms } from "../terms.js";
+import { Game } from "../game/game.js";
+import { Terms } from "../game/terms.js";
 import { arrayOfPosition, positionOfFen, usualPosition } from "./fen_read.js";
 import { controlOf, gameOf, orderOf } from "./pgn_read.js";
 import { handsWith, played } from "./replay.js";

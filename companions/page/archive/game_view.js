@@ -1,12 +1,12 @@
 /** A game of the archive at the page's own board: back and forth in it, its PGN, and what stands beside it. */
 
-import { Keys } from "../keys.js";
-import { MovesList } from "../moves_list.js";
-import { byId, onClick, tellMember } from "../page.js";
-import { copy } from "../pgn_view.js";
-import { Table } from "../table.js";
-import { onLanguage, t } from "../texts.js";
-import { reasonInWords } from "../words.js";
+import { Keys } from "../board/keys.js";
+import { MovesList } from "../board/moves_list.js";
+import { byId, onClick, tellMember } from "../shell/elements.js";
+import { copy } from "../board/pgn_view.js";
+import { Table } from "../board/table.js";
+import { onLanguage, t } from "../shell/texts.js";
+import { reasonInWords } from "../game/state_words.js";
 import { gameAddress, pgnAddress, TOP } from "./addresses.js";
 import { archivedGame, archivedPair } from "./game.js";
 import { dayInWords, playerLink, resultOf } from "./rows.js";

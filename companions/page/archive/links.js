@@ -1,7 +1,7 @@
 /** The ways from the club's page to the archive, where the go-between has one: from the lobby, and from a game that is
  * over. */
 
-import { byId } from "../page.js";
+import { byId } from "../shell/elements.js";
 import { lastAddress } from "./addresses.js";
 
 export class ArchiveLinks {

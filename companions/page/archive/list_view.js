@@ -1,7 +1,7 @@
 /** Lists of games: the newest ones, those that were looked for, of a day, of a player. */
 
-import { byId, onSubmit } from "../page.js";
-import { onLanguage, t } from "../texts.js";
+import { byId, onSubmit } from "../shell/elements.js";
+import { onLanguage, t } from "../shell/texts.js";
 import { olderAddress, TOP } from "./addresses.js";
 import { dayInWords, dayRow, gameRow, playerRow, tallyRow, variantInWords } from "./rows.js";
 

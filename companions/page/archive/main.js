@@ -1,10 +1,10 @@
 /** The page of the archive: what its address names is asked for, and shown as a list or as a game. Nothing here has a
  * link of the server. */
 
-import { listenForBoxes, openBy } from "../boxes.js";
-import { listenForLooks, takeUpLooks } from "../looks.js";
-import { byId } from "../page.js";
-import { onLanguage, t } from "../texts.js";
+import { listenForBoxes, openBy } from "../shell/boxes.js";
+import { listenForLooks, takeUpLooks } from "../member/looks.js";
+import { byId } from "../shell/elements.js";
+import { onLanguage, t } from "../shell/texts.js";
 import { dataOf, placeOf } from "./addresses.js";
 import { GameView } from "./game_view.js";
 import { ListView } from "./list_view.js";

@@ -1,7 +1,7 @@
 /** Half-moves by their short form, played on a position. What a captured man becomes in a hand is told apart, since in
  * bughouse that hand is at the other board. */
 
-import { dropTargets, menAfter, targets } from "../legal.js";
+import { dropTargets, menAfter, targets } from "../game/legal.js";
 
 const CASTLING = /^(?:O-O(-O)?)[+#]?$/;
 const DROP = /^([PNBRQ])?@([a-h][1-8])[+#]?$/;

@@ -1,8 +1,8 @@
 /** The rows of the archive's lists. All that comes from the archive goes in as text, and never as HTML. */
 
-import { element } from "../page.js";
-import { Terms } from "../terms.js";
-import { language, t } from "../texts.js";
+import { element } from "../shell/elements.js";
+import { Terms } from "../game/terms.js";
+import { language, t } from "../shell/texts.js";
 import { gameAddress, playerAddress, TOP } from "./addresses.js";
 import { controlOf } from "./pgn_read.js";
 
