@@ -7,18 +7,22 @@ import { t } from "../shell/texts.js";
 const SVG = "http://www.w3.org/2000/svg";
 const RIGHT = 2;
 
+/** @param {EventTarget | null} element */
 function squareAt(element) {
-  return element?.closest?.("[data-square]")?.dataset.square ?? "";
+  const square = element instanceof Element ? element.closest("[data-square]") : null;
+  return square instanceof HTMLElement ? square.dataset.square ?? "" : "";
 }
 
+/** @param {string} name @param {Record<string, string | number>} attributes */
 function shape(name, attributes) {
   const made = document.createElementNS(SVG, name);
-  Object.entries(attributes).forEach(([key, value]) => made.setAttribute(key, value));
+  Object.entries(attributes).forEach(([key, value]) => made.setAttribute(key, String(value)));
   return made;
 }
 
 export class Arrows {
-  /** `changed` is called once something else is drawn. */
+  /** `changed` is called once something else is drawn.
+   * @param {Board} board @param {() => void} changed */
   constructor(board, changed) {
     this.board = board;
     this.changed = changed;
@@ -34,11 +38,13 @@ export class Arrows {
     root.addEventListener("click", (event) => event.button === 0 && this.clear());
   }
 
+  /** @param {PointerEvent} event */
   press(event) {
     const from = squareAt(event.target);
     if (event.button !== RIGHT || !from) {
       return;
     }
+    /** @param {PointerEvent} it */
     const stop = (it) => {
       window.removeEventListener("pointerup", stop);
       window.removeEventListener("pointercancel", stop);
@@ -51,7 +57,8 @@ export class Arrows {
     window.addEventListener("pointercancel", stop);
   }
 
-  /** Shift and Enter on a square begin one, and on the next square end it. */
+  /** Shift and Enter on a square begin one, and on the next square end it.
+   * @param {KeyboardEvent} event */
   key(event) {
     const square = squareAt(event.target);
     if (event.key === "Enter" && event.shiftKey && square) {
@@ -66,6 +73,7 @@ export class Arrows {
     }
   }
 
+  /** @param {string} from @param {string} to @param {Keys} keys */
   add(from, to, keys) {
     this.from = "";
     this.drawn.toggle(from, to, colourBy(keys));
@@ -80,7 +88,8 @@ export class Arrows {
     }
   }
 
-  /** Shows what is drawn on a position, which its text tells from others. */
+  /** Shows what is drawn on a position, which its text tells from others.
+   * @param {string} position */
   show(position) {
     if (position !== this.position) {
       this.position = position;
@@ -90,6 +99,7 @@ export class Arrows {
     this.layer.replaceChildren(...this.drawn.shapes.map((it) => this.shape(it)));
   }
 
+  /** @param {Shape} drawn */
   shape({ from, to, colour }) {
     const [start, end] = [this.board.placeOf(from), this.board.placeOf(to)];
     return from === to ? shape("circle", { cx: start.x + 0.5, cy: start.y + 0.5, r: 0.44, class: `circle ${colour}` })
@@ -98,6 +108,7 @@ export class Arrows {
 
   /** Of each square that has something drawn, what a screen reader says of it. */
   get names() {
+    /** @type {Record<string, string>} */
     const names = {};
     for (const { from, to } of this.drawn.shapes) {
       const text = from === to ? t("square.circled") : t("square.arrow", { to });

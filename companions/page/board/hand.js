@@ -6,9 +6,11 @@ import { t } from "../shell/texts.js";
 const ORDER = "PNBRQ";
 
 export class Hand {
+  /** @param {HTMLElement} root */
   constructor(root) {
     this.root = root;
     root.className = "hand";
+    /** @type {Record<string, HTMLButtonElement>} */
     this.buttons = {};
     this.key = "";
     for (const kind of ORDER) {
@@ -20,7 +22,13 @@ export class Hand {
     root.append(...Object.values(this.buttons));
   }
 
-  /** Shows the letters of a hand, or that it isn't known; `chosen` is the kind that is to be dropped. */
+  /** The next time all is named anew, in another language. */
+  rename() {
+    this.key = "";
+  }
+
+  /** Shows the letters of a hand, or that it isn't known; `chosen` is the kind that is to be dropped.
+   * @param {Colour} colour @param {string | null} letters @param {string} chosen */
   show(colour, letters, chosen) {
     const key = `${colour} ${letters} ${chosen}`;
     if (key === this.key) {
@@ -36,7 +44,7 @@ export class Hand {
       const number = document.createElement("span");
       number.className = "count";
       number.textContent = letters === null ? "?" : String(count);
-      button.dataset.count = count;
+      button.dataset.count = String(count);
       button.classList.toggle("none", count === 0);
       button.setAttribute("aria-pressed", String(chosen === kind));
       const said = letters === null ? "hand.kind-unknown" : "hand.kind";

@@ -6,9 +6,11 @@ const NAMES = [
   "ptell", "quit", "refresh", "register", "resign", "resume", "seek", "set", "shout", "simnext", "simopen", "simprev",
   "sought", "stored", "style", "takeback", "tell", "unalias", "unobserve", "unseek", "who", "withdraw",
 ];
+/** @type {Record<string, string>} */
 const SHORT = { a: "accept", k: "kibitz", m: "match", o: "observe", t: "tell" };
 
-/** The whole name of the command that a line begins with, or nothing where it is none. */
+/** The whole name of the command that a line begins with, or nothing where it is none.
+ * @param {string} line */
 export function commandOf(line) {
   const word = line.trim().split(/ +/)[0].toLowerCase();
   if (!word || NAMES.includes(word)) {

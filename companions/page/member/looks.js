@@ -7,7 +7,8 @@ import { LANGUAGES, language, preferred, speak } from "../shell/texts.js";
 const CHOICES = { theme: ["auto", "light", "dark"], board: ["meadow", "wood"], men: ["turned", "plain"] };
 const SAMPLE = ["rnbqkbnr", "RNBQKBNR"];
 
-/** What the browser remembers; nothing where it is told to remember nothing. */
+/** What the browser remembers; nothing where it is told to remember nothing.
+ * @param {string} name */
 function remembered(name) {
   try {
     return localStorage.getItem(name);
@@ -16,6 +17,7 @@ function remembered(name) {
   }
 }
 
+/** @param {string} name @param {string} value */
 function remember(name, value) {
   try {
     localStorage.setItem(name, value);
@@ -24,6 +26,7 @@ function remember(name, value) {
   }
 }
 
+/** @param {string} name @param {string} value */
 function apply(name, value) {
   document.documentElement.dataset[name] = value;
 }
@@ -32,13 +35,14 @@ function apply(name, value) {
 export async function takeUpLooks() {
   for (const [name, values] of Object.entries(CHOICES)) {
     const before = remembered(name);
-    apply(name, values.includes(before) ? before : values[0]);
+    apply(name, before !== null && values.includes(before) ? before : values[0]);
   }
   await speak(preferred(remembered("language")));
 }
 
+/** @param {string} name @param {(value: string) => void} chosen */
 function listen(name, chosen) {
-  const field = byId(`look-${name}`);
+  const field = /** @type {HTMLSelectElement} */ (byId(`look-${name}`));
   field.addEventListener("change", () => {
     remember(name, field.value);
     chosen(field.value);
@@ -49,7 +53,7 @@ function listen(name, chosen) {
 /** The fields in which it is chosen. */
 export function listenForLooks() {
   for (const name of Object.keys(CHOICES)) {
-    listen(name, (value) => apply(name, value)).value = document.documentElement.dataset[name];
+    listen(name, (value) => apply(name, value)).value = document.documentElement.dataset[name] ?? "";
   }
   const field = listen("language", speak);
   field.replaceChildren(...Object.entries(LANGUAGES).map(([code, name]) => new Option(name, code)));

@@ -18,7 +18,8 @@ export async function takeInDrawings() {
   }
 }
 
-/** What refers to a drawing. */
+/** What refers to a drawing.
+ * @param {string} name */
 export function drawingAt(name) {
   return document.getElementById(OWN + name) ? `#${OWN}${name}` : `${FILE}#${name}`;
 }
