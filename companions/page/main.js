@@ -18,7 +18,7 @@ import { takeInDrawings } from "./shell/drawings.js";
 import { Games } from "./game/games.js";
 import { Lobby } from "./lobby/lobby.js";
 import { Login } from "./member/login.js";
-import { listenForLooks, takeUpLooks } from "./member/looks.js";
+import { showLooks, takeUpLooks } from "./member/looks.js";
 import { ask, byId, onClick, onClickAt, tellMember } from "./shell/elements.js";
 import { Partner } from "./lobby/partner.js";
 import { Play } from "./board/play.js";
@@ -163,7 +163,7 @@ function start() {
 
 takeInDrawings();
 await takeUpLooks();
-listenForLooks();
+showLooks();
 listenForViews();
 listenForBoxes("settings", "terms");
 openBy("settings-open", "settings");

@@ -488,10 +488,6 @@ interface Elements {
   "login-form": HTMLFormElement;
   "login-name": HTMLInputElement;
   "login-password": HTMLInputElement;
-  "look-board": HTMLSelectElement;
-  "look-language": HTMLSelectElement;
-  "look-men": HTMLSelectElement;
-  "look-theme": HTMLSelectElement;
   match: HTMLButtonElement;
   "match-name": HTMLInputElement;
   minutes: HTMLInputElement;

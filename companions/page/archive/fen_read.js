@@ -64,7 +64,8 @@ export function positionOfFen(fen) {
   const [rows, held] = placement.split("[");
   const { men, promoted } = menOf(rows);
   return {
-    men, promoted, side: side === "b" ? "b" : "w", passed: passed === "-" ? "" : passed, hands: handsOf(held?.slice(0, -1)),
+    men, promoted, side: side === "b" ? "b" : "w", passed: passed === "-" ? "" : passed,
+    hands: handsOf(held?.slice(0, -1)),
     ...castlingOf(men, castling), ply: 2 * (Number(move) - 1) + (side === "b" ? 1 : 0),
   };
 }

@@ -2,7 +2,7 @@
  * link of the server. */
 
 import { listenForBoxes, openBy } from "../shell/boxes.js";
-import { listenForLooks, takeUpLooks } from "../member/looks.js";
+import { showLooks, takeUpLooks } from "../member/looks.js";
 import { byId } from "../shell/elements.js";
 import { onLanguage, t } from "../shell/texts.js";
 import { dataOf, placeOf } from "./addresses.js";
@@ -50,7 +50,7 @@ async function start() {
 }
 
 await takeUpLooks();
-listenForLooks();
+showLooks();
 listenForBoxes("settings");
 openBy("settings-open", "settings");
 await start();

@@ -96,7 +96,8 @@ function passedBy({ men }, { from = "", to = "" }) {
  * @param {ArchivedPosition} position @param {Move} move */
 function squaresOf({ side }, move) {
   const rank = side === "w" ? "1" : "8";
-  return move.castle ? Array.from(ENDS[move.castle], (file) => file + rank) : [move.from ?? "", move.to ?? ""].filter(Boolean);
+  return move.castle ? Array.from(ENDS[move.castle], (file) => file + rank)
+    : [move.from ?? "", move.to ?? ""].filter(Boolean);
 }
 
 /** What stands behind a move: the position, with the hands as before but for a drop, the squares to mark, and the man

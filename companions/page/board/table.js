@@ -49,8 +49,7 @@ class Plate {
 }
 
 export class Table {
-  /** `play` has what is done here, where the member may do anything: `move(game, from, to, becomes)` with both places of
-   * a move, each with a `square` or the kind to `drop`, and `withdraw(game)` of what waits for the member's turn.
+  /** `play` does what is done here, where the member may do anything.
    * @param {HTMLElement} root @param {BoardName} name @param {Play | null} [play] */
   constructor(root, name, play = null) {
     this.play = play;

@@ -15,7 +15,8 @@ export function reasonInWords(reason) {
 /** Who won, and why, as "Ben resigns: White wins, 1-0".
  * @param {Game} game */
 export function endInWords(game) {
-  return game.end ? t("game.ended", { reason: reasonInWords(game.end.reason), result: t(`result.${game.end.result}`) }) : "";
+  const { reason = "", result = "*" } = game.end ?? {};
+  return t("game.ended", { reason: reasonInWords(reason), result: t(`result.${result}`) });
 }
 
 /** @param {string} words */

@@ -50,7 +50,9 @@ export function openTerms(name = "") {
 function showKind() {
   const isFischer = byId("variant").value === "fischer";
   byId("fischer").disabled = !isFischer;
-  /** @type {NodeListOf<HTMLElement>} */ (document.querySelectorAll("#terms .of-fischer")).forEach((it) => { it.hidden = !isFischer; });
+  /** @type {NodeListOf<HTMLElement>} */
+  const ofFischer = document.querySelectorAll("#terms .of-fischer");
+  ofFischer.forEach((it) => { it.hidden = !isFischer; });
   showArray(byId("fischer-array"), whole("fischer"));
   byId("seek").disabled = byId("variant").value === "bughouse";
   const isChallenge = byId("match-name").value.trim() !== "" || byId("seek").disabled;

@@ -5,7 +5,8 @@ import { byId, element } from "../shell/elements.js";
 import { Terms } from "../game/terms.js";
 import { t } from "../shell/texts.js";
 
-const USUAL = [[1, 0], [2, 1], [3, 2], [5, 0], [5, 3], [10, 0], [15, 10]].map(([minutes, increment]) => new Terms(minutes, increment, "chess"));
+const USUAL = [[1, 0], [2, 1], [3, 2], [5, 0], [5, 3], [10, 0], [15, 10]]
+  .map(([minutes, increment]) => new Terms(minutes, increment, "chess"));
 
 /** @param {string} id @param {string} head @param {string} foot */
 function cellOf(id, head, foot) {

@@ -65,7 +65,8 @@ export class Sounds {
     }
   }
 
-  /** @param {AudioContext} context @param {number} frequency @param {number} begins @param {number} seconds @param {OscillatorType} form */
+  /** @param {AudioContext} context @param {number} frequency @param {number} begins @param {number} seconds
+   * @param {OscillatorType} form */
   tone(context, frequency, begins, seconds, form) {
     const start = context.currentTime + begins;
     const oscillator = context.createOscillator();

@@ -13,7 +13,7 @@ TABLES = "const tables = {}; for (const code of process.argv.slice(1)) { " \
     "tables[code] = (await import(`${process.cwd()}/${code}.mjs`)).TEXTS; } console.log(JSON.stringify(tables));"
 NAMED = (r'\bt\(\s*"([^"]+)"', r'data-t(?:-label|-placeholder|-title)?="([^"]+)"', r'"((?:[a-z-]+\.)[a-z-]+)" : "',
          r': "((?:[a-z-]+\.)[a-z-]+)"\)')
-BUILT = r"\bt\(\s*`([^`$]+)\$\{"  # the beginning of a key that ends in something else
+BUILT = r"\bt(?:\(\s*| = )`([^`$]+)\$\{"  # the beginning of a key that ends in something else
 
 
 def tables():
