@@ -1,9 +1,9 @@
 /** Lists of games: the newest ones, those that were looked for, of a day, of a player. */
 
-import { byId, onSubmit } from "../shell/elements.js";
+import { byId, element, onSubmit } from "../shell/elements.js";
 import { onLanguage, t } from "../shell/texts.js";
 import { olderAddress, TOP } from "./addresses.js";
-import { dayInWords, dayRow, gameRow, playerRow, tallyRow, variantInWords } from "./rows.js";
+import { dayInWords, dayRow, gameRow, link, playerRow, tallyRow, variantInWords } from "./rows.js";
 
 const VARIANTS = ["chess", "crazyhouse", "bughouse", "fischer"];
 const FIELDS = /** @type {const} */ (["name", "other", "variant", "result"]);
@@ -25,10 +25,7 @@ function tallyRows({ name, tally }) {
 
 /** @param {string} name @param {string} day */
 function dayLink(name, day) {
-  const link = document.createElement("a");
-  link.href = TOP + day;
-  link.textContent = t(name, { day: dayInWords(day) });
-  return link;
+  return link(TOP + day, t(name, { day: dayInWords(day) }));
 }
 
 export class ListView {
@@ -70,7 +67,7 @@ export class ListView {
     byId("list-title").textContent = this.listTitle();
     byId("games-list").replaceChildren(...games.map((it) => gameRow(it, kind !== "day")));
     if (!games.length) {
-      byId("games-list").append(Object.assign(document.createElement("li"), { textContent: t("archive.none") }));
+      byId("games-list").append(element("li", "", t("archive.none")));
     }
     byId("older").hidden = !hasMore;
     byId("older").href = hasMore ? olderAddress(location.pathname, location.search, games[games.length - 1].link) : "";

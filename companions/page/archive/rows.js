@@ -37,7 +37,7 @@ export function variantInWords(variant) {
 }
 
 /** @param {string} address @param {string} text */
-function link(address, text, className = "") {
+export function link(address, text, className = "") {
   const made = element("a", className, text);
   made.href = address;
   return made;

@@ -2,22 +2,15 @@
  * left click on the board takes them all away, and so does another position. */
 
 import { arrowCorners, colourBy, Drawn } from "./drawn.js";
+import { shape } from "../shell/elements.js";
 import { t } from "../shell/texts.js";
 
-const SVG = "http://www.w3.org/2000/svg";
 const RIGHT = 2;
 
 /** @param {EventTarget | null} element */
 function squareAt(element) {
   const square = element instanceof Element ? element.closest("[data-square]") : null;
   return square instanceof HTMLElement ? square.dataset.square ?? "" : "";
-}
-
-/** @param {string} name @param {Record<string, string | number>} attributes */
-function shape(name, attributes) {
-  const made = document.createElementNS(SVG, name);
-  Object.entries(attributes).forEach(([key, value]) => made.setAttribute(key, String(value)));
-  return made;
 }
 
 export class Arrows {

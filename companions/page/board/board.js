@@ -1,7 +1,7 @@
 /** A board of 64 squares, each a button with its man. By keyboard the arrows go from square to square. */
 
 import { drawing, manInWords } from "./men.js";
-import { around } from "../shell/elements.js";
+import { around, element } from "../shell/elements.js";
 import { t } from "../shell/texts.js";
 
 const FILES = "abcdefgh";
@@ -36,10 +36,8 @@ export class Board {
 
   /** @param {string} file @param {number} rank */
   square(file, rank) {
-    const button = document.createElement("button");
-    button.type = "button";
+    const button = element("button", (FILES.indexOf(file) + rank) % 2 ? "square dark" : "square light");
     button.dataset.square = file + rank;
-    button.className = (FILES.indexOf(file) + rank) % 2 ? "square dark" : "square light";
     button.tabIndex = file + rank === this.at ? 0 : -1;
     button.setAttribute("aria-label", file + rank);
     return button;

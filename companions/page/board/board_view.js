@@ -152,7 +152,6 @@ export class BoardView {
   /** @param {Game} game */
   choiceButton(game) {
     const button = element("button");
-    button.type = "button";
     button.dataset.game = String(game.number);
     return button;
   }

@@ -1,6 +1,7 @@
 /** The men in hand of one colour, each kind a button with its count. */
 
 import { drawing } from "./men.js";
+import { element } from "../shell/elements.js";
 import { t } from "../shell/texts.js";
 
 const ORDER = "PNBRQ";
@@ -14,8 +15,7 @@ export class Hand {
     this.buttons = {};
     this.key = "";
     for (const kind of ORDER) {
-      const button = document.createElement("button");
-      button.type = "button";
+      const button = element("button");
       button.dataset.drop = kind;
       this.buttons[kind] = button;
     }
@@ -41,9 +41,7 @@ export class Hand {
     this.root.setAttribute("aria-label", letters === null ? t("hand.unknown", { hand: name }) : name);
     for (const [kind, button] of Object.entries(this.buttons)) {
       const count = Array.from(letters ?? "").filter((it) => it === kind).length;
-      const number = document.createElement("span");
-      number.className = "count";
-      number.textContent = letters === null ? "?" : String(count);
+      const number = element("span", "count", letters === null ? "?" : String(count));
       button.dataset.count = String(count);
       button.classList.toggle("none", count === 0);
       button.setAttribute("aria-pressed", String(chosen === kind));

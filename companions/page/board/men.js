@@ -1,8 +1,8 @@
 /** The men in two sets, drawn for this page, in a square of 45 units. Each kind has its body, and lines upon it. */
 
+import { shape } from "../shell/elements.js";
 import { t } from "../shell/texts.js";
 
-const SVG = "http://www.w3.org/2000/svg";
 const FOOT = "M10.5 39v-2.6q0-2.4 2.4-2.4h19.2q2.4 0 2.4 2.4V39z";
 /** @type {Record<string, Drawing>} */
 const TURNED = {
@@ -74,29 +74,16 @@ const PLAIN = {
   },
 };
 
-/** @param {string} form @param {string} name */
-function path(form, name) {
-  const drawn = document.createElementNS(SVG, "path");
-  drawn.setAttribute("d", form);
-  drawn.setAttribute("class", name);
-  return drawn;
-}
-
 /** @param {string} name @param {Drawing} form */
 function group(name, { body, lines }) {
-  const made = document.createElementNS(SVG, "g");
-  made.setAttribute("class", name);
-  made.append(...body.map((it) => path(it, "body")), ...lines.map((it) => path(it, "line")));
-  return made;
+  return shape("g", { class: name }, ...body.map((it) => shape("path", { d: it, class: "body" })),
+    ...lines.map((it) => shape("path", { d: it, class: "line" })));
 }
 
 /** The drawing of a man, as of wN, in both sets; the style sheet shows one of them.
  * @param {string} man */
 export function drawing(man) {
-  const svg = document.createElementNS(SVG, "svg");
-  svg.setAttribute("viewBox", "0 0 45 45");
-  svg.setAttribute("class", `man ${man[0] === "w" ? "white" : "black"}`);
-  svg.setAttribute("aria-hidden", "true");
-  svg.append(...Object.entries({ turned: TURNED, plain: PLAIN }).map(([name, set]) => group(name, set[man[1]])));
-  return svg;
+  const [colour, kind] = man;
+  const attributes = { viewBox: "0 0 45 45", class: `man ${colour === "w" ? "white" : "black"}`, "aria-hidden": "true" };
+  return shape("svg", attributes, group("turned", TURNED[kind]), group("plain", PLAIN[kind]));
 }

@@ -84,7 +84,6 @@ export class MovesList {
       rows.set(move, row);
       row.value = move;
       const button = element("button", "", short);
-      button.type = "button";
       button.dataset.ply = String(ply);
       button.setAttribute("aria-label", t("moves.one", { move, colour: t(ply % 2 ? "white" : "black"), short }));
       row.append(ply % 2 === 0 && !row.children.length ? "… " : "", button);

@@ -1,7 +1,7 @@
 /** What a pawn becomes is chosen on the board, where the pawn goes: four men in the column of its square. */
 
 import { drawing } from "./men.js";
-import { around } from "../shell/elements.js";
+import { around, element } from "../shell/elements.js";
 import { t } from "../shell/texts.js";
 
 const CHOICES = ["q", "n", "r", "b"];
@@ -14,11 +14,9 @@ export class Promotion {
     this.board = board;
     /** @type {((kind: string) => void) | null} */
     this.answer = null; // of whoever waits for the choice
-    this.veil = document.createElement("div");
-    this.veil.className = "promotion-veil";
+    this.veil = element("div", "promotion-veil");
     this.veil.hidden = true;
-    this.box = document.createElement("div");
-    this.box.className = "promotion";
+    this.box = element("div", "promotion");
     this.box.setAttribute("role", "dialog");
     this.buttons = CHOICES.map((kind) => this.button(kind));
     this.box.append(...this.buttons);
@@ -34,8 +32,7 @@ export class Promotion {
 
   /** @param {string} kind */
   button(kind) {
-    const button = document.createElement("button");
-    button.type = "button";
+    const button = element("button");
     button.dataset.promote = kind;
     return button;
   }

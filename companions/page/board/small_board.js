@@ -1,6 +1,7 @@
 /** A small board that only shows: no square of it can be pressed, and a screen reader hears what stands beside it. */
 
 import { drawing } from "./men.js";
+import { element } from "../shell/elements.js";
 
 const FILES = 8;
 
@@ -13,8 +14,7 @@ export class SmallBoard {
     root.classList.add("small-board");
     root.style.setProperty("--ranks", String(ranks));
     for (let n = 0; n < ranks * FILES; n += 1) {
-      const square = document.createElement("span");
-      square.className = (n % FILES + Math.floor(n / FILES)) % 2 ? "dark" : "light";
+      const square = element("span", (n % FILES + Math.floor(n / FILES)) % 2 ? "dark" : "light");
       square.dataset.letter = "-";
       this.squares.push(square);
     }

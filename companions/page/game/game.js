@@ -210,6 +210,21 @@ export class Game {
       offers: this.offers.standing, places: places.map((it) => ({ line: it.board.line, hands: it.hands })),
     };
   }
+
+  /** Takes what an earlier page has kept of it.
+   * @param {KeptGame} kept */
+  restore(kept) {
+    this.hasTerms = kept.hasTerms;
+    this.role = kept.role;
+    for (const { line, hands } of kept.places) {
+      this.hands = hands;
+      this.add(/** @type {BoardLine} */ (boardOf(line)), false);
+    }
+    this.hands = kept.hands;
+    this.since = kept.since - performance.timeOrigin;
+    this.offers.restore(kept.offers);
+    this.end = kept.end;
+  }
 }
 
 /** The game that an earlier page has kept so.
@@ -217,15 +232,6 @@ export class Game {
 export function gameOf(kept) {
   const began = kept.began === null ? null : new Date(kept.began);
   const game = new Game(kept.number, kept.white, kept.black, Terms.parsed(kept.terms), began);
-  game.hasTerms = kept.hasTerms;
-  game.role = kept.role;
-  for (const { line, hands } of kept.places) {
-    game.hands = hands;
-    game.add(/** @type {BoardLine} */ (boardOf(line)), false);
-  }
-  game.hands = kept.hands;
-  game.since = kept.since - performance.timeOrigin;
-  game.offers.standing = kept.offers;
-  game.end = kept.end;
+  game.restore(kept);
   return game;
 }

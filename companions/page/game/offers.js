@@ -26,6 +26,12 @@ export class Offers {
     this.standing = [];
   }
 
+  /** Takes those that an earlier page has kept.
+   * @param {Offer[]} standing */
+  restore(standing) {
+    this.standing = standing;
+  }
+
   /** Who turns an offer down turns down the earliest one of another that it doesn't make too.
    * @param {string} who */
   declined(who) {

@@ -6,8 +6,9 @@ const NAMES = [
   "ptell", "quit", "refresh", "register", "resign", "resume", "seek", "set", "shout", "simnext", "simopen", "simprev",
   "sought", "stored", "style", "takeback", "tell", "unalias", "unobserve", "unseek", "who", "withdraw",
 ];
-/** @type {Record<string, string>} */
 const SHORT = { a: "accept", k: "kibitz", m: "match", o: "observe", t: "tell" };
+
+const BY_SHORT = new Map(Object.entries(SHORT));
 
 /** The whole name of the command that a line begins with, or nothing where it is none.
  * @param {string} line */
@@ -17,5 +18,5 @@ export function commandOf(line) {
     return word;
   }
   const fitting = NAMES.filter((it) => it.startsWith(word));
-  return SHORT[word] ?? (fitting.length === 1 ? fitting[0] : "");
+  return BY_SHORT.get(word) ?? (fitting.length === 1 ? fitting[0] : "");
 }

@@ -11,7 +11,6 @@ class Card {
   constructor() {
     this.row = element("li");
     this.button = element("button", "small-game");
-    this.button.type = "button";
     this.above = element("span", "player");
     const board = element("span", "miniature");
     this.board = new SmallBoard(board);

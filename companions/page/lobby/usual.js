@@ -11,7 +11,6 @@ const USUAL = [[1, 0], [2, 1], [3, 2], [5, 0], [5, 3], [10, 0], [15, 10]]
 /** @param {string} id @param {string} head @param {string} foot */
 function cellOf(id, head, foot) {
   const cell = element("button", "cell");
-  cell.type = "button";
   cell.id = id;
   cell.append(element("span", "time", head), element("span", "speed", foot));
   return cell;

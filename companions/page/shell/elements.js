@@ -57,22 +57,29 @@ export function forgetNotice(className) {
 /** One of the drawings of icons.svg.
  * @param {string} name */
 export function icon(name) {
-  const svg = document.createElementNS("http://www.w3.org/2000/svg", "svg");
-  const use = document.createElementNS(svg.namespaceURI, "use");
-  svg.setAttribute("class", "icon");
-  svg.setAttribute("aria-hidden", "true");
-  use.setAttribute("href", drawingAt(name));
-  svg.append(use);
-  return svg;
+  return shape("svg", { class: "icon", "aria-hidden": "true" }, shape("use", { href: drawingAt(name) }));
 }
 
-/** An element with a class and what it says.
+/** An element of a drawing, with its attributes and what it has in it.
+ * @template {keyof SVGElementTagNameMap} K
+ * @param {K} name @param {Record<string, string | number>} attributes @param {...Element} parts */
+export function shape(name, attributes, ...parts) {
+  const made = document.createElementNS("http://www.w3.org/2000/svg", name);
+  Object.entries(attributes).forEach(([key, value]) => made.setAttribute(key, String(value)));
+  made.append(...parts);
+  return made;
+}
+
+/** An element with a class and what it says; a button sends no form.
  * @template {keyof HTMLElementTagNameMap} K
  * @param {K} name */
 export function element(name, className = "", text = "") {
   const made = document.createElement(name);
   made.className = className;
   made.textContent = text;
+  if (made instanceof HTMLButtonElement) {
+    made.type = "button";
+  }
   return made;
 }
 

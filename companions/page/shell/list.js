@@ -10,9 +10,8 @@ const NAMED = /** @type {const} */ (["command", "at", "fill", "dismiss", "room",
 
 /** A button that says `label`, or shows a drawing in its place, or has parts as a row has.
  * @param {RowButton} it */
-function buttonOf({ label = "", name = label, drawing, parts, className = "", ...rest }) {
+export function buttonOf({ label = "", name = label, drawing, parts, className = "", ...rest }) {
   const button = element("button", className);
-  button.type = "button";
   if (drawing) {
     button.classList.add("bare");
     button.append(icon(drawing));

@@ -14,7 +14,6 @@ class Room {
     this.key = key;
     this.unread = 0;
     this.tab = element("button");
-    this.tab.type = "button";
     this.tab.id = `tab-${id}`;
     this.tab.role = "tab";
     this.tab.dataset.room = key;
@@ -37,7 +36,6 @@ class Room {
     const line = lineToldIn({ kind, said });
     if (line) {
       const button = element("button", "", line);
-      button.type = "button";
       button.dataset.types = line;
       row.append(element("b", "", who), `: ${said.slice(0, -line.length)}`, button);
     } else if (who) {

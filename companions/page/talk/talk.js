@@ -1,7 +1,8 @@
 /** Talk: tells, channels, shouts, kibitzing, the partner's words, and what else happened, each in its room. Who talks
  * to the member doesn't change whom the member writes to. */
 
-import { byId, element, icon, onClick, onClickAt, onSubmit, tellMember } from "../shell/elements.js";
+import { byId, onClick, onClickAt, onSubmit, tellMember } from "../shell/elements.js";
+import { buttonOf } from "../shell/list.js";
 import { Rooms } from "./rooms.js";
 import { hasText, onLanguage, t } from "../shell/texts.js";
 import { isTalkSeen, onView, showView } from "../shell/views.js";
@@ -32,17 +33,6 @@ function happenedInWords(event) {
     return t("happened.end", { ...event, reason: reasonInWords(event.reason) });
   }
   return hasText(`happened.${event.kind}`) ? t(`happened.${event.kind}`, event) : event.text;
-}
-
-/** A button for a room, which shows a drawing.
- * @param {string} drawing @param {string} name */
-function actButton(drawing, name) {
-  const button = element("button", "bare");
-  button.type = "button";
-  button.append(icon(drawing));
-  button.setAttribute("aria-label", name);
-  button.title = name;
-  return button;
 }
 
 export class Talk {
@@ -271,10 +261,9 @@ export class Talk {
       return;
     }
     acts.dataset.of = `${key} ${t("close")}`;
-    const leave = actButton("close", t(kind === "channel" ? "channel.leave" : "close"));
+    const leave = buttonOf({ drawing: "close", name: t(kind === "channel" ? "channel.leave" : "close") });
     leave.dataset.leaves = key;
-    const who = actButton("people", t("channel.who"));
-    who.dataset.command = `inchannel ${n}`;
+    const who = buttonOf({ drawing: "people", name: t("channel.who"), command: `inchannel ${n}` });
     acts.replaceChildren(...kind === "channel" ? [who, leave] : [leave]);
   }
 
