@@ -7,7 +7,7 @@ import signal
 import subprocess
 import threading
 import time
-from collections.abc import Callable, Mapping
+from collections.abc import Awaitable, Callable, Mapping
 from pathlib import Path
 from typing import IO, Any
 
@@ -118,12 +118,16 @@ def wait_until(holds: Callable[[], bool], unless: Callable[[], bool] = lambda: F
     return True
 
 
-async def async_wait_until(holds: Callable[[], bool], unless: Callable[[], bool] = lambda: False,
+async def async_wait_until(holds: Callable[[], bool | Awaitable[bool]], unless: Callable[[], bool] = lambda: False,
                            seconds: float = PATIENCE) -> bool:
-    """The same beside the other tasks of an event loop."""
+    """The same beside the other tasks of an event loop; whether it holds may be asked of one."""
+    async def does_hold() -> bool:
+        it = holds()
+        return it if isinstance(it, bool) else await it
+
     deadline = time.monotonic() + seconds
-    while not holds():
-        if time.monotonic() > deadline or unless() and not holds():
+    while not await does_hold():
+        if time.monotonic() > deadline or unless() and not await does_hold():
             return False
         await asyncio.sleep(LOOK_EVERY)
     return True
