@@ -121,18 +121,20 @@ ALREADY, FULL, NO_GAME, NOT_THERE = map(
         ([SHOWN, ALREADY], True),
         ([ALREADY], True),
         ([SHOWN, SHOWN, ALREADY], True),
-        ([NO_GAME], False),
-        ([SHOWN] * 4, False),
+        ([NO_GAME, NOT_THERE], False),
+        ([SHOWN] * 4 + [NOT_THERE], False),
+        ([SHOWN] * 4 + [UNOBSERVED], False),  # it began to look on with the last answer
         ([SHOWN, FULL], True),  # it looks on at 32, of which this is one
         ([FULL, UNOBSERVED, SHOWN, FULL], True),  # and did so already, until `unobserve`
-        ([FULL, NOT_THERE] * 4, False),
+        ([FULL, NOT_THERE] * 4 + [NOT_THERE], False),
     ],
 )
 async def test_answers(answers: list[Answer | RefusalError], wanted: bool) -> None:
     """Whether a link looks on, by what `observe` is answered."""
     shown: list[tuple[int, Line]] = []
     watcher = Watcher(lambda line: None, lambda desk, line: shown.append((desk, line)))
-    with mock.patch.object(watcher, "ask", side_effect=answers):
+    with mock.patch.object(watcher, "ask", side_effect=answers) as ask:
         assert await watcher.observe(7) == wanted
+    assert wanted or ask.await_args == mock.call("unobserve 7")
     assert watcher.desks == ({4} if wanted else set())
     assert shown == [(4, SHOWN.lines[0])] * answers.count(SHOWN)
