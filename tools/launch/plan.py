@@ -12,8 +12,10 @@ from sources import files_of
 SPARE = 2
 # the chain that decides gets three jobs, one this near to it two, and one this much shorter steps back by its niceness
 LEADING, NEAR, FAR = 3, 0.9, 0.6
-# about how much faster a crate is done by so many jobs than by one
+# about how much faster a library is done by so many jobs than by one
 GAIN = {1: 1, 2: 1.6, 3: 2}
+# a program is the last crate, and most of its time one processor lowers it or clang compiles it, alone
+PROGRAM_JOBS, PROGRAM_GAIN = 2, 1.3
 NAMES_A_LINE = 5
 
 
@@ -34,10 +36,11 @@ def table(seconds):
 
 
 class Plan:
-    """What begins next, for crates that each have those that they stand on, on so many processors."""
+    """What begins next, for crates that each have those that they stand on, on so many processors; one of them may be
+    the program that stands on all others."""
 
-    def __init__(self, crates, processors, seconds=None):
-        self.crates, self.processors = crates, processors
+    def __init__(self, crates, processors, seconds=None, program=None):
+        self.crates, self.processors, self.program = crates, processors, program
         self.seconds = seconds or {name: seconds_of(name) for name in crates}
         self.weights = {}
         for name in crates:
@@ -50,11 +53,28 @@ class Plan:
             self.weights[name] = self.seconds[name] + max(above, default=0)
         return self.weights[name]
 
+    def pace(self, name, jobs):
+        """How many seconds of a processor are done of a crate in a second."""
+        return PROGRAM_GAIN if name == self.program else gain_of(jobs)
+
+    def busy(self, name, jobs):
+        """How many processors a crate keeps at work."""
+        return PROGRAM_GAIN if name == self.program else jobs
+
+    def shares(self, rest):
+        """How long what is left takes by the clock, in three parts: the libraries shared among all processors, their
+        longest chain, and the program."""
+        program = self.seconds[self.program] if self.program in rest else 0
+        work, chain = sum(self.seconds[it] for it in rest), max(self.weights[it] for it in rest)
+        return (work - program) / self.processors, (chain - program) / gain_of(LEADING), program / PROGRAM_GAIN
+
     def ready(self, todo, done):
         return [it for it in todo if done.issuperset(self.crates[it])]
 
     def jobs_for(self, name, longest, running, others):
         """How many jobs a crate gets beside others that are ready, and a longest chain of so many seconds."""
+        if name == self.program:
+            return PROGRAM_JOBS
         if self.weights[name] == longest:
             return max(LEADING, self.processors - sum(running.values()) - others)
         return 2 if self.weights[name] >= NEAR * longest else 1
@@ -97,9 +117,9 @@ class Run:
 
     def pass_time(self, todo, running, done, left):
         """Goes on to the moment at which the next crate is done."""
-        wanted = sum(running.values())
+        wanted = sum(self.plan.busy(it, jobs) for it, jobs in running.items())
         share = min(1, self.plan.processors / wanted)
-        pace = {it: gain_of(jobs) * share for it, jobs in running.items()}
+        pace = {it: self.plan.pace(it, jobs) * share for it, jobs in running.items()}
         first = min(running, key=lambda it: (left[it] / pace[it], it))
         took = left[first] / pace[first]
         if wanted < self.plan.processors:
