@@ -1,5 +1,5 @@
-//! `ficsd board` alone: the command that one tries first, with nothing below it that the command doesn't use, so that it
-//! is proved and built in a fraction of the time of the whole program. Other words it answers with the usage.
+//! `ficsd` for `board` alone, the command that one tries first: it has nothing below it that this command doesn't use,
+//! so that it is proved and built in a fraction of the time of the whole program. Other words get the usage.
 #![tactic(auto)]
 
 use cmd_board::board;
