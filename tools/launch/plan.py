@@ -3,6 +3,7 @@
 The longest chain of crates decides how long a build takes, so a crate's weight is the seconds that it takes and those
 of the longest chain that waits for it. The heaviest crate that can begin goes first.
 """
+import time
 from pathlib import Path
 
 from seconds import SECONDS, SECONDS_A_LINE
@@ -17,6 +18,8 @@ GAIN = {1: 1, 2: 1.6, 3: 2}
 # a program is the last crate, and most of its time one processor lowers it or clang compiles it, alone
 PROGRAM_JOBS, PROGRAM_GAIN = 2, 1.3
 NAMES_A_LINE = 5
+# the seconds of a run, and those of the table that were built in it, after which it shows how fast the machine is
+SHOWS, ENOUGH = 60, 20
 
 
 def gain_of(jobs):
@@ -57,9 +60,13 @@ class Plan:
         """How many seconds of a processor are done of a crate in a second."""
         return PROGRAM_GAIN if name == self.program else gain_of(jobs)
 
-    def busy(self, name, jobs):
-        """How many processors a crate keeps at work."""
-        return PROGRAM_GAIN if name == self.program else jobs
+    def wanted(self, running):
+        """How many processors the crates that run would keep at work, which each have so many jobs."""
+        return sum(PROGRAM_GAIN if name == self.program else jobs for name, jobs in running.items())
+
+    def share(self, running):
+        """Which part of a processor each job has."""
+        return min(1, self.processors / self.wanted(running))
 
     def shares(self, rest):
         """How long what is left takes by the clock, in three parts: the libraries shared among all processors, their
@@ -95,6 +102,31 @@ class Plan:
         return name, self.jobs_for(name, longest, running, len(ready) - 1), self.weights[name] < FAR * longest
 
 
+class Pace:
+    """How many seconds by the clock it takes here what takes one by the plan, as the machine's other work lets it."""
+
+    def __init__(self):
+        self.start = time.monotonic()
+        self.built = self.took = 0
+
+    def add(self, seconds, pace, took):
+        """Counts a crate that was built, of so many seconds of the table, of which by the plan so many are done in one,
+        and which took so many by the clock."""
+        self.built += seconds
+        self.took += took * pace
+
+    def shows(self):
+        return time.monotonic() - self.start >= SHOWS and self.built >= ENOUGH
+
+    def minutes(self, work, chain, last):
+        """Between which minutes the rest is done, by the shares that the plan gives.
+
+        Not before the greater of the first two, and not after both of them one behind the other: Graham's bounds for
+        whoever gives each free processor work that is there. The last comes behind them.
+        """
+        return [self.took / self.built * (it + last) / 60 for it in (max(work, chain), work + chain)]
+
+
 class Run:
     """A build as the plan's seconds foretell it: where more jobs than processors are at work, each goes slower."""
 
@@ -117,8 +149,8 @@ class Run:
 
     def pass_time(self, todo, running, done, left):
         """Goes on to the moment at which the next crate is done."""
-        wanted = sum(self.plan.busy(it, jobs) for it, jobs in running.items())
-        share = min(1, self.plan.processors / wanted)
+        wanted = self.plan.wanted(running)
+        share = self.plan.share(running)
         pace = {it: self.plan.pace(it, jobs) * share for it, jobs in running.items()}
         first = min(running, key=lambda it: (left[it] / pace[it], it))
         took = left[first] / pace[first]
