@@ -9,11 +9,11 @@ from pathlib import Path
 from seconds import SECONDS, SECONDS_A_LINE
 from sources import files_of
 
-# a build works alone while it reads and while it writes, so more jobs than processors leave fewer of them idle
-SPARE = 2
+# a build works alone while it reads and while it writes, so work for more processors leaves fewer of them idle
+SPARE = 1
 # the chain that decides gets three jobs, one this near to it two, and one this much shorter steps back by its niceness
-LEADING, NEAR, FAR = 3, 0.9, 0.6
-# about how much faster a library is done by so many jobs than by one
+LEADING, NEAR, FAR = 3, 0.7, 0.6
+# how many processors so many jobs of a library keep at work, and by how much it is done faster than by one
 GAIN = {1: 1, 2: 1.6, 3: 2}
 # a program is the last crate, and most of its time one processor lowers it or clang compiles it, alone
 PROGRAM_JOBS, PROGRAM_GAIN = 2, 1.3
@@ -62,10 +62,10 @@ class Plan:
 
     def wanted(self, running):
         """How many processors the crates that run would keep at work, which each have so many jobs."""
-        return sum(PROGRAM_GAIN if name == self.program else jobs for name, jobs in running.items())
+        return sum(self.pace(name, jobs) for name, jobs in running.items())
 
     def share(self, running):
-        """Which part of a processor each job has."""
+        """How much slower each of them goes since there are only so many processors."""
         return min(1, self.processors / self.wanted(running))
 
     def shares(self, rest):
@@ -97,7 +97,7 @@ class Plan:
         name = max(sorted(ready), key=self.weights.get)
         longest = max(self.weights[it] for it in todo | set(running))
         # the chain that decides waits for nobody
-        if self.weights[name] < longest and sum(running.values()) >= self.processors + SPARE:
+        if self.weights[name] < longest and self.wanted(running) >= self.processors + SPARE:
             return None
         return name, self.jobs_for(name, longest, running, len(ready) - 1), self.weights[name] < FAR * longest
 
@@ -128,7 +128,7 @@ class Pace:
 
 
 class Run:
-    """A build as the plan's seconds foretell it: where more jobs than processors are at work, each goes slower."""
+    """A build as the plan's seconds foretell it: where there is work for more processors, each crate goes slower."""
 
     def __init__(self, plan):
         self.plan = plan
