@@ -4,10 +4,10 @@
 import { page } from "../page/modules/page.mjs";
 import { shownMoves } from "../page/modules/played_on.mjs";
 
-const legal = await page("legal.js");
+const legal = await page("game/legal.js");
 const { positionOfFen, usualPosition } = await page("archive/fen_read.js");
 const { behind, handsWith } = await page("archive/replay.js");
-const { arrayOf } = await page("fischer.js");
+const { arrayOf } = await page("game/fischer.js");
 
 const VARIANTS = ["chess", "crazyhouse", "fischer", "bughouse"];
 const MOST = 120; // half-moves of a board

@@ -5,9 +5,9 @@ import test from "node:test";
 
 import { page } from "./page.mjs";
 
-const { LowTime, soundOf } = await page("heard.js");
-const { arrowCorners, colourBy, Drawn } = await page("drawn.js");
-const { Preferences } = await page("preferences.js");
+const { LowTime, soundOf } = await page("member/heard.js");
+const { arrowCorners, colourBy, Drawn } = await page("board/drawn.js");
+const { Preferences } = await page("member/preferences.js");
 
 function halfMove(short, isHalfMove = true) {
   return { kind: "board", isHalfMove, board: { short } };

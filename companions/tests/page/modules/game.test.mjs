@@ -6,12 +6,12 @@ import test from "node:test";
 import { page } from "./page.mjs";
 import { line, OPENING } from "./told.mjs";
 
-const { boardOf, lastSquares } = await page("board_line.js");
-const { Game } = await page("game.js");
-const { Terms } = await page("terms.js");
-const { clockText } = await page("clock.js");
-const { lead, missing } = await page("material.js");
-const { rematchLine } = await page("rematch.js");
+const { boardOf, lastSquares } = await page("link/board_line.js");
+const { Game } = await page("game/game.js");
+const { Terms } = await page("game/terms.js");
+const { clockText } = await page("board/clock.js");
+const { lead, missing } = await page("game/material.js");
+const { rematchLine } = await page("game/rematch.js");
 
 function gameOf(lines, role = "mine") {
   const game = new Game(1, "Ann", "Ben", new Terms(5, 0, "chess"));

@@ -6,10 +6,10 @@ import test from "node:test";
 import { page } from "./page.mjs";
 import { OPENING } from "./told.mjs";
 
-const { boardOf } = await page("board_line.js");
-const { Game, gameOf } = await page("game.js");
-const { Terms } = await page("terms.js");
-const { Remembered } = await page("remembered.js");
+const { boardOf } = await page("link/board_line.js");
+const { Game, gameOf } = await page("game/game.js");
+const { Terms } = await page("game/terms.js");
+const { Remembered } = await page("link/remembered.js");
 
 /** A line that was typed, and what came of it. */
 function answer(line, told = ["Ok."]) {

@@ -7,9 +7,9 @@ import test from "node:test";
 import { page } from "./page.mjs";
 import { linesOfPlay, positionOfFen } from "./played_on.mjs";
 
-const legal = await page("legal.js");
-const { arrayOf, homesOf } = await page("fischer.js");
-const { boardOf, menOf } = await page("board_line.js");
+const legal = await page("game/legal.js");
+const { arrayOf, homesOf } = await page("game/fischer.js");
+const { boardOf, menOf } = await page("link/board_line.js");
 
 const CHESS = [
   ["rnbqkbnr/pppppppp/8/8/8/8/PPPPPPPP/RNBQKBNR w KQkq - 0 1", [20, 400, 8902]],

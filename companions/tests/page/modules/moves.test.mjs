@@ -6,10 +6,10 @@ import test from "node:test";
 
 import { page } from "./page.mjs";
 
-const { isMoveWord } = await page("moves.js");
-const { isPassword, passwordOf } = await page("passwords.js");
-const { dialogFor } = await page("costly.js");
-const { isOfBoard } = await page("complaints.js");
+const { isMoveWord } = await page("game/moves.js");
+const { isPassword, passwordOf } = await page("member/passwords.js");
+const { dialogFor } = await page("game/costly.js");
+const { isOfBoard } = await page("shell/complaints.js");
 
 const MOVES = ["e2e4", "e2-e4", "a1h8", "e7e8q", "e7e8=Q", "e7-e8N", "b7-a8=b", "e8b1", "e4", "Pe4", "exd5", "ed5+",
   "bxc3", "Bxc3", "Nbd2", "R1a3", "Qh4xe1#", "Kg1", "e2e4+", "e2xe4", "e8=Q", "e8b", "dxe8r#", "O-O", "o-o+", "0-0#",

@@ -5,7 +5,7 @@ import test from "node:test";
 
 import { page } from "./page.mjs";
 
-const { acceptance, Offers } = await page("offers.js");
+const { acceptance, Offers } = await page("game/offers.js");
 
 function standing(offers) {
   return offers.standing.map(({ who, kind, n }) => `${who} ${kind} ${n}`);

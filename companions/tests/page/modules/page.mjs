@@ -6,8 +6,8 @@ import { tmpdir } from "node:os";
 import { dirname, join } from "node:path";
 import { fileURLToPath } from "node:url";
 
-const PAGE = join(dirname(fileURLToPath(import.meta.url)), "..", "..", "..", "page");
-const folder = mkdtempSync(join(tmpdir(), "web_modules."));
+const PAGE = join(dirname(fileURLToPath(import.meta.url)), "../../../page");
+const folder = mkdtempSync(join(tmpdir(), "page_modules."));
 
 cpSync(PAGE, folder, { recursive: true });
 writeFileSync(join(folder, "package.json"), '{"type": "module"}');

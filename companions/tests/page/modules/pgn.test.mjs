@@ -6,11 +6,11 @@ import test from "node:test";
 import { page } from "./page.mjs";
 import { line, OPENING } from "./told.mjs";
 
-const { boardOf } = await page("board_line.js");
-const { Game } = await page("game.js");
-const { Terms } = await page("terms.js");
-const { fenOf } = await page("fen.js");
-const { fileName, pgnOf } = await page("pgn.js");
+const { boardOf } = await page("link/board_line.js");
+const { Game } = await page("game/game.js");
+const { Terms } = await page("game/terms.js");
+const { fenOf } = await page("game/fen.js");
+const { fileName, pgnOf } = await page("game/pgn.js");
 
 function gameOf(lines, terms, end = null) {
   const game = new Game(1, "Ann", "Ben", terms);

@@ -6,10 +6,10 @@ import test from "node:test";
 import { page } from "./page.mjs";
 import { line, OPENING } from "./told.mjs";
 
-const { boardOf } = await page("board_line.js");
-const { Game } = await page("game.js");
-const { Terms } = await page("terms.js");
-const { premoveWord, squaresFor } = await page("premove.js");
+const { boardOf } = await page("link/board_line.js");
+const { Game } = await page("game/game.js");
+const { Terms } = await page("game/terms.js");
+const { premoveWord, squaresFor } = await page("game/premove.js");
 
 /** A game that stands as its last board line says. */
 function gameAt(lines, variant = "chess", hands = null) {

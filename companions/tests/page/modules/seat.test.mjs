@@ -5,7 +5,7 @@ import test from "node:test";
 
 import { page } from "./page.mjs";
 
-const { Seat } = await page("seat.js");
+const { Seat } = await page("link/seat.js");
 const MARK = "\x01";
 
 /** A socket of the test's. */

@@ -5,7 +5,7 @@ import test from "node:test";
 
 import { page } from "./page.mjs";
 
-const { lineToldIn } = await page("told_line.js");
+const { lineToldIn } = await page("talk/told_line.js");
 
 function told(said, kind = "tell") {
   return lineToldIn({ kind, said });

@@ -1,0 +1,187 @@
+/** A way back in, behind a reload and a lost link. The go-between holds a seat for half a minute; behind that who has
+ * an account enters again, and asks to go on with the game that was adjourned. A bar says what goes on. */
+
+import { GONE } from "./link.js";
+import { byId } from "../shell/elements.js";
+import { Remembered } from "./remembered.js";
+import { hasText, t } from "../shell/texts.js";
+import { showView } from "../shell/views.js";
+
+const KEY = "seat";
+const PASSWORD = "password: ";
+const STAYS = 5_000; // milliseconds
+const LOST = [GONE, 1001, 1005, 1006, 4004]; // codes of a close that nobody wished for
+
+/** What a member is told where a link has ended by that code of a close.
+ * @param {number} code @param {boolean} wasIn @param {boolean} wasPlaying */
+export function endInWords(code, wasIn, wasPlaying) {
+  return hasText(`close.${code}`) ? t(`close.${code}`)
+    : t(wasPlaying ? "link.ended-in-game" : wasIn ? "link.ended" : "close.before-login");
+}
+
+/** What an earlier page of this tab has kept, or null.
+ * @param {Storage | null} store */
+export function keptPage(store) {
+  try {
+    return JSON.parse(store?.getItem(KEY) ?? "null");
+  } catch {
+    return null;
+  }
+}
+
+/** The browser's store for this tab, or none where it is switched off. */
+export function tabStore() {
+  try {
+    return window.sessionStorage;
+  } catch {
+    return null;
+  }
+}
+
+export class WayBack {
+  /** @param {Session} session @param {Games} games @param {Storage | null} store @param {KeptPage | null} kept */
+  constructor(session, games, store, kept) {
+    this.session = session;
+    this.games = games;
+    this.store = store;
+    /** @type {{ me: string, games: KeptGame[] } | null} */
+    this.kept = kept;
+    this.remembered = new Remembered(kept?.remembered);
+    this.password = ""; // of the member's account; it is kept nowhere else
+    this.prompt = "";
+    /** @type {string[]} */
+    this.opponents = []; // of the games that are to go on
+    this.hiding = 0;
+    session.on("partners", (event) => this.remembered.partner(event.who));
+    session.on("parted", () => this.remembered.partner(""));
+    session.on("link-lost", () => this.show("way.lost"));
+    session.on("link-back", (event) => this.back(event));
+    session.on("link-gone", () => this.gone());
+    session.onAnswer((answer) => this.take(answer));
+    window.addEventListener("pagehide", () => this.keep());
+    document.addEventListener("visibilitychange", () => (document.hidden ? this.keep() : this.forget()));
+    this.forget();
+  }
+
+  /** Keeps what a page that begins anew has to know, as this one is left or goes out of sight. */
+  keep() {
+    const { session } = this;
+    if (session.isIn) {
+      this.store?.setItem(KEY, JSON.stringify({
+        link: session.keep, me: session.me, remembered: this.remembered.rows, games: this.games.keep,
+      }));
+    } else {
+      this.forget();
+    }
+  }
+
+  /** A tab that is made of this one while it is seen has a seat of its own. */
+  forget() {
+    this.store?.removeItem(KEY);
+  }
+
+  /** @param {Answer} answer */
+  take(answer) {
+    this.remembered.take(answer);
+    if (answer.all("entered").length) {
+      this.password = this.prompt === PASSWORD ? answer.said : "";
+    } else if (answer.command === "register" && answer.isDone) {
+      this.password = answer.said.trim().replace(/^\S+ +/, "");
+    }
+    this.prompt = answer.prompt;
+  }
+
+  /** Somebody has come in by the login: what an earlier session set holds no more, but a game may wait.
+   * @param {Happened<'entered'>} event */
+  entered({ who, isBack }) {
+    if (!isBack) {
+      this.remembered.clear();
+      const waits = this.opponents;
+      this.opponents = [];
+      if (this.kept?.me.toLowerCase() === who.toLowerCase()) {
+        this.resume(waits);
+      }
+    }
+  }
+
+  /** The link is the one of before. A page that began anew learns again what it showed.
+   * @param {Happened<'link-back'>} event */
+  async back({ isSame, isNewPage }) {
+    if (isNewPage && this.kept) {
+      this.games.restore(this.kept.games);
+      for (const { line, told } of this.remembered.rows) {
+        this.session.take({ line, lines: told, prompt: this.session.link.prompt });
+      }
+    }
+    this.kept = null;
+    if (!isSame) {
+      await this.games.learnAgain();
+    }
+    if (isNewPage && this.games.shown) {
+      showView("board");
+    }
+    this.show("way.back", true);
+  }
+
+  /** The seat of an earlier page is gone: its member may enter again, and the game goes on where it was adjourned. */
+  gone() {
+    const { me, games } = /** @type {KeptPage} */ (this.kept);
+    this.opponents = games.filter((it) => it.role === "mine" && !it.end)
+      .map((it) => (it.white === me ? it.black : it.white));
+    byId("login-name").value = /^Guest/.test(me) ? "" : me;
+    this.show(this.opponents.length ? "way.gone-in-game" : "way.gone", true);
+  }
+
+  /** Whether the page may enter again by itself, behind the end of a link under that name.
+   * @param {LinkEnd} end */
+  mayEnter({ code, me }) {
+    this.forget();
+    this.hide();
+    return LOST.includes(code) && me !== "" && this.password !== "";
+  }
+
+  /** Enters again under an account, to go on with the games against those opponents. Whether the member is in.
+   * @param {string} me @param {string[]} opponents */
+  async enterAgain(me, opponents) {
+    const { password, session } = this;
+    this.kept = { me, games: [] };
+    this.opponents = opponents;
+    this.show("way.enters");
+    session.connect();
+    await session.link.opened;
+    const answer = await session.act(me);
+    if (answer.prompt === PASSWORD) {
+      await session.act(password);
+    }
+    this.show(session.isIn ? "way.back" : "way.gone", true);
+    return session.isIn;
+  }
+
+  /** Asks to go on with the games against those players that lie on the server's shelf.
+   * @param {string[]} opponents */
+  async resume(opponents) {
+    if (!opponents.length) {
+      return;
+    }
+    const answer = await this.session.ask("stored");
+    const names = [...answer.all("stored"), ...answer.all("stored-pair")]
+      .flatMap((it) => [it.white, it.black, it.third, it.fourth]);
+    for (const other of opponents.filter((it) => names.includes(it))) {
+      this.session.act(`resume ${other}`);
+    }
+  }
+
+  /** @param {string} key */
+  show(key, isForAMoment = false) {
+    clearTimeout(this.hiding);
+    byId("way-back").textContent = t(key, { who: this.opponents.join(", ") });
+    byId("way-back").hidden = false;
+    if (isForAMoment) {
+      this.hiding = setTimeout(() => this.hide(), STAYS);
+    }
+  }
+
+  hide() {
+    byId("way-back").hidden = true;
+  }
+}

@@ -1,0 +1,58 @@
+/** The rows of the lobby's lists. */
+
+import { t } from "../shell/texts.js";
+
+/** A player, and what it does.
+ * @param {string} who @param {string} me @param {Happened<'game'>[]} games @param {Happened<'sought'>[]} seeks */
+export function playerRow(who, me, games, seeks) {
+  const game = games.find((it) => [it.white, it.black].includes(who));
+  const seek = seeks.find((it) => it.who === who);
+  const does = game ? t("player.plays", { who: game.white === who ? game.black : game.white })
+    : seek ? t("player.seeks", { terms: seek.terms.shortTime() }) : "";
+  const buttons = who === me ? [] : [
+    ...game ? [{ drawing: "watch", name: t("player.watch-name", { who }), command: `observe ${who}` }] : [],
+    { drawing: "challenge", name: t("player.challenge", { who }), challenge: who },
+    { drawing: "talk", name: t("player.tell-name", { who }), room: `person ${who}` },
+  ];
+  return { key: who, parts: { who: who === me ? t("player.you", { who }) : who, does }, buttons,
+    className: game ? "plays" : "" };
+}
+
+/** A seek, which is taken by a click anywhere on its row; one's own is taken back so.
+ * @param {Happened<'sought'>} event @param {string} me */
+export function seekRow({ n, who, terms, text }, me) {
+  const isMine = who === me;
+  const parts = { time: terms.shortTime(), who: isMine ? t("player.you", { who }) : who,
+    variant: terms.variantInWords(), colour: terms.colour ? t(`terms.asks-${terms.colour}`) : "",
+    act: t(isMine ? "seek.take-back" : "seek.play") };
+  const name = t(isMine ? "seek.take-back-name" : "seek.play-name", { n, who, terms: terms.inWords() });
+  return { key: text, className: isMine ? "whole own" : "whole",
+    buttons: [{ name, parts, command: isMine ? `unseek ${n}` : `play ${n}` }] };
+}
+
+/** A challenge that stands, to the member or by it.
+ * @param {Happened<'pending-from' | 'pending-to'>} event */
+export function challengeRow({ kind, who, terms, text }) {
+  if (kind === "pending-to") {
+    return { key: text, text: t("pending.to", { who, terms: terms.inWords() }), buttons: [
+      { label: t("pending.withdraw"), name: t("pending.withdraw-name", { who }), command: `withdraw ${who}` },
+    ] };
+  }
+  return { key: text, text: t("pending.from", { who, terms: terms.inWords() }), buttons: [
+    { label: t("pending.accept"), name: t("pending.accept-name", { who }), command: `accept ${who}`,
+      className: "strong" },
+    { label: t("pending.decline"), name: t("pending.decline-name", { who }), command: `decline ${who}` },
+  ] };
+}
+
+/** An adjourned game.
+ * @param {Happened<'stored' | 'stored-pair'>} event @param {string} me */
+export function storedRow(event, me) {
+  const names = [event.white, event.black, event.third, event.fourth].filter(Boolean);
+  const other = names.find((it) => it !== me);
+  const buttons = [
+    { label: t("stored.resume"), name: t("stored.resume-name", { who: other }), command: `resume ${other}` },
+  ];
+  return { key: event.text, text: t("stored.row", { names: names.join(" – "), terms: event.terms.inWords() }),
+    buttons };
+}
