@@ -29,12 +29,6 @@ def change(page: Path, name: str, before: str, after: str) -> None:
     (file,) = page.rglob(name)
     file.write_text(file.read_text().replace(before, after, 1))
 
-    def test_who_enters_before_the_page_has_begun(self):
-        self.write("link/lines.js", lambda text: SLOWLY + text)
-        ann = self.window("Ann", enters=False, path="/icon.svg")
-        ann.script("setTimeout(() => location.assign(arguments[0]), 0)", self.go_between.address())
-        ann.enter()
-        self.assertEqual(ann.script(WHERE), self.go_between.address())
 
 def test_who_enters_before_the_page_has_begun(evening: Evening, page: Path) -> None:
     change(page, "lines.js", "", SLOWLY)
