@@ -84,6 +84,7 @@ function group(name, { body, lines }) {
  * @param {string} man */
 export function drawing(man) {
   const [colour, kind] = man;
-  const attributes = { viewBox: "0 0 45 45", class: `man ${colour === "w" ? "white" : "black"}`, "aria-hidden": "true" };
+  const side = colour === "w" ? "white" : "black";
+  const attributes = { viewBox: "0 0 45 45", class: `man ${side}`, "aria-hidden": "true" };
   return shape("svg", attributes, group("turned", TURNED[kind]), group("plain", PLAIN[kind]));
 }
