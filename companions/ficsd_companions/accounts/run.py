@@ -112,15 +112,19 @@ def read_words() -> Chosen:
         epilog="Statuses: 0 done; 1 nothing was changed, and why is said; 2 other words than these; 3 a change could "
         "neither be kept nor taken back, and where the copy lies is said.",
     )
-    words.add_argument(
-        "--store", type=Path, default=STORE, metavar="FILE", help=f"the store: {STORE} where it is left out"
-    )
-    words.add_argument(
-        "--program",
-        default=program(),
-        metavar="FILE",
-        help="the ficsd that checks the store: the one that this belongs " "to where it is left out",
-    )
+    says = f"the store: {STORE} where it is left out"
+    words.add_argument("--store", type=Path, default=STORE, metavar="FILE", help=says)
+    says = "the ficsd that checks the store: the one that this belongs to where it is left out"
+    words.add_argument("--program", default=program(), metavar="FILE", help=says)
+    clearing = add_commands(words)
+    chosen = words.parse_args(namespace=Chosen())
+    if chosen.act is clear and not (chosen.oldest or chosen.player or chosen.numbers):
+        clearing.error("which games? --oldest, --player or --numbers say it")
+    return chosen
+
+
+def add_commands(words: argparse.ArgumentParser) -> argparse.ArgumentParser:
+    """Gives a command line its commands; that of the last one, `clear`."""
     commands = words.add_subparsers(required=True, metavar="COMMAND")
 
     def command(name: str, act: Act, says: str) -> argparse.ArgumentParser:
@@ -129,11 +133,8 @@ def read_words() -> Chosen:
         return it
 
     command("list", show_accounts, "who has an account, and in how many adjourned games each is")
-    it = command(
-        "games",
-        show_games,
-        "adjourned games, those that lie longest first: number, players, minutes, " "increment, variant, half-moves",
-    )
+    says = "adjourned games, those that lie longest first: number, players, minutes, increment, variant, half-moves"
+    it = command("games", show_games, says)
     it.add_argument("name", nargs="?", default="", help="those of this player alone")
     it = command("password", set_password, "sets a password, which is asked for twice")
     it.add_argument("name")
@@ -142,26 +143,15 @@ def read_words() -> Chosen:
     it.add_argument("new")
     it = command("remove", remove, "takes an account away")
     it.add_argument("name")
-    it.add_argument(
-        "--games",
-        choices=("remove", "keep"),
-        help="what becomes of its adjourned games; it is asked for " "where this is left out. Kept, " + KEPT_GAMES,
-    )
+    says = f"what becomes of its adjourned games; it is asked for where this is left out. Kept, {KEPT_GAMES}"
+    it.add_argument("--games", choices=("remove", "keep"), help=says)
     it = command("clear", clear, "takes adjourned games away: those that all of these words fit")
     it.add_argument("--oldest", type=number, metavar="N", help="as many of them, those that lie longest")
     it.add_argument("--player", metavar="NAME", help="those that this player is in")
-    it.add_argument(
-        "--numbers",
-        type=numbers,
-        metavar="N-M",
-        help="those of these numbers, or of one; a new game gets "
-        "the least number that is free, so that a number doesn't say how old a game is",
-    )
+    says = "those of these numbers, or of one; a new game gets the least number that is free, so that a number doesn't "
+    it.add_argument("--numbers", type=numbers, metavar="N-M", help=says + "say how old a game is")
     it.add_argument("--yes", action="store_true", help="doesn't ask")
-    chosen = words.parse_args(namespace=Chosen())
-    if chosen.act is clear and not (chosen.oldest or chosen.player or chosen.numbers):
-        it.error("which games? --oldest, --player or --numbers say it")
-    return chosen
+    return it
 
 
 def main() -> int:

@@ -56,14 +56,14 @@ SERVER: tuple[Row, ...] = (
     (
         "register",
         "PASSWORD",
-        "makes an account of your name. It lives as long as the server, or as its store where it " "has one",
+        "makes an account of your name. It lives as long as the server, or as its store where it has one",
     ),
     ("resign", "", "gives your game up"),
     ("resume", "NAME", "goes on with the adjourned game that you have with NAME, once NAME has typed it too"),
     (
         "seek",
         "[MINUTES [INCREMENT]] [VARIANT] [COLOUR]",
-        "offers a game to whoever takes it; 5 0 where no time is " "said. At most 3 at a time",
+        "offers a game to whoever takes it; 5 0 where no time is said. At most 3 at a time",
     ),
     (
         "set",

@@ -6,7 +6,7 @@ from contextlib import suppress
 
 from ficslink.answer import Answer
 from ficslink.board import Board
-from ficslink.errors import LinkError
+from ficslink.errors import LinkError, RefusalError
 from ficslink.line import Line
 from ficslink.lines import Entered, GameListed, GameOver, Hands, HandsCame
 from ficslink.link import Link
@@ -85,11 +85,14 @@ class Watcher:
         return (await self.ask("games")).all(GameListed)
 
     async def observe(self, game: int) -> bool:
-        """Looks on at a game; whether it does."""
+        """Looks on at a game; whether it does. Where it isn't told so it surely doesn't: a game that began there with
+        the last answer is to show its first board to who asks anew."""
         desk = desk_of(game)
         self.desks.add(desk)
         does = await looks_on(self.ask, game, lambda answer: self._shown(desk, answer.lines[0]))
         if not does:
+            with suppress(RefusalError):
+                await self.ask(f"unobserve {game}")
             self.desks.discard(desk)
         return does
 

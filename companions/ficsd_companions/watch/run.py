@@ -68,10 +68,10 @@ def read_words() -> Chosen:
         f"2 other words than these; {CROSSED} a bound is crossed.",
     )
     words.add_argument(
-        "--store", type=Path, default=STORE, metavar="FILE", help="the store: %(default)s where it is " "left out"
+        "--store", type=Path, default=STORE, metavar="FILE", help="the store: %(default)s where it is left out"
     )
     words.add_argument(
-        "--port", type=port, metavar="P", help="the server's port on this machine; without it members " "aren't counted"
+        "--port", type=port, metavar="P", help="the server's port on this machine; without it members aren't counted"
     )
     bound = count(999_999_999, 0)
     for name, usual, says in (
@@ -91,13 +91,13 @@ def read_words() -> Chosen:
         type=bound,
         default=200,
         metavar="N",
-        help="the fewest MiB of free room of which " "nothing is said: 200 where it is left out",
+        help="the fewest MiB of free room of which nothing is said: 200 where it is left out",
     )
     words.add_argument(
         "--program",
         default=program(),
         metavar="FILE",
-        help="the ficsd that checks the store: the one " "that this belongs to where it is left out",
+        help="the ficsd that checks the store: the one that this belongs to where it is left out",
     )
     return words.parse_args(namespace=Chosen())
 

@@ -45,7 +45,7 @@ def test_a_guest_a_password_and_a_refused_name(face: Face) -> None:
     assert "Press return to enter the server as" in client.until(b'"GuestAAAA":')
     client.say("\n")
     assert client.until(b"fics% ") == (
-        "\n\r**** Starting FICS session as GuestAAAA(U) ****\n\r" "\n\rBen tells you: hi\n\rfics% "
+        "\n\r**** Starting FICS session as GuestAAAA(U) ****\n\r\n\rBen tells you: hi\n\rfics% "
     )
 
 

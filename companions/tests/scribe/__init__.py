@@ -1,3 +1,1 @@
 """Tests of `fics_scribe`, each file a subject."""
-
-HELPERS = ("places", "evening")
