@@ -24,7 +24,7 @@ def packages(names):
 # of each program its package and what it is called with, in companions/
 LINTS = {
     "flake8": ("flake8", lambda: scripts()),
-    "black": ("black", lambda: ["--check", "--quiet", *scripts()]),
+    "black": ("black", lambda: ["--check", *scripts()]),
     "mypy": ("mypy", lambda: packages(TYPED)),
     "tsc": ("node-typescript", lambda: ["-p", "."]),
 }
@@ -40,7 +40,7 @@ def found(name):
     if ran.returncode == 0:
         return []
     said = [it.replace(f"{TOP}/", "") for it in (ran.stdout + ran.stderr).splitlines()]
-    return [f"{name}: {it}" for it in said] or [f"{name} ends with {ran.returncode}, `{name} {words()[0]}` shows where"]
+    return [f"{name}: {it}" for it in said if it.strip()] or [f"{name} ends with {ran.returncode}"]
 
 
 def faults():
