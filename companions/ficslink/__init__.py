@@ -25,8 +25,36 @@ from .member import Member
 from .refusals import Refusal
 from .terms import Terms
 
-__all__ = ["Answer", "BadLine", "Began", "Board", "CameAgain", "Closed", "Ended", "Event", "Game", "Line", "Link",
-           "LinkError", "LinkLost", "Member", "Moved", "NoGame", "NoServer", "Offer", "Offered", "PasswordWanted",
-           "Refusal", "RefusalError", "Silent", "Terms", "TooLong", "Turn", "Unknown", "lines", "parse"]
+__all__ = [
+    "Answer",
+    "BadLine",
+    "Began",
+    "Board",
+    "CameAgain",
+    "Closed",
+    "Ended",
+    "Event",
+    "Game",
+    "Line",
+    "Link",
+    "LinkError",
+    "LinkLost",
+    "Member",
+    "Moved",
+    "NoGame",
+    "NoServer",
+    "Offer",
+    "Offered",
+    "PasswordWanted",
+    "Refusal",
+    "RefusalError",
+    "Silent",
+    "Terms",
+    "TooLong",
+    "Turn",
+    "Unknown",
+    "lines",
+    "parse",
+]
 
 logging.getLogger("ficslink").addHandler(logging.NullHandler())  # who wants to read its log sets one up

@@ -17,12 +17,34 @@ _BIT = "[01]"
 _SQUARE = "[a-h][1-8]"
 _WHOLE = r"(?:0|-?[1-9]\d*)"
 _LONG = rf"(?:none|o-o|o-o-o|[PNBRQ]/@@-{_SQUARE}|[PNBRQK]/{_SQUARE}-{_SQUARE}(?:=[QRBN])?)"
-_SHORT = (rf"(?:none|(?:O-O|O-O-O|[PNBRQ]@{_SQUARE}|[NBRQK][a-h]?[1-8]?x?{_SQUARE}"
-          rf"|(?:[a-h]x)?{_SQUARE}(?:=[QRBN])?)[+#]?)")
-_FORM = re.compile(" ".join((
-    "<12>", *["([pnbrqkPNBRQK-]{8})"] * 8, "([WB])", "(-1|[0-7])", *[f"({_BIT})"] * 4, f"({NUMBER})", f"({NUMBER})",
-    f"({_HANDLE})", f"({_HANDLE})", "(-1|0|1)", *[f"({NUMBER})"] * 4, f"({_WHOLE})", f"({_WHOLE})", r"([1-9]\d*)",
-    f"({_LONG})", r"(\(\d+:[0-5]\d\))", f"({_SHORT})", f"({_BIT})")))
+_SHORT = (
+    rf"(?:none|(?:O-O|O-O-O|[PNBRQ]@{_SQUARE}|[NBRQK][a-h]?[1-8]?x?{_SQUARE}"
+    rf"|(?:[a-h]x)?{_SQUARE}(?:=[QRBN])?)[+#]?)"
+)
+_FORM = re.compile(
+    " ".join(
+        (
+            "<12>",
+            *["([pnbrqkPNBRQK-]{8})"] * 8,
+            "([WB])",
+            "(-1|[0-7])",
+            *[f"({_BIT})"] * 4,
+            f"({NUMBER})",
+            f"({NUMBER})",
+            f"({_HANDLE})",
+            f"({_HANDLE})",
+            "(-1|0|1)",
+            *[f"({NUMBER})"] * 4,
+            f"({_WHOLE})",
+            f"({_WHOLE})",
+            r"([1-9]\d*)",
+            f"({_LONG})",
+            r"(\(\d+:[0-5]\d\))",
+            f"({_SHORT})",
+            f"({_BIT})",
+        )
+    )
+)
 
 
 @dataclass(frozen=True, slots=True)
@@ -63,16 +85,56 @@ class Board(News):
         short, long, blacks_short, blacks_long = (it == "1" for it in fields[10:14])
         numbers = [int(it) for it in fields[18:26]]
         return cls(
-            fields[:8], fields[8], int(fields[9]), short, long, blacks_short, blacks_long, int(fields[14]),
-            int(fields[15]), fields[16], fields[17], numbers[0], numbers[1], numbers[2], numbers[3], numbers[4],
-            numbers[5], numbers[6], numbers[7], fields[26], fields[27], fields[28], fields[29] == "1")
+            fields[:8],
+            fields[8],
+            int(fields[9]),
+            short,
+            long,
+            blacks_short,
+            blacks_long,
+            int(fields[14]),
+            int(fields[15]),
+            fields[16],
+            fields[17],
+            numbers[0],
+            numbers[1],
+            numbers[2],
+            numbers[3],
+            numbers[4],
+            numbers[5],
+            numbers[6],
+            numbers[7],
+            fields[26],
+            fields[27],
+            fields[28],
+            fields[29] == "1",
+        )
 
     def __str__(self) -> str:
         rights = (self.white_short, self.white_long, self.black_short, self.black_long)
-        fields = ("<12>", *self.ranks, self.side, self.double_push, *map(int, rights), self.quiet, self.game,
-                  self.white, self.black, self.relation, self.minutes, self.increment, self.white_material,
-                  self.black_material, self.white_left, self.black_left, self.number, self.long, self.took, self.short,
-                  int(self.black_below))
+        fields = (
+            "<12>",
+            *self.ranks,
+            self.side,
+            self.double_push,
+            *map(int, rights),
+            self.quiet,
+            self.game,
+            self.white,
+            self.black,
+            self.relation,
+            self.minutes,
+            self.increment,
+            self.white_material,
+            self.black_material,
+            self.white_left,
+            self.black_left,
+            self.number,
+            self.long,
+            self.took,
+            self.short,
+            int(self.black_below),
+        )
         return " ".join(map(str, fields))
 
     @property
@@ -105,7 +167,8 @@ class Board(News):
     def _is_beside_push(self) -> bool:
         rank, pawn = (self.ranks[3], "P") if self.side == "W" else (self.ranks[4], "p")
         return self.double_push >= 0 and any(
-            rank[file] == pawn for file in (self.double_push - 1, self.double_push + 1) if 0 <= file < len(FILES))
+            rank[file] == pawn for file in (self.double_push - 1, self.double_push + 1) if 0 <= file < len(FILES)
+        )
 
     def left(self, colour: str) -> int:
         """The whole seconds that white or black has left, without the time that runs."""
@@ -120,8 +183,9 @@ class Board(News):
         for number, rank in zip(range(8, 0, -1), self.ranks):
             yield from ((f"{file}{number}", man) for file, man in zip(FILES, rank) if man != "-")
 
-    def fen(self, array: str = USUAL, hands: tuple[str, str] | None = None, promoted: frozenset[str] = frozenset()
-            ) -> str:
+    def fen(
+        self, array: str = USUAL, hands: tuple[str, str] | None = None, promoted: frozenset[str] = frozenset()
+    ) -> str:
         """The position as a FEN. `array` is White's first rank at the start, which Fischer random needs: castling
         rights are told by the rooks' files unless king and rooks begin where they do in chess. `hands` are the men in
         the hands of White and of Black, which crazyhouse has in brackets; `promoted` are the squares of men that came
@@ -140,8 +204,7 @@ class Board(News):
         long, short = array.index("R"), array.rindex("R")
         is_usual = (long, king, short) == (0, 4, 7)
         letters = "KQ" if is_usual else (FILES[short] + FILES[long]).upper()
-        rights = zip(letters + letters.lower(),
-                     (self.white_short, self.white_long, self.black_short, self.black_long))
+        rights = zip(letters + letters.lower(), (self.white_short, self.white_long, self.black_short, self.black_long))
         return "".join(letter for letter, is_given in rights if is_given) or "-"
 
 

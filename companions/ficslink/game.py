@@ -14,7 +14,11 @@ OWN, PARTNERS, WATCHED = "own", "partner's", "watched"
 TICKS_FROM = 2  # the first half-move of each colour is free
 AnyBoard = TypeVar("AnyBoard", bound=Board)
 _KINDS: dict[type[Line], str] = {
-    DrawOffered: "draw", AbortOffered: "abort", AdjournOffered: "adjourn", TakebackOffered: "takeback"}
+    DrawOffered: "draw",
+    AbortOffered: "abort",
+    AdjournOffered: "adjourn",
+    TakebackOffered: "takeback",
+}
 
 
 @dataclass(frozen=True, slots=True)

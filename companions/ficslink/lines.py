@@ -17,15 +17,41 @@ from .terms import Terms
 _HANDLE = "[A-Za-z]{3,17}"
 _SECONDS = r"-?\d+"
 _HAND = "P*N*B*R*Q*"
-_ENDS = ("{who} checkmated", "{who} resigns", "{who} forfeits on time", "{who} forfeits by disconnection",
-         "drawn by stalemate", "drawn by agreement", "drawn by the 50 move rule", "drawn by repetition",
-         "drawn by time", "aborted", "adjourned", "partner's game ended")
+_ENDS = (
+    "{who} checkmated",
+    "{who} resigns",
+    "{who} forfeits on time",
+    "{who} forfeits by disconnection",
+    "drawn by stalemate",
+    "drawn by agreement",
+    "drawn by the 50 move rule",
+    "drawn by repetition",
+    "drawn by time",
+    "aborted",
+    "adjourned",
+    "partner's game ended",
+)
 # of each place of a form what may stand there
 _PLACES = {
-    "who": _HANDLE, "white": _HANDLE, "black": _HANDLE, "third": _HANDLE, "fourth": _HANDLE, "number": spelled.NUMBER,
-    "game": spelled.NUMBER, "terms": spelled.FORM, "name": r"\w+", "text": ".+", "white_hand": _HAND,
-    "black_hand": _HAND, "came": "[PNBRQ]", "side": "[WB]", "white_left": _SECONDS, "black_left": _SECONDS,
-    "short": r"\S+", "rank": "[pnbrqkPNBRQK-]{8}", "reason": "|".join(it.format(who=_HANDLE) for it in _ENDS),
+    "who": _HANDLE,
+    "white": _HANDLE,
+    "black": _HANDLE,
+    "third": _HANDLE,
+    "fourth": _HANDLE,
+    "number": spelled.NUMBER,
+    "game": spelled.NUMBER,
+    "terms": spelled.FORM,
+    "name": r"\w+",
+    "text": ".+",
+    "white_hand": _HAND,
+    "black_hand": _HAND,
+    "came": "[PNBRQ]",
+    "side": "[WB]",
+    "white_left": _SECONDS,
+    "black_left": _SECONDS,
+    "short": r"\S+",
+    "rank": "[pnbrqkPNBRQK-]{8}",
+    "reason": "|".join(it.format(who=_HANDLE) for it in _ENDS),
     "result": r"1-0|0-1|1/2-1/2|\*",
 }
 _NUMBERS = ("number", "game", "white_left", "black_left")
@@ -431,24 +457,55 @@ class TextTurn(News):
 
 _REPLIES: tuple[type[Line], ...] = (Refused, Ok, Asked, Told, SeekMade, Entered, Opening)
 _NEWS: tuple[type[Line], ...] = (
-    Creating, Continuing, GameOver, Hands, HandsCame, Tell, PartnerTell, ChannelTell, Shout, Kibitz, Challenge,
-    ChallengeDeclined, Seeking, ResumeAsked, PartnerAsked, Partners, Parted, DrawOffered, AbortOffered, AdjournOffered,
-    TakebackOffered, OfferDeclined, TakenBack, TextTurn, Goodbye)
+    Creating,
+    Continuing,
+    GameOver,
+    Hands,
+    HandsCame,
+    Tell,
+    PartnerTell,
+    ChannelTell,
+    Shout,
+    Kibitz,
+    Challenge,
+    ChallengeDeclined,
+    Seeking,
+    ResumeAsked,
+    PartnerAsked,
+    Partners,
+    Parted,
+    DrawOffered,
+    AbortOffered,
+    AdjournOffered,
+    TakebackOffered,
+    OfferDeclined,
+    TakenBack,
+    TextTurn,
+    Goodbye,
+)
 _LISTS: dict[str, tuple[type[Line], ...]] = {
-    "who": (Player,), "inchannel": (Nothing, Player), "sought": (Nothing, Sought), "games": (Nothing, GameListed),
-    "pending": (Nothing, PendingFrom, PendingTo), "stored": (Nothing, Stored, StoredPair),
+    "who": (Player,),
+    "inchannel": (Nothing, Player),
+    "sought": (Nothing, Sought),
+    "games": (Nothing, GameListed),
+    "pending": (Nothing, PendingFrom, PendingTo),
+    "stored": (Nothing, Stored, StoredPair),
 }
 _REST: tuple[type[Line], ...] = (TextRank,)
 _KINDS = {name: (*_REPLIES, *_NEWS, *rows, *_REST) for name, rows in [("", ()), *_LISTS.items()]}  # by commands
-ALL: tuple[type[Line], ...] = tuple(dict.fromkeys(
-    (*_REPLIES, *(it for them in _LISTS.values() for it in them), *_NEWS, *_REST, Board)))
+ALL: tuple[type[Line], ...] = tuple(
+    dict.fromkeys((*_REPLIES, *(it for them in _LISTS.values() for it in them), *_NEWS, *_REST, Board))
+)
 """All classes of lines but `Unknown`."""
 
 
 def _pattern(form: str) -> re.Pattern[str]:
-    return re.compile("".join(
-        re.escape(text) + (f"(?P<{place}>{_PLACES[place]})" if place else "")
-        for text, place, _, _ in Formatter().parse(form)))
+    return re.compile(
+        "".join(
+            re.escape(text) + (f"(?P<{place}>{_PLACES[place]})" if place else "")
+            for text, place, _, _ in Formatter().parse(form)
+        )
+    )
 
 
 def _longest_literal(form: str) -> str:

@@ -49,8 +49,16 @@ class Link:
     Where there is a `listener`, it hears all lines, and `news()` tells nothing.
     """
 
-    def __init__(self, reader: asyncio.StreamReader, writer: asyncio.StreamWriter, *, stamped: bool = False,
-                 pace: Pace = PACE, listener: Listener | None = None, patience: float = PATIENCE) -> None:
+    def __init__(
+        self,
+        reader: asyncio.StreamReader,
+        writer: asyncio.StreamWriter,
+        *,
+        stamped: bool = False,
+        pace: Pace = PACE,
+        listener: Listener | None = None,
+        patience: float = PATIENCE,
+    ) -> None:
         self._reader, self._writer = reader, writer
         self.stamped, self.patience = stamped, patience
         self._pace, self._listener = pace, listener
@@ -66,8 +74,16 @@ class Link:
         self._reading: asyncio.Task[None] | None = None
 
     @classmethod
-    async def open(cls, host: str, port: int, stamped: bool = False, *, pace: Pace = PACE,
-                   listener: Listener | None = None, patience: float = PATIENCE) -> "Link":
+    async def open(
+        cls,
+        host: str,
+        port: int,
+        stamped: bool = False,
+        *,
+        pace: Pace = PACE,
+        listener: Listener | None = None,
+        patience: float = PATIENCE,
+    ) -> "Link":
         """Connects, and waits for `login: `. `NoServer` where nobody answers there, or something else does."""
         try:
             async with asyncio.timeout(patience):
@@ -101,8 +117,9 @@ class Link:
     async def __aenter__(self) -> "Link":
         return self
 
-    async def __aexit__(self, kind: type[BaseException] | None, error: BaseException | None,
-                        trace: TracebackType | None) -> None:
+    async def __aexit__(
+        self, kind: type[BaseException] | None, error: BaseException | None, trace: TracebackType | None
+    ) -> None:
         await self.close()
 
     @property

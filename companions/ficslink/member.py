@@ -14,7 +14,7 @@ from .errors import BadLine, Closed, LinkError, NoGame, NoServer, PasswordWanted
 from .events import Began, CameAgain, Ended, Event, LinkLost, Moved, Offered, Turn
 from .game import OWN, PARTNERS, WATCHED, Game, offer_of
 from .line import Line, Listed, News, Reply, Unknown
-from .lines import (Continuing, Creating, Entered, GameListed, GameOver, Goodbye, Hands, OfferDeclined, TakenBack)
+from .lines import Continuing, Creating, Entered, GameListed, GameOver, Goodbye, Hands, OfferDeclined, TakenBack
 from .link import PATIENCE, Link
 from .observing import looks_on
 from .pace import PACE, Pace
@@ -24,8 +24,10 @@ from .terms import Terms
 
 GUEST = "guest"
 SQUARE = "[a-h][1-8]"
-MOVE = re.compile(rf"{SQUARE}-?{SQUARE}(?:=?[qrbnQRBN])?|[PNBRQ]@{SQUARE}|[Oo0]-[Oo0](?:-[Oo0])?[+#]?"
-                  rf"|[NBRQK][a-h]?[1-8]?x?{SQUARE}[+#]?|(?:[a-h]x)?{SQUARE}(?:=[qrbnQRBN])?[+#]?")
+MOVE = re.compile(
+    rf"{SQUARE}-?{SQUARE}(?:=?[qrbnQRBN])?|[PNBRQ]@{SQUARE}|[Oo0]-[Oo0](?:-[Oo0])?[+#]?"
+    rf"|[NBRQK][a-h]?[1-8]?x?{SQUARE}[+#]?|(?:[a-h]x)?{SQUARE}(?:=[qrbnQRBN])?[+#]?"
+)
 UNOBSERVE = re.compile(r"\s*uno\w*\s+(\d+)\s*", re.IGNORECASE)
 
 logger = logging.getLogger("ficslink")
@@ -38,8 +40,19 @@ class Member:
     is awaited, in the same task or in others.
     """
 
-    def __init__(self, host: str, port: int, name: str | None, password: str | None, *, stamped: bool,
-                 settings: Sequence[str], pace: Pace, longest_pause: float, patience: float) -> None:
+    def __init__(
+        self,
+        host: str,
+        port: int,
+        name: str | None,
+        password: str | None,
+        *,
+        stamped: bool,
+        settings: Sequence[str],
+        pace: Pace,
+        longest_pause: float,
+        patience: float,
+    ) -> None:
         self._place = host, port
         self._handle, self._password = name or GUEST, password
         self._stamped, self._settings, self._pace = stamped, settings, pace
@@ -58,14 +71,33 @@ class Member:
         self._keeping: asyncio.Task[None] | None = None
 
     @classmethod
-    async def enter(cls, host: str, port: int, name: str | None = None, password: str | None = None, *,
-                    stamped: bool = False, settings: Sequence[str] = (), pace: Pace = PACE,
-                    longest_pause: float = 60.0, patience: float = PATIENCE) -> "Member":
+    async def enter(
+        cls,
+        host: str,
+        port: int,
+        name: str | None = None,
+        password: str | None = None,
+        *,
+        stamped: bool = False,
+        settings: Sequence[str] = (),
+        pace: Pace = PACE,
+        longest_pause: float = 60.0,
+        patience: float = PATIENCE,
+    ) -> "Member":
         """Goes in under a name, or as a guest without one. `settings` are lines that are said behind each entrance, as
         `set shout 0`. `NoServer` where there is none, `RefusalError` where the login is refused, `PasswordWanted` where
         the name has an account and no password is given."""
-        member = cls(host, port, name, password, stamped=stamped, settings=settings, pace=pace,
-                     longest_pause=longest_pause, patience=patience)
+        member = cls(
+            host,
+            port,
+            name,
+            password,
+            stamped=stamped,
+            settings=settings,
+            pace=pace,
+            longest_pause=longest_pause,
+            patience=patience,
+        )
         await member._come()
         member._keeping = asyncio.create_task(member._keep())
         return member
@@ -73,8 +105,9 @@ class Member:
     async def __aenter__(self) -> "Member":
         return self
 
-    async def __aexit__(self, kind: type[BaseException] | None, error: BaseException | None,
-                        trace: TracebackType | None) -> None:
+    async def __aexit__(
+        self, kind: type[BaseException] | None, error: BaseException | None, trace: TracebackType | None
+    ) -> None:
         await self.leave()
 
     # ---- what is so ----

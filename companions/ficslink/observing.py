@@ -14,8 +14,9 @@ def _nobody(answer: Answer) -> None:
     """Is told nothing."""
 
 
-async def looks_on(ask: Callable[[str], Awaitable[Answer]], game: int,
-                   shown: Callable[[Answer], None] = _nobody) -> bool:
+async def looks_on(
+    ask: Callable[[str], Awaitable[Answer]], game: int, shown: Callable[[Answer], None] = _nobody
+) -> bool:
     """Looks on at a game by a link's `ask` or a member's `do`; whether one does. `shown` is told each answer that shows
     the game.
 

@@ -51,8 +51,10 @@ class Refusal(IntEnum):
     NO_SUCH_SEEK = 30, "`play`, `unseek`: no such seek"
     SEEK_FULL = 31, "one has three seeks"
     NO_SUCH_PLAYER = 32, "nobody here has the handle, or that player is leaving"
-    PLAYING = 33, ("one of those who would play is in a game and gives no simul (`resume` of a pair: or gives one); "
-                   "`seek` of who plays or gives a simul; `simopen` with a game, or its end with two")
+    PLAYING = 33, (
+        "one of those who would play is in a game and gives no simul (`resume` of a pair: or gives one); "
+        "`seek` of who plays or gives a simul; `simopen` with a game, or its end with two"
+    )
     NO_CHALLENGE = 34, "no such challenge; `accept` and `decline` where there is no offer either"
     NO_DESK = 35, "all 128 desks are in use, or 2^62 games were started"
     REFUSES = 36, "the other has `open` off, or has one on a list of names"
