@@ -18,8 +18,8 @@ import { takeInDrawings } from "./shell/drawings.js";
 import { Games } from "./game/games.js";
 import { Lobby } from "./lobby/lobby.js";
 import { Login } from "./member/login.js";
-import { listenForLooks, takeUpLooks } from "./member/looks.js";
-import { ask, byId, onClick, tellMember } from "./shell/elements.js";
+import { showLooks, takeUpLooks } from "./member/looks.js";
+import { ask, byId, onClick, onClickAt, tellMember } from "./shell/elements.js";
 import { Partner } from "./lobby/partner.js";
 import { Play } from "./board/play.js";
 import { browserStore, listenForPreferences, Preferences } from "./member/preferences.js";
@@ -41,7 +41,8 @@ function linkUrl() {
   return `${scheme}//${location.host}/link`;
 }
 
-/** Shows the login alone, or all but the login. */
+/** Shows the login alone, or all but the login.
+ * @param {Session} session */
 function showInside(session) {
   byId("login").hidden = session.isIn;
   INSIDE.forEach((it) => { byId(it).hidden = !session.isIn; });
@@ -49,24 +50,27 @@ function showInside(session) {
   showView(session.isIn ? "lobby" : "login");
 }
 
-/** The parts that tell the member of what comes, whatever is seen: sounds, notes, calls and the talk. */
+/** The parts that tell the member of what comes, whatever is seen: sounds, notes, calls and the talk.
+ * @param {{ session: Session, games: Games, smallGames: SmallGames, play: Play, simul: Simul,
+ *   preferences: Preferences }} parts */
 function heralds({ session, games, smallGames, play, simul, preferences }) {
   const settings = new Settings(session);
   const sounds = new Sounds(session, games, preferences);
   const alerts = new Alerts(session, games, preferences);
   const calls = new Calls(session, {
     isPlaying: () => games.running.length > 0 && !simul.isGiven, wants: (who) => settings.wants(who),
+    changed: (count) => alerts.called(count),
   });
-  calls.changed = (count) => alerts.called(count);
   const talk = new Talk(session, {
     atGame: (line) => (games.shown ? play.act(games.shown, line) : session.act(line)),
-    isForeign: (event) => (event.game === undefined ? smallGames.isOn : !games.byNumber.has(event.game)),
+    isForeign: (event) => ("game" in event ? !games.byNumber.has(event.game) : smallGames.isOn),
     isKeptAway: (who) => settings.isKeptAway(who),
   });
   return { settings, sounds, alerts, calls, talk };
 }
 
-/** Leaving is asked first where it may cost a game; a page that is left in a game asks too. */
+/** Leaving is asked first where it may cost a game; a page that is left in a game asks too.
+ * @param {Session} session @param {Games} games */
 function listenForLeaving(session, games) {
   onClick("leave", () => {
     const leave = () => session.act("quit");
@@ -79,19 +83,17 @@ function listenForLeaving(session, games) {
   });
 }
 
-/** `data-show` names a game that the member has, which is brought to the board. */
+/** `data-show` names a game that the member has, which is brought to the board.
+ * @param {Games} games */
 function listenForShowing(games) {
-  document.addEventListener("click", (event) => {
-    const button = event.target.closest("[data-show]");
-    if (button) {
-      games.choose(Number(button.dataset.show));
-    }
-  });
+  onClickAt(document, "[data-show]", (button) => games.choose(Number(button.dataset.show)));
 }
 
 /** Somebody comes in, and all that was of another session is forgotten; or the link ends, and perhaps there is a way
- * back. */
-function listenForComing({ session, games, forgetful, partner, lobby, wayBack, login, calls }) {
+ * back.
+ * @param {{ session: Session, games: Games, forgetful: { forget(): void }[], partner: Partner, lobby: Lobby,
+ *   wayBack: WayBack, calls: Calls }} parts */
+function listenForComing({ session, games, forgetful, partner, lobby, wayBack, calls }) {
   session.on("entered", (event) => {
     showInside(session);
     forgetful.forEach((it) => it.forget());
@@ -103,7 +105,6 @@ function listenForComing({ session, games, forgetful, partner, lobby, wayBack, l
   session.onEnd(async ({ code, me }) => {
     const opponents = games.running.map((it) => it.otherThan(me));
     games.forgetAll();
-    login.asked = "";
     calls.forget();
     closeBoxes("settings", "terms", "commands", "leave-ask", "resign-ask");
     if (!wayBack.mayEnter({ code, me }) || !await wayBack.enterAgain(me, opponents)) {
@@ -121,16 +122,23 @@ function start() {
   listenForRefusals(session);
   const preferences = new Preferences(browserStore());
   listenForPreferences(preferences);
+  /** @type {((game: Game | null, event: Happened) => void)[]} */
   const hearers = []; // of what is told of games, in their order
-  const games = new Games(session, (game, event) => hearers.forEach((it) => it(game, event)));
-  session.acknowledges = (line) => games.begins(line);
-  const smallGames = new SmallGames(session, () => games.isAtOne, store);
-  session.before = (command) => smallGames.before(command);
-  games.passes = (number) => smallGames.has(number);
+  /** @type {Games} */
+  const games = new Games(session, {
+    changed: (game, event) => hearers.forEach((it) => it(game, event)), passes: (number) => smallGames.has(number),
+  });
+  /** @type {SmallGames} */
+  const smallGames = new SmallGames(session, store, {
+    isBusy: () => games.isAtOne, changed: (number) => lobby.running.showOne(number),
+  });
   const simul = new Simul(session, games);
-  const play = new Play(session, games, simul, preferences);
+  /** @type {Play} */
+  const play = new Play(session, games, simul, preferences, (game) => view.waits(game));
+  /** @type {BoardView} */
   const view = new BoardView(session, games, play);
   const { settings, sounds, alerts, calls, talk } = heralds({ session, games, smallGames, play, simul, preferences });
+  /** @type {Lobby} */
   const lobby = new Lobby(session, games, smallGames, (rows) => calls.challenged(rows));
   const following = new Following(games);
   hearers.push((...it) => following.told(...it), (...it) => play.told(...it), (...it) => view.changed(...it),
@@ -144,18 +152,18 @@ function start() {
   const commandLine = new CommandLine(session, () => games.running.length > 0);
   const forgetful = [talk, settings, commandLine, new PartnerTalk(session), simul, smallGames, lobby, calls];
   const partner = new Partner(session);
-  const login = new Login(session);
+  new Login(session);
   listenForTerms(session);
   listenForActs(session, (number, line) => play.act(number ? games.byNumber.get(number) : games.shown, line));
   listenForShowing(games);
   listenForLeaving(session, games);
-  listenForComing({ session, games, forgetful, partner, lobby, wayBack, login, calls });
+  listenForComing({ session, games, forgetful, partner, lobby, wayBack, calls });
   showInside(session); // the login isn't seen before, since a form that nobody listens to loads the page anew
 }
 
 takeInDrawings();
 await takeUpLooks();
-listenForLooks();
+showLooks();
 listenForViews();
 listenForBoxes("settings", "terms");
 openBy("settings-open", "settings");

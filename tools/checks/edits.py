@@ -1,7 +1,7 @@
 """Edits that must fail: how many there are at most, and that each finds its text."""
 from .sources import TOP, text, tracked
 
-MOST_EDITS, MOST_CRATES = 72, 36
+MOST_EDITS, MOST_CRATES = 73, 36
 
 
 def pairs(edit):

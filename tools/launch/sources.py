@@ -13,6 +13,8 @@ import sys
 from pathlib import Path
 
 TOP = Path(__file__).resolve().parent.parent.parent
+# the programs that the launcher builds: the whole one, and the one of `board` alone
+BUILT = "fics_server", "fics_board"
 
 
 def folder_of(name):

@@ -6,7 +6,7 @@ from dataclasses import dataclass
 from datetime import datetime
 from pathlib import Path
 
-from ficsd_companions.cli.program import built_program
+from ficsd_companions.cli.program import built_program, program
 from ficsd_companions.cli.words import Address, address, amount, count, handle, seconds
 from ficslink.terms import Terms
 
@@ -111,7 +111,7 @@ def parser() -> argparse.ArgumentParser:
     add("--file", type=Path, required=True, metavar="FILE", help="the evening's lines, as `ficsd tourney` reads them")
     add(
         "--program",
-        default=str(built_program() or "ficsd"),
+        default=str(built_program() or program()),
         metavar="FILE",
         help="the program `ficsd`, which pairs; without, the one that was installed or built beside this one, or else "
         "the one on the path",

@@ -5,6 +5,7 @@ const LINK = /^(\d{4}-\d\d-\d\d)\/([1-9]\d*)$/;
 const DAY = /^\d{4}-\d\d-\d\d$/;
 const PLAYER = /^player\/([^/]+)$/;
 
+/** @param {string} text */
 function decoded(text) {
   try {
     return decodeURIComponent(text);
@@ -13,7 +14,9 @@ function decoded(text) {
   }
 }
 
-/** What a path is of, { kind, link, day or name }, where kind is games, day, player, game, or nothing. */
+/** What a path is of, { kind, link, day or name }, where kind is games, day, player, game, or nothing.
+ * @param {string} path
+ * @returns {Address} */
 export function placeOf(path) {
   const rest = path.startsWith(TOP) ? path.slice(TOP.length) : "?";
   const player = PLAYER.exec(rest);
@@ -22,32 +25,38 @@ export function placeOf(path) {
       : player ? { kind: "player", name: decoded(player[1]) } : { kind: "" };
 }
 
-/** Where what a page shows is asked for. */
+/** Where what a page shows is asked for.
+ * @param {string} path @param {string} search */
 export function dataOf(path, search) {
   return `${path === TOP ? `${TOP}found` : path}.json${search}`;
 }
 
+/** @param {string} link */
 export function gameAddress(link) {
   return TOP + link;
 }
 
+/** @param {string} link */
 export function pgnAddress(link) {
   return `${TOP}${link}.pgn`;
 }
 
+/** @param {string} name */
 export function playerAddress(name, variant = "") {
   return `${TOP}player/${encodeURIComponent(name)}${variant && `?variant=${encodeURIComponent(variant)}`}`;
 }
 
-/** The same page with the games before one. */
+/** The same page with the games before one.
+ * @param {string} path @param {string} search @param {string} link */
 export function olderAddress(path, search, link) {
   const asked = new URLSearchParams(search);
   asked.set("before", link);
   return `${path}?${asked}`;
 }
 
-/** Where the game is that two have just ended. */
+/** Where the game is that two have just ended.
+ * @param {Game} game */
 export function lastAddress(game) {
   const { white, black, last, end } = game;
-  return `${TOP}last?${new URLSearchParams({ white, black, result: end.result, "half-moves": last })}`;
+  return `${TOP}last?${new URLSearchParams({ white, black, result: end?.result ?? "", "half-moves": String(last) })}`;
 }

@@ -6,8 +6,10 @@ import { arrayOf, ARRAYS, USUAL } from "../game/fischer.js";
 const FILES = "abcdefgh";
 const USUAL_HOMES = { king: "e", short: "h", long: "a" };
 
-/** The men of a FEN's first field by their squares, and the squares of those that came by promotion. */
+/** The men of a FEN's first field by their squares, and the squares of those that came by promotion.
+ * @param {string} placement */
 function menOf(placement) {
+  /** @type {Men} */
   const men = {};
   const promoted = new Set();
   placement.split("/").forEach((row, n) => {
@@ -27,7 +29,8 @@ function menOf(placement) {
   return { men, promoted };
 }
 
-/** The rights to castle, and the files from which king and rooks do so. */
+/** The rights to castle, and the files from which king and rooks do so.
+ * @param {Men} men @param {string} letters */
 function castlingOf(men, letters) {
   const homes = { ...USUAL_HOMES };
   const rights = { w: { short: false, long: false }, b: { short: false, long: false } };
@@ -38,7 +41,7 @@ function castlingOf(men, letters) {
   }
   for (const letter of letters === "-" ? "" : letters) {
     const low = letter.toLowerCase();
-    const file = isUsual ? { k: "h", q: "a" }[low] : low;
+    const file = !isUsual ? low : low === "k" ? "h" : "a";
     const wing = file > homes.king ? "short" : "long";
     homes[wing] = file;
     rights[letter === low ? "b" : "w"][wing] = true;
@@ -46,31 +49,37 @@ function castlingOf(men, letters) {
   return { homes, rights };
 }
 
-/** The men in hand between the brackets, or null where there are none and so nothing is known of them. */
+/** The men in hand between the brackets, or null where there are none and so nothing is known of them.
+ * @param {string | undefined} held */
 function handsOf(held) {
-  const of = (form) => held.replace(form, "").toUpperCase();
-  return held === undefined ? null : { w: of(/[^A-Z]/g), b: of(/[^a-z]/g) };
+  return held === undefined ? null
+    : { w: held.replace(/[^A-Z]/g, ""), b: held.replace(/[^a-z]/g, "").toUpperCase() };
 }
 
-/** A position: what `legal.js` asks for, and the squares of `promoted` men and the number of half-moves before it. */
+/** A position: what `legal.js` asks for, and the squares of `promoted` men and the number of half-moves before it.
+ * @param {string} fen
+ * @returns {ArchivedPosition} */
 export function positionOfFen(fen) {
   const [placement, side, castling = "-", passed = "-", , move = "1"] = fen.split(" ");
   const [rows, held] = placement.split("[");
   const { men, promoted } = menOf(rows);
   return {
-    men, promoted, side, passed: passed === "-" ? "" : passed, hands: handsOf(held?.slice(0, -1)),
+    men, promoted, side: side === "b" ? "b" : "w", passed: passed === "-" ? "" : passed,
+    hands: handsOf(held?.slice(0, -1)),
     ...castlingOf(men, castling), ply: 2 * (Number(move) - 1) + (side === "b" ? 1 : 0),
   };
 }
 
-/** The number of the array of Fischer random from which a position begins, or nothing where it is none. */
+/** The number of the array of Fischer random from which a position begins, or nothing where it is none.
+ * @param {{ men: Men, ply: number }} position */
 export function arrayOfPosition({ men, ply }) {
   const kinds = Array.from(FILES, (file) => men[`${file}1`]?.[1] ?? "").join("");
   const number = Array.from({ length: ARRAYS }, (_, n) => n).find((n) => arrayOf(n) === kinds);
   return ply === 0 && number !== undefined ? number : "";
 }
 
-/** The FEN of the array with which chess, crazyhouse and bughouse begin; in the latter two nobody has men in hand. */
+/** The FEN of the array with which chess, crazyhouse and bughouse begin; in the latter two nobody has men in hand.
+ * @param {boolean} hasHands */
 export function usualPosition(hasHands) {
   const row = arrayOf(USUAL);
   const held = hasHands ? "[]" : "";

@@ -2,8 +2,8 @@
 
 import { Keys } from "../board/keys.js";
 import { MovesList } from "../board/moves_list.js";
-import { byId, onClick, tellMember } from "../shell/elements.js";
-import { copy } from "../board/pgn_view.js";
+import { byId, onClick } from "../shell/elements.js";
+import { copyPgn } from "../board/pgn_view.js";
 import { Table } from "../board/table.js";
 import { onLanguage, t } from "../shell/texts.js";
 import { reasonInWords } from "../game/state_words.js";
@@ -18,16 +18,20 @@ function plyOfAddress() {
   return ply === undefined ? null : Number(ply);
 }
 
+/** @param {"pair" | "earlier" | "later"} id @param {string | null} address */
 function setLink(id, address) {
   byId(id).hidden = !address;
   byId(id).href = address || TOP;
 }
 
 export class GameView {
-  constructor({ link }, told) {
+  /** @param {string} link @param {ArchivedText} told */
+  constructor(link, told) {
     this.link = link;
     this.told = told;
-    [this.game, this.beside] = this.read();
+    const [game, beside] = this.read();
+    this.game = game;
+    this.beside = beside;
     byId("game-view").hidden = false;
     document.body.dataset.shown = "game";
     this.main = new Table(byId("main-table"), "main");
@@ -40,11 +44,7 @@ export class GameView {
       this.main.turn();
       this.show();
     });
-    onClick("pgn-copy", async () => {
-      await copy(told.pgn);
-      tellMember(t("pgn.copied"));
-      byId("pgn-copy").focus();
-    });
+    onClick("pgn-copy", () => copyPgn(told.pgn));
     this.lookAtAddress();
     window.addEventListener("hashchange", () => {
       this.lookAtAddress();
@@ -54,7 +54,8 @@ export class GameView {
     this.rename();
   }
 
-  /** The game, and of a pair the other one too. */
+  /** The game, and of a pair the other one too.
+   * @returns {[ArchivedGame, ArchivedGame | null]} */
   read() {
     const { pgn, pair } = this.told;
     return pair?.bpgn ? archivedPair({ link: this.link, pgn }, pair, pair.bpgn) : [archivedGame(this.link, pgn), null];
@@ -81,7 +82,7 @@ export class GameView {
     const { game, beside } = this;
     this.main.show(game);
     if (beside) {
-      beside.at = game.shown.beside ?? null;
+      beside.showAt(game.shown.beside ?? null);
       this.partner.show(beside, !this.main.blackBelow);
     }
     byId("hands-unknown").hidden = !game.terms.hasHands || game.shown.hands !== null;
@@ -94,7 +95,7 @@ export class GameView {
     const names = `${game.white} – ${game.black}`;
     const [day] = link.split("/");
     [this.main, this.partner].forEach((it) => it.rename());
-    this.moves.key = "";
+    this.moves.rename();
     document.title = `${names}, ${dayInWords(day)}`;
     byId("game-title").textContent = `${names}, ${resultOf(game.end.result)}`;
     byId("who").replaceChildren(playerLink(game.white), " – ", playerLink(game.black));

@@ -5,6 +5,7 @@ import { byId } from "../shell/elements.js";
 import { lastAddress } from "./addresses.js";
 
 export class ArchiveLinks {
+  /** @param {Session} session */
   constructor(session) {
     this.isThere = false;
     session.on("told", ({ it }) => {
@@ -15,11 +16,12 @@ export class ArchiveLinks {
     });
   }
 
-  /** Leads to the game on the board once it has ended, but for one that goes on another day. */
+  /** Leads to the game on the board once it has ended, but for one that goes on another day.
+   * @param {Game | null} game */
   show(game) {
-    const isKept = this.isThere && Boolean(game?.isOver) && game.end.reason !== "adjourned" && game.last > 0;
+    const isKept = this.isThere && game?.end != null && game.end.reason !== "adjourned" && game.last > 0;
     byId("archived").hidden = !isKept;
-    if (isKept) {
+    if (game && isKept) {
       byId("archived").href = lastAddress(game);
     }
   }

@@ -1,14 +1,21 @@
 /** Lists of games: the newest ones, those that were looked for, of a day, of a player. */
 
-import { byId, onSubmit } from "../shell/elements.js";
+import { byId, element, onSubmit } from "../shell/elements.js";
 import { onLanguage, t } from "../shell/texts.js";
 import { olderAddress, TOP } from "./addresses.js";
-import { dayInWords, dayRow, gameRow, playerRow, tallyRow, variantInWords } from "./rows.js";
+import { dayInWords, dayRow, gameRow, link, playerRow, tallyRow, variantInWords } from "./rows.js";
 
 const VARIANTS = ["chess", "crazyhouse", "bughouse", "fischer"];
-const FIELDS = ["name", "other", "variant", "result"];
+const FIELDS = /** @type {const} */ (["name", "other", "variant", "result"]);
 
-/** A row of what came of each variant, and where there are several one of all together. */
+/** The field of what is looked for.
+ * @param {FIELDS[number]} name */
+function field(name) {
+  return byId(/** @type {`search-${FIELDS[number]}`} */ (`search-${name}`));
+}
+
+/** A row of what came of each variant, and where there are several one of all together.
+ * @param {{ name: string, tally: Record<string, number[]> }} told */
 function tallyRows({ name, tally }) {
   const kinds = VARIANTS.filter((it) => it in tally);
   const sum = [0, 1, 2, 3].map((n) => kinds.reduce((all, it) => all + tally[it][n], 0));
@@ -16,15 +23,14 @@ function tallyRows({ name, tally }) {
   return kinds.length > 1 ? [...rows, tallyRow(name, "", sum)] : rows;
 }
 
+/** @param {string} name @param {string} day */
 function dayLink(name, day) {
-  const link = document.createElement("a");
-  link.href = TOP + day;
-  link.textContent = t(name, { day: dayInWords(day) });
-  return link;
+  return link(TOP + day, t(name, { day: dayInWords(day) }));
 }
 
 export class ListView {
-  /** `place` says what is shown, `told` is what the archive told of it. */
+  /** `place` says what is shown, `told` is what the archive told of it.
+   * @param {Address} place @param {ArchivedList} told */
   constructor(place, told) {
     this.place = place;
     this.told = told;
@@ -43,11 +49,11 @@ export class ListView {
 
   fillSearch() {
     byId("search").hidden = false;
-    FIELDS.forEach((it) => { byId(`search-${it}`).value = this.asked.get(it) ?? ""; });
+    FIELDS.forEach((it) => { field(it).value = this.asked.get(it) ?? ""; });
     byId("search").addEventListener("submit", () => {
-      FIELDS.map((it) => byId(`search-${it}`)).forEach((it) => { it.disabled = !it.value.trim(); });
+      FIELDS.map(field).forEach((it) => { it.disabled = !it.value.trim(); });
     });
-    window.addEventListener("pageshow", () => FIELDS.forEach((it) => { byId(`search-${it}`).disabled = false; }));
+    window.addEventListener("pageshow", () => FIELDS.forEach((it) => { field(it).disabled = false; }));
     const { firstDay, lastDay } = this.told;
     Object.assign(byId("day"), { min: firstDay ?? "", max: lastDay ?? "", value: lastDay ?? "" });
     onSubmit("day-form", () => location.assign(TOP + byId("day").value));
@@ -61,22 +67,28 @@ export class ListView {
     byId("list-title").textContent = this.listTitle();
     byId("games-list").replaceChildren(...games.map((it) => gameRow(it, kind !== "day")));
     if (!games.length) {
-      byId("games-list").append(Object.assign(document.createElement("li"), { textContent: t("archive.none") }));
+      byId("games-list").append(element("li", "", t("archive.none")));
     }
     byId("older").hidden = !hasMore;
-    byId("older").href = hasMore ? olderAddress(location.pathname, location.search, games.at(-1).link) : "";
-    ({ games: () => this.showFound(), day: () => this.showDay(), player: () => this.showPlayer() })[kind]();
+    byId("older").href = hasMore ? olderAddress(location.pathname, location.search, games[games.length - 1].link) : "";
+    if (kind === "games") {
+      this.showFound();
+    } else if (kind === "day") {
+      this.showDay();
+    } else {
+      this.showPlayer();
+    }
   }
 
   title() {
-    const { kind, day } = this.place;
+    const { kind, day = "" } = this.place;
     const { name, count } = this.told;
     return kind === "day" ? t("archive.of-day", { day: dayInWords(day) })
       : kind === "player" ? t("archive.of-player", { name, n: count }) : t("archive.title");
   }
 
   listTitle() {
-    const variant = this.asked.get("variant");
+    const variant = this.asked.get("variant") ?? "";
     const isVariant = VARIANTS.includes(variant) && this.place.kind === "player";
     return isVariant ? variantInWords(variant) : this.isSearch && this.place.kind === "games" ? t("archive.found")
       : this.place.kind === "games" ? t("archive.newest", { n: this.told.count }) : t("archive.games");

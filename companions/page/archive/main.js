@@ -2,7 +2,7 @@
  * link of the server. */
 
 import { listenForBoxes, openBy } from "../shell/boxes.js";
-import { listenForLooks, takeUpLooks } from "../member/looks.js";
+import { showLooks, takeUpLooks } from "../member/looks.js";
 import { byId } from "../shell/elements.js";
 import { onLanguage, t } from "../shell/texts.js";
 import { dataOf, placeOf } from "./addresses.js";
@@ -11,7 +11,8 @@ import { ListView } from "./list_view.js";
 
 const NOT_FOUND = 404;
 
-/** What the archive tells of an address; null where there is nothing, and undefined where it doesn't answer. */
+/** What the archive tells of an address; null where there is nothing, and undefined where it doesn't answer.
+ * @param {Address} place */
 async function toldOf(place) {
   if (!place.kind) {
     return null;
@@ -24,7 +25,8 @@ async function toldOf(place) {
   }
 }
 
-/** Shows that there is nothing, or nothing for the moment. */
+/** Shows that there is nothing, or nothing for the moment.
+ * @param {string} key */
 function showNothing(key) {
   const name = () => {
     document.title = t(key);
@@ -41,14 +43,14 @@ async function start() {
   if (!told) {
     showNothing(told === null ? "archive.nothing" : "archive.no-answer");
   } else if (place.kind === "game") {
-    new GameView(place, told);
+    new GameView(place.link ?? "", told);
   } else {
     new ListView(place, told);
   }
 }
 
 await takeUpLooks();
-listenForLooks();
+showLooks();
 listenForBoxes("settings");
 openBy("settings-open", "settings");
 await start();

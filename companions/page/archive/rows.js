@@ -6,38 +6,45 @@ import { language, t } from "../shell/texts.js";
 import { gameAddress, playerAddress, TOP } from "./addresses.js";
 import { controlOf } from "./pgn_read.js";
 
+/** @type {Record<string, string>} */
 const RESULTS = { "1-0": "1–0", "0-1": "0–1", "1/2-1/2": "½–½", "*": "*" };
 
-/** A day as people write it. */
+/** A day as people write it.
+ * @param {string} day */
 export function dayInWords(day) {
   const date = new Date(`${day}T00:00:00Z`);
   return Number.isNaN(date.getTime()) ? day
     : date.toLocaleDateString(language(), { dateStyle: "medium", timeZone: "UTC" });
 }
 
-/** A result as it is read. */
+/** A result as it is read.
+ * @param {string} result */
 export function resultOf(result) {
   return RESULTS[result] ?? result;
 }
 
-/** A time control of a tag, as 5+3. */
+/** A time control of a tag, as 5+3.
+ * @param {string | undefined} text */
 export function controlInWords(text) {
   const control = controlOf(text);
   const minutes = control && control.start >= 60 ? Math.round(control.start / 6) / 10 : 0;
   return new Terms(minutes, control?.increment ?? 0, "chess").shortTime();
 }
 
+/** @param {string} variant */
 export function variantInWords(variant) {
   return t(`variant.${variant}`);
 }
 
-function link(address, text, className = "") {
+/** @param {string} address @param {string} text */
+export function link(address, text, className = "") {
   const made = element("a", className, text);
   made.href = address;
   return made;
 }
 
-/** A game: who played, how it ended, and below that what it was. */
+/** A game: who played, how it ended, and below that what it was.
+ * @param {ArchiveRow} game @param {boolean} hasDay */
 export function gameRow(game, hasDay) {
   const row = element("li");
   const whole = link(gameAddress(game.link), "");
@@ -54,7 +61,8 @@ export function gameRow(game, hasDay) {
   return row;
 }
 
-/** A day or a player, with the number of its games. */
+/** A day or a player, with the number of its games.
+ * @param {string} address @param {string} text @param {number} count */
 export function tagRow(address, text, count) {
   const row = element("li");
   const whole = link(address, text);
@@ -63,15 +71,18 @@ export function tagRow(address, text, count) {
   return row;
 }
 
+/** @param {Counted} row */
 export function dayRow([day, count]) {
   return tagRow(TOP + day, dayInWords(day), count);
 }
 
+/** @param {Counted} row */
 export function playerRow([name, count]) {
   return tagRow(playerAddress(name), name, count);
 }
 
-/** What came of a player's games of a variant: all, won, lost, drawn, without a result. */
+/** What came of a player's games of a variant: all, won, lost, drawn, without a result.
+ * @param {string} name @param {string} variant @param {number[]} tally */
 export function tallyRow(name, variant, [won, lost, drawn, open]) {
   const row = element("tr");
   const head = element("th");
@@ -81,7 +92,8 @@ export function tallyRow(name, variant, [won, lost, drawn, open]) {
   return row;
 }
 
-/** A player's name that leads to its games. */
+/** A player's name that leads to its games.
+ * @param {string} name */
 export function playerLink(name) {
   return link(playerAddress(name), name);
 }

@@ -2,23 +2,20 @@
  * left click on the board takes them all away, and so does another position. */
 
 import { arrowCorners, colourBy, Drawn } from "./drawn.js";
+import { shape } from "../shell/elements.js";
 import { t } from "../shell/texts.js";
 
-const SVG = "http://www.w3.org/2000/svg";
 const RIGHT = 2;
 
+/** @param {EventTarget | null} element */
 function squareAt(element) {
-  return element?.closest?.("[data-square]")?.dataset.square ?? "";
-}
-
-function shape(name, attributes) {
-  const made = document.createElementNS(SVG, name);
-  Object.entries(attributes).forEach(([key, value]) => made.setAttribute(key, value));
-  return made;
+  const square = element instanceof Element ? element.closest("[data-square]") : null;
+  return square instanceof HTMLElement ? square.dataset.square ?? "" : "";
 }
 
 export class Arrows {
-  /** `changed` is called once something else is drawn. */
+  /** `changed` is called once something else is drawn.
+   * @param {Board} board @param {() => void} changed */
   constructor(board, changed) {
     this.board = board;
     this.changed = changed;
@@ -34,11 +31,13 @@ export class Arrows {
     root.addEventListener("click", (event) => event.button === 0 && this.clear());
   }
 
+  /** @param {PointerEvent} event */
   press(event) {
     const from = squareAt(event.target);
     if (event.button !== RIGHT || !from) {
       return;
     }
+    /** @param {PointerEvent} it */
     const stop = (it) => {
       window.removeEventListener("pointerup", stop);
       window.removeEventListener("pointercancel", stop);
@@ -51,7 +50,8 @@ export class Arrows {
     window.addEventListener("pointercancel", stop);
   }
 
-  /** Shift and Enter on a square begin one, and on the next square end it. */
+  /** Shift and Enter on a square begin one, and on the next square end it.
+   * @param {KeyboardEvent} event */
   key(event) {
     const square = squareAt(event.target);
     if (event.key === "Enter" && event.shiftKey && square) {
@@ -66,6 +66,7 @@ export class Arrows {
     }
   }
 
+  /** @param {string} from @param {string} to @param {Keys} keys */
   add(from, to, keys) {
     this.from = "";
     this.drawn.toggle(from, to, colourBy(keys));
@@ -80,7 +81,8 @@ export class Arrows {
     }
   }
 
-  /** Shows what is drawn on a position, which its text tells from others. */
+  /** Shows what is drawn on a position, which its text tells from others.
+   * @param {string} position */
   show(position) {
     if (position !== this.position) {
       this.position = position;
@@ -90,6 +92,7 @@ export class Arrows {
     this.layer.replaceChildren(...this.drawn.shapes.map((it) => this.shape(it)));
   }
 
+  /** @param {Shape} drawn */
   shape({ from, to, colour }) {
     const [start, end] = [this.board.placeOf(from), this.board.placeOf(to)];
     return from === to ? shape("circle", { cx: start.x + 0.5, cy: start.y + 0.5, r: 0.44, class: `circle ${colour}` })
@@ -98,6 +101,7 @@ export class Arrows {
 
   /** Of each square that has something drawn, what a screen reader says of it. */
   get names() {
+    /** @type {Record<string, string>} */
     const names = {};
     for (const { from, to } of this.drawn.shapes) {
       const text = from === to ? t("square.circled") : t("square.arrow", { to });

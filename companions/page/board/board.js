@@ -1,21 +1,27 @@
 /** A board of 64 squares, each a button with its man. By keyboard the arrows go from square to square. */
 
 import { drawing, manInWords } from "./men.js";
+import { around, element } from "../shell/elements.js";
 import { t } from "../shell/texts.js";
 
 const FILES = "abcdefgh";
+/** @type {Record<string, number[]>} */
 const STEPS = { ArrowLeft: [-1, 0], ArrowRight: [1, 0], ArrowUp: [0, 1], ArrowDown: [0, -1] };
-const MARKS = ["last", "chosen", "target", "check", "premove"];
+const MARKS = /** @type {const} */ (["last", "chosen", "target", "check", "premove"]);
 
 export class Board {
+  /** @param {HTMLElement} root @param {BoardName} name */
   constructor(root, name) {
     this.root = root;
     root.classList.add("board");
     root.dataset.board = name;
     root.setAttribute("role", "group");
     this.rename();
+    /** @type {Record<string, HTMLButtonElement>} */
     this.squares = {};
+    /** @type {Element[]} */
     this.over = []; // what lies over the squares
+    /** @type {boolean | null} */
     this.isTurned = null;
     this.at = "e2"; // the square that Tab reaches
     for (const file of FILES) {
@@ -25,20 +31,20 @@ export class Board {
     }
     this.turn(false);
     root.addEventListener("keydown", (event) => this.walk(event));
-    root.addEventListener("focusin", (event) => this.reach(event.target.dataset?.square));
+    root.addEventListener("focusin", (event) => this.reach(around(event, "[data-square]")?.dataset.square));
   }
 
+  /** @param {string} file @param {number} rank */
   square(file, rank) {
-    const button = document.createElement("button");
-    button.type = "button";
+    const button = element("button", (FILES.indexOf(file) + rank) % 2 ? "square dark" : "square light");
     button.dataset.square = file + rank;
-    button.className = (FILES.indexOf(file) + rank) % 2 ? "square dark" : "square light";
     button.tabIndex = file + rank === this.at ? 0 : -1;
     button.setAttribute("aria-label", file + rank);
     return button;
   }
 
-  /** Puts White or Black below. */
+  /** Puts White or Black below.
+   * @param {boolean} isTurned */
   turn(isTurned) {
     if (this.isTurned === isTurned) {
       return;
@@ -54,20 +60,23 @@ export class Board {
     }
   }
 
-  /** Lays an element over the squares, which doesn't take their place. */
+  /** Lays an element over the squares, which doesn't take their place.
+   * @param {Element} element */
   lay(element) {
     this.over.push(element);
     this.root.append(element);
   }
 
-  /** Column and row of a square as it is seen, from 0 at the left and at the top. */
+  /** Column and row of a square as it is seen, from 0 at the left and at the top.
+   * @param {string} name */
   placeOf(name) {
     const file = FILES.indexOf(name[0]);
     const rank = Number(name[1]) - 1;
     return this.isTurned ? { x: 7 - file, y: rank } : { x: file, y: 7 - rank };
   }
 
-  /** Shows men by their squares, and of each kind of mark the squares that have it. */
+  /** Shows men by their squares, and of each kind of mark the squares that have it.
+   * @param {Men} men @param {Marks} marks */
   show(men, marks) {
     for (const [name, button] of Object.entries(this.squares)) {
       const man = men[name] ?? "";
@@ -82,6 +91,7 @@ export class Board {
     }
   }
 
+  /** @param {HTMLButtonElement} button @param {string} man */
   put(button, man) {
     if (man) {
       button.dataset.man = man;
@@ -92,7 +102,8 @@ export class Board {
     }
   }
 
-  /** What a screen reader says of a square. */
+  /** What a screen reader says of a square.
+   * @param {HTMLButtonElement} button @param {string} man @param {string[]} marks @param {string | undefined} drawn */
   name(button, man, marks, drawn) {
     const said = [button.dataset.square, man && manInWords(man),
       ...["target", "check", "premove"].filter((it) => marks.includes(it)).map((it) => t(`square.${it}`)), drawn];
@@ -111,6 +122,7 @@ export class Board {
     this.squares[this.at].focus({ preventScroll: true });
   }
 
+  /** @param {string | undefined} name */
   reach(name) {
     if (name && name !== this.at) {
       this.squares[this.at].tabIndex = -1;
@@ -119,9 +131,10 @@ export class Board {
     }
   }
 
+  /** @param {KeyboardEvent} event */
   walk(event) {
     const step = STEPS[event.key];
-    const name = event.target.dataset?.square;
+    const name = around(event, "[data-square]")?.dataset.square;
     if (!step || !name || event.defaultPrevented || event.ctrlKey || event.altKey || event.metaKey) {
       return;
     }

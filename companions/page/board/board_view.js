@@ -4,25 +4,26 @@ import { AfterGame } from "./after_game.js";
 import { Keys } from "./keys.js";
 import { MovesList } from "./moves_list.js";
 import { showOffers } from "./offers_view.js";
-import { byId, onClick } from "../shell/elements.js";
-import { Promotion } from "./promotion.js";
+import { byId, element, onClick, onClickAt } from "../shell/elements.js";
+import { otherThan } from "../game/legal.js";
 import { wordOf } from "../game/moves.js";
 import { Table } from "./table.js";
 import { t } from "../shell/texts.js";
 import { choiceOf, endInWords, statusOf } from "../game/state_words.js";
 
-const PLAYER_ACTS = ["draw", "takeback", "abort", "adjourn", "flag", "resign", "move", "move-send"];
+const PLAYER_ACTS = /** @type {const} */ (["draw", "takeback", "abort", "adjourn", "flag", "resign", "move",
+  "move-send"]);
 const FLAG_EVERY = 500; // milliseconds
 
 export class BoardView {
+  /** @param {Session} session @param {Games} games @param {Play} play */
   constructor(session, games, play) {
     this.session = session;
     this.games = games;
+    /** @type {Game | null} */
     this.begun = null; // the game whose first board is awaited
     this.main = new Table(byId("main-table"), "main", play);
     this.partner = new Table(byId("partner-table"), "partner");
-    play.promotion = new Promotion(this.main.board);
-    play.changed = (game) => this.waits(game);
     this.moves = new MovesList(games, () => this.show());
     this.keys = new Keys((step) => this.isInSight && this.moves.step(step));
     this.afterGame = new AfterGame(session, games);
@@ -35,15 +36,11 @@ export class BoardView {
       byId("takeback").dataset.command = `takeback ${byId("takeback-n").value || 1}`;
     });
     setInterval(() => this.showFlag(), FLAG_EVERY);
-    byId("choices").addEventListener("click", (event) => {
-      const button = event.target.closest("[data-game]");
-      if (button) {
-        games.choose(Number(button.dataset.game));
-      }
-    });
+    onClickAt(byId("choices"), "[data-game]", (button) => games.choose(Number(button.dataset.game)));
   }
 
-  /** A game was told of: what changed is shown and, where it is a half-move at the board that is shown, spoken. */
+  /** A game was told of: what changed is shown and, where it is a half-move at the board that is shown, spoken.
+   * @param {Game | null} game @param {Happened} event */
   changed(game, event) {
     const isFirst = byId("board").hidden || game === this.begun;
     if (event.kind === "creating" || event.kind === "continuing") {
@@ -59,10 +56,11 @@ export class BoardView {
     }
   }
 
-  /** A premove waits now, or none any more: it is shown and spoken. */
+  /** A premove waits now, or none any more: it is shown and spoken.
+   * @param {Game} game */
   waits(game) {
-    const { premove } = game;
-    byId("spoken").textContent = premove ? t("premove.waits", { move: wordOf(game.place.men, premove) })
+    const { premove, place } = game;
+    byId("spoken").textContent = premove && place ? t("premove.waits", { move: wordOf(place.men, premove) })
       : t("premove.gone");
     this.show();
   }
@@ -80,11 +78,13 @@ export class BoardView {
     }
   }
 
-  /** The last half-move is spoken, and behind it the end of the game. */
+  /** The last half-move is spoken, and behind it the end of the game.
+   * @param {Game} game @param {Happened} event */
   speak(game, event) {
-    const isEnd = event.result !== undefined;
-    if (event.isHalfMove || (isEnd && game.place)) {
-      const move = game.last > 0 ? `${game.nameOf(game.toMove === "w" ? "b" : "w")}: ${game.place.board.short}` : "";
+    const { place } = game;
+    const isEnd = "result" in event;
+    if (place && (isEnd || (event.kind === "board" && event.isHalfMove))) {
+      const move = game.last > 0 ? `${game.nameOf(otherThan(place.board.side))}: ${place.board.short}` : "";
       byId("spoken").textContent = isEnd ? `${move}. ${endInWords(game)}` : move;
     }
   }
@@ -96,7 +96,6 @@ export class BoardView {
     if (!game?.place) {
       return;
     }
-    this.main.me = this.session.me;
     this.main.show(game);
     const pair = this.games.pairOf(game);
     byId("partner-table").hidden = !pair?.place;
@@ -115,10 +114,11 @@ export class BoardView {
   /** Names all that is shown anew, in another language. */
   rename() {
     [this.main, this.partner].forEach((it) => it.rename());
-    this.moves.key = "";
+    this.moves.rename();
     this.show();
   }
 
+  /** @param {Game} game @param {Game | null} pair */
   showActs(game, pair) {
     for (const id of PLAYER_ACTS) {
       byId(id).disabled = game.role !== "mine" || game.isOver;
@@ -133,11 +133,12 @@ export class BoardView {
       game.role === "watched" && !game.isOver ? "act.look-no-longer" : "close");
   }
 
-  /** A button for each game that is seen besides the one that is shown; the boards of a pair are seen together. */
+  /** A button for each game that is seen besides the one that is shown; the boards of a pair are seen together.
+   * @param {Game} game @param {Game | null} pair */
   showChoices(game, pair) {
     const others = [...this.games.byNumber.values()].filter((it) => it.place);
     byId("choices").hidden = others.length <= (pair ? 2 : 1);
-    const buttons = [...byId("choices").children];
+    const buttons = /** @type {HTMLElement[]} */ ([...byId("choices").children]);
     if (buttons.map((it) => it.dataset.game).join() !== others.map((it) => it.number).join()) {
       byId("choices").replaceChildren(...others.map((it) => this.choiceButton(it)));
     }
@@ -148,10 +149,10 @@ export class BoardView {
     });
   }
 
+  /** @param {Game} game */
   choiceButton(game) {
-    const button = document.createElement("button");
-    button.type = "button";
-    button.dataset.game = game.number;
+    const button = element("button");
+    button.dataset.game = String(game.number);
     return button;
   }
 
@@ -159,12 +160,16 @@ export class BoardView {
   showFlag() {
     const game = this.games.shown;
     const isTimed = game?.role === "mine" && !game.isOver && game.place && game.terms.isTimed;
-    const hasFallen = isTimed && game.left(game.colourOf(game.otherThan(this.session.me))) <= 0;
+    const opponent = game?.colourOf(game.otherThan(this.session.me));
+    const hasFallen = isTimed && opponent && (game.left(opponent) ?? 1) <= 0;
     byId("flag").classList.toggle("strong", Boolean(hasFallen));
   }
 
   close() {
     const game = this.games.shown;
+    if (!game) {
+      return;
+    }
     if (game.role === "watched" && !game.isOver) {
       this.session.act(`unobserve ${game.number}`);
       return;

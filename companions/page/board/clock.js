@@ -8,7 +8,8 @@ const LOW = 20; // seconds
 const TENTHS_BELOW = 10; // seconds
 
 /** Seconds as a clock shows them, the last ones with tenths; below 0 the time is over and nobody has called the
- * flag. */
+ * flag.
+ * @param {number} seconds */
 export function clockText(seconds) {
   if (seconds > 0 && seconds < TENTHS_BELOW) {
     return `0:0${(Math.ceil(seconds * 10 - 1e-6) / 10).toFixed(1)}`.replace("0:010", "0:10");
@@ -19,15 +20,21 @@ export function clockText(seconds) {
 }
 
 export class Clock {
+  /** @param {HTMLElement} root */
   constructor(root) {
     this.root = root;
     root.className = "clock";
     root.setAttribute("role", "timer");
     root.setAttribute("aria-live", "off");
+    /** @type {Game | null} */
+    this.game = null;
+    /** @type {Colour} */
+    this.colour = "w";
     setInterval(() => this.tick(), EVERY);
   }
 
-  /** Shows the clock of a colour in a game. */
+  /** Shows the clock of a colour in a game.
+   * @param {Game} game @param {Colour} colour */
   show(game, colour) {
     this.game = game;
     this.colour = colour;

@@ -2,14 +2,16 @@
 
 const FAR = 5; // pixels from which on it is a drag
 
+/** @param {EventTarget | null} target */
 function place(target) {
-  const it = target?.closest?.("[data-square], [data-drop]");
-  return it ? { element: it, square: it.dataset.square, drop: it.dataset.drop } : null;
+  const it = target instanceof Element ? target.closest("[data-square], [data-drop]") : null;
+  return it instanceof HTMLElement ? { element: it, square: it.dataset.square, drop: it.dataset.drop } : null;
 }
 
 export class Drag {
   /** `mayLift(place)` says whether a man may be lifted there; `lifted` gets the place where a drag begins, `moved(from,
-   * to)` both places of it, and `clicked` the place of a click. */
+   * to)` both places of it, and `clicked` the place of a click.
+   * @param {HTMLElement} root @param {DragListeners} listeners */
   constructor(root, { mayLift, lifted, moved, clicked }) {
     this.root = root;
     this.mayLift = mayLift;
@@ -25,6 +27,7 @@ export class Drag {
     root.addEventListener("dragstart", (event) => event.preventDefault());
   }
 
+  /** @param {PointerEvent} event */
   press(event) {
     const from = place(event.target);
     if (event.button !== 0 || !from || !this.mayLift(from)) {
@@ -32,7 +35,9 @@ export class Drag {
     }
     const drawing = from.element.querySelector("svg");
     const lifted = { from, drawing, x: event.clientX, y: event.clientY, isFar: false };
+    /** @param {PointerEvent} it */
     const go = (it) => this.go(lifted, it);
+    /** @param {PointerEvent} it */
     const stop = (it) => {
       window.removeEventListener("pointermove", go);
       window.removeEventListener("pointerup", stop);
@@ -44,6 +49,7 @@ export class Drag {
     window.addEventListener("pointercancel", stop);
   }
 
+  /** @param {Lifted} lifted @param {PointerEvent} event */
   go(lifted, event) {
     const x = event.clientX - lifted.x;
     const y = event.clientY - lifted.y;
@@ -57,6 +63,7 @@ export class Drag {
     }
   }
 
+  /** @param {Lifted} lifted @param {PointerEvent} event */
   drop(lifted, event) {
     if (lifted.drawing) {
       lifted.drawing.classList.remove("lifted");

@@ -1,9 +1,10 @@
 /** The men in two sets, drawn for this page, in a square of 45 units. Each kind has its body, and lines upon it. */
 
+import { shape } from "../shell/elements.js";
 import { t } from "../shell/texts.js";
 
-const SVG = "http://www.w3.org/2000/svg";
 const FOOT = "M10.5 39v-2.6q0-2.4 2.4-2.4h19.2q2.4 0 2.4 2.4V39z";
+/** @type {Record<string, Drawing>} */
 const TURNED = {
   P: {
     body: ["M19.4 21.5C19.2 27 17 31 14.2 34h16.6C28 31 25.8 27 25.6 21.5z",
@@ -40,12 +41,14 @@ const TURNED = {
   },
 };
 
-/** The name of a man, as "white knight" of wN. */
+/** The name of a man, as "white knight" of wN.
+ * @param {string} man */
 export function manInWords(man) {
   return t(`man.${man}`);
 }
 
 const BASE = "M11 33.8h23V39H11z";
+/** @type {Record<string, Drawing>} */
 const PLAIN = {
   P: {
     body: ["M11.5 39C11.5 31 16 26 22.5 26S33.5 31 33.5 39z", "M22.5 10.5a6.8 6.8 0 1 1 0 13.6a6.8 6.8 "
@@ -71,26 +74,16 @@ const PLAIN = {
   },
 };
 
-function path(form, name) {
-  const drawn = document.createElementNS(SVG, "path");
-  drawn.setAttribute("d", form);
-  drawn.setAttribute("class", name);
-  return drawn;
-}
-
+/** @param {string} name @param {Drawing} form */
 function group(name, { body, lines }) {
-  const made = document.createElementNS(SVG, "g");
-  made.setAttribute("class", name);
-  made.append(...body.map((it) => path(it, "body")), ...lines.map((it) => path(it, "line")));
-  return made;
+  return shape("g", { class: name }, ...body.map((it) => shape("path", { d: it, class: "body" })),
+    ...lines.map((it) => shape("path", { d: it, class: "line" })));
 }
 
-/** The drawing of a man, as of wN, in both sets; the style sheet shows one of them. */
+/** The drawing of a man, as of wN, in both sets; the style sheet shows one of them.
+ * @param {string} man */
 export function drawing(man) {
-  const svg = document.createElementNS(SVG, "svg");
-  svg.setAttribute("viewBox", "0 0 45 45");
-  svg.setAttribute("class", `man ${man[0] === "w" ? "white" : "black"}`);
-  svg.setAttribute("aria-hidden", "true");
-  svg.append(...Object.entries({ turned: TURNED, plain: PLAIN }).map(([name, set]) => group(name, set[man[1]])));
-  return svg;
+  const [colour, kind] = man;
+  const attributes = { viewBox: "0 0 45 45", class: `man ${colour === "w" ? "white" : "black"}`, "aria-hidden": "true" };
+  return shape("svg", attributes, group("turned", TURNED[kind]), group("plain", PLAIN[kind]));
 }

@@ -4,6 +4,7 @@ import { showRows } from "../shell/list.js";
 import { acceptance, offerInWords } from "../game/offers.js";
 import { t } from "../shell/texts.js";
 
+/** @param {Game} game @param {Offer} offer @param {string} me */
 function buttonsFor(game, offer, me) {
   const what = offerInWords(offer);
   const accept = {
@@ -14,7 +15,8 @@ function buttonsFor(game, offer, me) {
   return game.offers.firstFor(me) === offer ? [accept, decline] : [accept];
 }
 
-/** The server turns down the earliest offer only, so only that one has a button for it. */
+/** The server turns down the earliest offer only, so only that one has a button for it.
+ * @param {HTMLElement} list @param {Game} game @param {string} me */
 export function showOffers(list, game, me) {
   const open = game.role === "mine" ? game.offers.openTo(me) : [];
   showRows(list, game.offers.standing.map((offer) => {

@@ -4,8 +4,9 @@ import { byId, onClick, tellMember } from "../shell/elements.js";
 import { fileName, pgnOf } from "../game/pgn.js";
 import { t } from "../shell/texts.js";
 
-/** Puts a text on the clipboard; where the browser keeps that for safe pages, by way of a field. */
-export async function copy(text) {
+/** Puts a text on the clipboard; where the browser keeps that for safe pages, by way of a field.
+ * @param {string} text */
+async function copy(text) {
   if (navigator.clipboard) {
     await navigator.clipboard.writeText(text);
     return;
@@ -18,6 +19,15 @@ export async function copy(text) {
   field.remove();
 }
 
+/** Copies a game's text, and says so.
+ * @param {string} pgn */
+export async function copyPgn(pgn) {
+  await copy(pgn);
+  tellMember(t("pgn.copied"));
+  byId("pgn-copy").focus();
+}
+
+/** @param {string} name @param {string} text */
 function save(name, text) {
   const link = document.createElement("a");
   link.href = URL.createObjectURL(new Blob([text], { type: "application/x-chess-pgn" }));
@@ -26,11 +36,12 @@ function save(name, text) {
   setTimeout(() => URL.revokeObjectURL(link.href), 10_000);
 }
 
+/** @param {Games} games */
 export function listenForPgn(games) {
   onClick("pgn-copy", async () => {
-    await copy(pgnOf(games.shown, location.host));
-    tellMember(t("pgn.copied"));
-    byId("pgn-copy").focus();
+    if (games.shown) {
+      await copyPgn(pgnOf(games.shown, location.host));
+    }
   });
-  onClick("pgn-save", () => save(fileName(games.shown), pgnOf(games.shown, location.host)));
+  onClick("pgn-save", () => games.shown && save(fileName(games.shown), pgnOf(games.shown, location.host)));
 }

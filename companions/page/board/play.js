@@ -8,65 +8,81 @@ import { premoveWord, squaresFor } from "../game/premove.js";
 import { t } from "../shell/texts.js";
 
 export class Play {
-  constructor(session, games, simul, preferences) {
+  /** `premoved` is called with a game whose premove is another one.
+   * @param {Session} session @param {Games} games @param {Simul} simul @param {Preferences} preferences
+   * @param {(game: Game) => void} premoved */
+  constructor(session, games, simul, preferences, premoved) {
     this.session = session;
     this.games = games;
     this.simul = simul;
     this.preferences = preferences;
-    this.promotion = null; // where a member chooses what a pawn becomes
-    this.changed = () => {}; // called with the game whose premove is another one
-    onClick("resign", () => this.askToResign(games.shown));
+    this.premoved = premoved;
+    onClick("resign", () => games.shown && this.askToResign(games.shown));
     onSubmit("move-form", () => this.type());
   }
 
+  /** The member's name. */
+  get me() {
+    return this.session.me;
+  }
+
+  /** @param {Game} game */
   isTurn(game) {
     return game.nameOf(game.toMove) === this.session.me;
   }
 
-  /** A move of the mouse or the keyboard at the board, from a place with a `square` or the kind to `drop`. */
-  move(game, from, to) {
-    const { men } = game.place;
-    const move = { from: from.square, drop: from.drop, to: to.square, man: men[from.square], promotion: "" };
+  /** A move of the mouse or the keyboard at the board, from a place with a `square` or the kind to `drop`.
+   * `becomes(colour, square)` asks what a pawn becomes there.
+   * @param {Game} game @param {Spot} from @param {Spot} to @param {Becomes} becomes */
+  move(game, from, to, becomes) {
+    const men = game.place?.men ?? {};
+    const [start = "", end = ""] = [from.square, to.square];
+    const move = { from: from.square, drop: from.drop, to: end, man: men[start], promotion: "" };
     const colour = game.colourOf(this.session.me);
-    if (from.drop || !isPromotion(men, from.square, to.square) || this.preferences.get("queen")
-      || !squaresFor(game, colour, from).includes(to.square)) {
+    if (!colour || from.drop || !isPromotion(men, start, end) || this.preferences.get("queen")
+      || !squaresFor(game, colour, from).includes(end)) {
       this.put(game, move);
     } else {
-      this.promotion.ask(colour, to.square).then((kind) => kind && this.put(game, { ...move, promotion: kind }));
+      becomes(colour, end).then((kind) => kind && this.put(game, { ...move, promotion: kind }));
     }
   }
 
-  /** Plays a move, or where it isn't the member's turn keeps it for then. */
+  /** Plays a move, or where it isn't the member's turn keeps it for then.
+   * @param {Game} game @param {Premove} move */
   put(game, move) {
     if (this.isTurn(game) || game.isOver || !this.preferences.get("premoves")) {
-      this.act(game, wordOf(game.place.men, move));
+      this.act(game, wordOf(game.place?.men ?? {}, move));
     } else {
-      game.premove = move;
-      this.changed(game);
+      game.wait(move);
+      this.premoved(game);
     }
   }
 
-  /** Takes back what waits for the member's turn. */
+  /** Takes back what waits for the member's turn.
+   * @param {Game} game */
   withdraw(game) {
-    game.premove = null;
-    this.changed(game);
+    game.wait(null);
+    this.premoved(game);
   }
 
-  /** A board was told: what waits for it is played where it is allowed now, and else dropped. */
+  /** A board was told: what waits for it is played where it is allowed now, and else dropped.
+   * @param {Game | null} game @param {Happened} event */
   told(game, event) {
-    if (event.kind !== "board" || !event.isNew || !game.premove) {
+    if (event.kind !== "board" || !event.isNew || !game?.premove) {
       return;
     }
     if (this.isTurn(game)) {
-      const word = event.isHalfMove ? premoveWord(game, game.colourOf(this.session.me)) : "";
-      game.premove = null;
+      const colour = game.colourOf(this.session.me);
+      const word = event.isHalfMove && colour ? premoveWord(game, colour) : "";
+      game.wait(null);
       if (word) {
         this.act(game, word);
       }
     }
   }
 
-  /** A game is given up once the member has said so again. */
+  /** A game is given up once the member has said so again.
+   * @param {Game} game */
   askToResign(game) {
     ask("resign-ask", () => this.act(game, "resign"));
   }
@@ -91,7 +107,8 @@ export class Play {
   }
 
   /** Sends a line for a game, and gives the answer, or null where it wasn't sent. In a simul a move that is made leads
-   * on to the next board. */
+   * on to the next board.
+   * @param {Game | null | undefined} game @param {string} line */
   async act(game, line) {
     const isSimul = this.simul.isOn;
     if (!game || !await this.simul.reach(game)) {

@@ -1,20 +1,22 @@
 /** What a pawn becomes is chosen on the board, where the pawn goes: four men in the column of its square. */
 
 import { drawing } from "./men.js";
+import { around, element } from "../shell/elements.js";
 import { t } from "../shell/texts.js";
 
 const CHOICES = ["q", "n", "r", "b"];
+/** @type {Record<string, number>} */
 const STEPS = { ArrowDown: 1, ArrowRight: 1, ArrowUp: -1, ArrowLeft: -1 };
 
 export class Promotion {
+  /** @param {Board} board */
   constructor(board) {
     this.board = board;
+    /** @type {((kind: string) => void) | null} */
     this.answer = null; // of whoever waits for the choice
-    this.veil = document.createElement("div");
-    this.veil.className = "promotion-veil";
+    this.veil = element("div", "promotion-veil");
     this.veil.hidden = true;
-    this.box = document.createElement("div");
-    this.box.className = "promotion";
+    this.box = element("div", "promotion");
     this.box.setAttribute("role", "dialog");
     this.buttons = CHOICES.map((kind) => this.button(kind));
     this.box.append(...this.buttons);
@@ -22,20 +24,22 @@ export class Promotion {
     board.lay(this.veil);
     this.veil.addEventListener("click", (event) => {
       event.stopPropagation();
-      this.choose(event.target.closest("[data-promote]")?.dataset.promote ?? "");
+      this.choose(around(event, "[data-promote]")?.dataset.promote ?? "");
     });
     this.veil.addEventListener("pointerdown", (event) => event.stopPropagation());
     this.veil.addEventListener("keydown", (event) => this.press(event));
   }
 
+  /** @param {string} kind */
   button(kind) {
-    const button = document.createElement("button");
-    button.type = "button";
+    const button = element("button");
     button.dataset.promote = kind;
     return button;
   }
 
-  /** Asks what a pawn of that colour becomes on a square: q, r, b or n, or nothing where the move is given up. */
+  /** Asks what a pawn of that colour becomes on a square: q, r, b or n, or nothing where the move is given up.
+   * @param {Colour} colour @param {string} square
+   * @returns {Promise<string>} */
   ask(colour, square) {
     this.choose("");
     const { x, y } = this.board.placeOf(square);
@@ -43,7 +47,7 @@ export class Promotion {
     this.box.style.left = `${12.5 * x}%`;
     this.box.classList.toggle("upwards", y > 3);
     for (const button of this.buttons) {
-      const kind = button.dataset.promote.toUpperCase();
+      const kind = (button.dataset.promote ?? "").toUpperCase();
       button.setAttribute("aria-label", t(`kind.${kind}`));
       button.replaceChildren(drawing(colour + kind));
     }
@@ -52,6 +56,7 @@ export class Promotion {
     return new Promise((answer) => { this.answer = answer; });
   }
 
+  /** @param {string} kind */
   choose(kind) {
     const { answer } = this;
     const hadFocus = this.veil.contains(document.activeElement);
@@ -63,13 +68,14 @@ export class Promotion {
     answer?.(kind);
   }
 
-  /** Tab and the arrows stay among the four; Escape gives the move up. */
+  /** Tab and the arrows stay among the four; Escape gives the move up.
+   * @param {KeyboardEvent} event */
   press(event) {
     const step = event.key === "Tab" ? (event.shiftKey ? -1 : 1) : STEPS[event.key];
     if (event.key === "Escape") {
       this.choose("");
     } else if (step) {
-      const now = this.buttons.indexOf(document.activeElement);
+      const now = this.buttons.findIndex((it) => it === document.activeElement);
       this.buttons[(now + step + CHOICES.length) % CHOICES.length].focus();
       event.preventDefault();
     }

@@ -1,25 +1,28 @@
 /** A small board that only shows: no square of it can be pressed, and a screen reader hears what stands beside it. */
 
 import { drawing } from "./men.js";
+import { element } from "../shell/elements.js";
 
 const FILES = 8;
 
 export class SmallBoard {
-  /** A board of so many ranks, the last ones of which are the colour's own. */
+  /** A board of so many ranks, the last ones of which are the colour's own.
+   * @param {HTMLElement} root */
   constructor(root, ranks = 8) {
+    /** @type {HTMLElement[]} */
     this.squares = [];
     root.classList.add("small-board");
-    root.style.setProperty("--ranks", ranks);
+    root.style.setProperty("--ranks", String(ranks));
     for (let n = 0; n < ranks * FILES; n += 1) {
-      const square = document.createElement("span");
-      square.className = (n % FILES + Math.floor(n / FILES)) % 2 ? "dark" : "light";
+      const square = element("span", (n % FILES + Math.floor(n / FILES)) % 2 ? "dark" : "light");
       square.dataset.letter = "-";
       this.squares.push(square);
     }
     root.append(...this.squares);
   }
 
-  /** Shows ranks from above, as a board line has them, and marks squares, as e2. */
+  /** Shows ranks from above, as a board line has them, and marks squares, as e2.
+   * @param {string[]} ranks @param {string[]} [marked] */
   show(ranks, marked = []) {
     const letters = ranks.join("");
     this.squares.forEach((square, n) => {
@@ -32,6 +35,7 @@ export class SmallBoard {
   }
 }
 
+/** @param {string} letter */
 function manOf(letter) {
   const kind = letter.toUpperCase();
   return letter === "-" ? [] : [drawing((letter === kind ? "w" : "b") + kind)];

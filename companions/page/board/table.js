@@ -9,26 +9,30 @@ import { Hand } from "./hand.js";
 import { checkedKing, positionOf } from "../game/legal.js";
 import { isOwn } from "../game/moves.js";
 import { squaresFor } from "../game/premove.js";
+import { Promotion } from "./promotion.js";
+import { element } from "../shell/elements.js";
 import { t } from "../shell/texts.js";
 
-function element(name, parent, className = "") {
-  const made = document.createElement(name);
-  made.className = className;
+/** @param {"span" | "div"} name @param {HTMLElement} parent */
+function within(name, parent, className = "") {
+  const made = element(name, className);
   parent.append(made);
   return made;
 }
 
 /** A player's name, hand and clock, above or below the board. */
 class Plate {
+  /** @param {HTMLElement} parent */
   constructor(parent) {
-    const row = element("div", parent, "plate");
-    this.name = element("span", row, "name");
-    this.colour = element("span", this.name, "unseen"); // which is seen as a disc
-    this.captured = new Captured(element("span", row));
-    this.hand = new Hand(element("div", row));
-    this.clock = new Clock(element("span", row));
+    const row = within("div", parent, "plate");
+    this.name = within("span", row, "name");
+    this.colour = within("span", this.name, "unseen"); // which is seen as a disc
+    this.captured = new Captured(within("span", row));
+    this.hand = new Hand(within("div", row));
+    this.clock = new Clock(within("span", row));
   }
 
+  /** @param {Game} game @param {Colour} colour @param {string} chosen */
   show(game, colour, chosen) {
     this.name.dataset.colour = colour;
     this.name.replaceChildren(game.nameOf(colour), this.colour);
@@ -36,7 +40,7 @@ class Plate {
     this.name.classList.toggle("to-move", !game.isOver && game.toMove === colour);
     this.captured.show(game, colour);
     this.clock.show(game, colour);
-    const hands = game.shown.hands;
+    const hands = game.shown?.hands ?? null;
     this.hand.root.hidden = !game.terms.hasHands;
     if (game.terms.hasHands) {
       this.hand.show(colour, hands && hands[colour], chosen);
@@ -45,20 +49,26 @@ class Plate {
 }
 
 export class Table {
-  /** `play` has what is done here, where the member may do anything: `move(game, from, to)` with both places of a move,
-   * each with a `square` or the kind to `drop`, and `withdraw(game)` of what waits for the member's turn. */
+  /** `play` does what is done here, where the member may do anything.
+   * @param {HTMLElement} root @param {BoardName} name @param {Play | null} [play] */
   constructor(root, name, play = null) {
     this.play = play;
+    /** @type {Game | null} */
     this.game = null;
+    /** @type {Spot | null} */
     this.chosen = null; // the place of the man that goes next
     this.isTurned = false;
-    this.me = ""; // the member's name
     this.above = new Plate(root);
-    this.board = new Board(element("div", root), name);
+    this.board = new Board(within("div", root), name);
     this.below = new Plate(root);
+    /** @type {Arrows | null} */
     this.arrows = null;
+    /** @type {Becomes} */
+    this.becomes = () => Promise.resolve("");
     if (play) {
       this.arrows = new Arrows(this.board, () => this.again());
+      const promotion = new Promotion(this.board);
+      this.becomes = (colour, square) => promotion.ask(colour, square);
       this.drag = new Drag(root, {
         mayLift: (at) => this.mayLift(at), lifted: (at) => this.choose(at), moved: (from, to) => this.go(from, to),
         clicked: (at) => this.click(at),
@@ -68,7 +78,8 @@ export class Table {
   }
 
   /** Shows a game as it stands, or as it stood where one looks back. Black is below where the server has it so, or
-   * at the other board of a pair where White is below here: partners sit side by side. */
+   * at the other board of a pair where White is below here: partners sit side by side.
+   * @param {Game} game @param {boolean} [hasBlackBelow] */
   show(game, hasBlackBelow = game.blackBelow) {
     if (game !== this.game || game.looking !== null) {
       this.chosen = null;
@@ -98,27 +109,29 @@ export class Table {
     }
   }
 
-  /** Of each kind of mark the squares that have it. */
+  /** Of each kind of mark the squares that have it.
+   * @param {Place} place
+   * @returns {Marks} */
   marks(place) {
     const { game, chosen } = this;
-    const premove = this.colour ? game.premove : null;
+    const premove = this.colour && game ? game.premove : null;
     return {
       last: place.squares, chosen: [chosen?.square],
       target: this.play?.preferences.get("legal") ? this.targets : [],
-      check: [checkedKing(positionOf(place, game.terms?.variant))], premove: premove ? [premove.from, premove.to] : [],
+      check: [checkedKing(positionOf(place, game?.terms.variant))], premove: premove ? [premove.from, premove.to] : [],
       drawn: this.arrows?.names,
     };
   }
 
   /** The squares to which the chosen man may go. */
   get targets() {
-    return this.chosen && this.colour ? squaresFor(this.game, this.colour, this.chosen) : [];
+    return this.game && this.chosen && this.colour ? squaresFor(this.game, this.colour, this.chosen) : [];
   }
 
   /** Names what is shown anew, in another language. */
   rename() {
     this.board.rename();
-    [this.above, this.below].forEach((it) => { it.hand.key = ""; });
+    [this.above, this.below].forEach((it) => it.hand.rename());
   }
 
   turn() {
@@ -129,6 +142,7 @@ export class Table {
     return this.hasBlackBelow !== this.isTurned;
   }
 
+  /** @param {Colour} colour */
   chosenOf(colour) {
     return this.chosen?.drop && this.colour === colour ? this.chosen.drop : "";
   }
@@ -136,18 +150,21 @@ export class Table {
   /** The colour that the member has here; nothing where it only looks. */
   get colour() {
     const { game } = this;
-    return game && game.role === "mine" && !game.isOver && game.looking === null ? game.colourOf(this.me) : "";
+    const isPlayed = game?.role === "mine" && !game.isOver && game.looking === null;
+    return isPlayed ? game.colourOf(this.play?.me ?? "") : "";
   }
 
+  /** @param {Spot} at */
   mayLift(at) {
     if (!this.colour) {
       return false;
     }
-    const hand = at.element.closest("[data-hand]");
-    return at.drop ? hand.dataset.hand[0] === this.colour && at.element.dataset.count !== "0"
+    const hand = /** @type {HTMLElement | null} */ (at.element.closest("[data-hand]"));
+    return at.drop ? hand?.dataset.hand?.[0] === this.colour && at.element.dataset.count !== "0"
       : isOwn(at.element.dataset.man, this.colour);
   }
 
+  /** @param {Spot | null} at */
   choose(at) {
     this.chosen = at;
     this.again();
@@ -155,22 +172,25 @@ export class Table {
 
   escape() {
     this.choose(null);
-    this.arrows.clear();
+    this.arrows?.clear();
     this.withdraw();
   }
 
   /** Takes back what waits for the member's turn. Whether there was anything. */
   withdraw() {
-    const waits = this.colour !== "" && this.game.premove !== null;
+    const { game } = this;
+    const waits = this.colour !== "" && game !== null && game.premove !== null;
     if (waits) {
-      this.play.withdraw(this.game);
+      this.play?.withdraw(game);
     }
     return waits;
   }
 
-  /** An own man on another square is chosen in place of the first one, unless this castles. */
+  /** An own man on another square is chosen in place of the first one, unless this castles.
+   * @param {Spot} at */
   click(at) {
     const { chosen } = this;
+    /** @type {Men} */
     const men = this.game?.shown?.men ?? {};
     if (this.withdraw()) {
       this.choose(null);
@@ -183,10 +203,11 @@ export class Table {
     }
   }
 
+  /** @param {Spot} from @param {Spot} to */
   go(from, to) {
     this.choose(null);
-    if (this.colour) {
-      this.play.move(this.game, from, to);
+    if (this.colour && this.game) {
+      this.play?.move(this.game, from, to, this.becomes);
     }
   }
 }

@@ -3,29 +3,35 @@
 import { boardOf } from "../link/board_line.js";
 import { Game, gameOf } from "./game.js";
 
+/** @type {Record<OfferEvent, OfferKind>} */
 const OFFERS = {
   "offer-draw": "draw", "offer-abort": "abort", "offer-adjourn": "adjourn", "offer-takeback": "takeback",
 };
 
 export class Games {
-  /** `changed` is called with a game that was told of, and with the event. */
-  constructor(session, changed) {
+  /** `changed` is called with a game that was told of, and with the event; `passes(number)` says whether the boards of
+   * that number are for the lobby's small boards alone.
+   * @param {Session} session @param {GamesListeners} listeners */
+  constructor(session, { changed, passes }) {
     this.session = session;
     this.changed = changed;
+    this.passes = passes;
+    /** @type {Map<number, Game>} */
     this.byNumber = new Map();
+    /** @type {Map<number, Happened<'game'>>} */
     this.listed = new Map(); // the server's last list of games
     this.shownNumber = 0;
     this.isTakenBack = false; // the next board is the one behind a takeback
-    this.passes = () => false; // whether the boards of that number are for the lobby's small boards alone
     session.on(["creating", "continuing"], (event) => this.begin(event));
     session.on("game", (event) => this.list(event));
     session.on("board", (event) => this.show(event));
     session.on("hands", (event) => this.hold(event));
     session.on("taken-back", () => { this.isTakenBack = true; });
     session.on(["lost", "drawn", "stopped", "pair-ended"], (event) => this.finish(event));
-    session.on(Object.keys(OFFERS), (event) => this.offer(event));
+    session.on(/** @type {OfferEvent[]} */ (Object.keys(OFFERS)), (event) => this.offer(event));
     session.on("declines", (event) => this.decline(event));
     session.onAnswer((answer) => this.take(answer));
+    session.onAskedBack((line) => this.begins(line));
   }
 
   /** The game on the large board. */
@@ -46,12 +52,15 @@ export class Games {
     return this.own.filter((it) => !it.isOver);
   }
 
-  /** The other game of a pair. */
+  /** The other game of a pair.
+   * @param {Game} game */
   pairOf(game) {
     const other = this.byNumber.get(game.number % 2 ? game.number + 1 : game.number - 1);
-    return game.terms?.isBughouse && other?.terms?.isBughouse ? other : null;
+    return game.terms.isBughouse && other?.terms.isBughouse ? other : null;
   }
 
+  /** @param {Game} game
+   * @returns {Role} */
   roleOf(game) {
     if (game.colourOf(this.session.me)) {
       return "mine";
@@ -59,46 +68,45 @@ export class Games {
     return this.pairOf(game)?.role === "mine" ? "partner's" : "watched";
   }
 
+  /** @param {Game} game */
   put(game) {
     this.byNumber.set(game.number, game);
-    game.role = this.roleOf(game);
+    game.play(this.roleOf(game));
     const pair = this.pairOf(game);
     if (pair) {
-      game.offers = pair.offers;
-      pair.role = this.roleOf(pair);
+      game.share(pair);
+      pair.play(this.roleOf(pair));
     }
     return game;
   }
 
+  /** @param {Happened<'creating' | 'continuing'>} event */
   begin(event) {
     for (const [number, game] of this.byNumber) {
       if (game.isOver && game.role !== "watched") {
         this.byNumber.delete(number);
       }
     }
-    const game = this.put(new Game(event.game, event.white, event.black, event.terms));
-    game.began = event.kind === "creating" ? new Date() : null;
+    const began = event.kind === "creating" ? new Date() : null;
+    const game = this.put(new Game(event.game, event.white, event.black, event.terms, began));
     if (game.role === "mine" && (this.running.length < 2 || this.shown?.role !== "mine")) {
       this.shownNumber = game.number;
     }
     this.changed(game, event);
   }
 
-  /** A row of the server's list tells the variant of a game that is looked at. */
+  /** A row of the server's list tells the variant of a game that is looked at.
+   * @param {Happened<'game'>} event */
   list(event) {
     const game = this.byNumber.get(event.game);
     if (game && !game.hasTerms && game.white === event.white && game.black === event.black) {
-      this.learn(game, event.terms);
+      game.learn(event.terms);
+      this.put(game);
       this.changed(game, event);
     }
   }
 
-  learn(game, terms) {
-    game.terms = terms;
-    game.hasTerms = true;
-    this.put(game);
-  }
-
+  /** @param {Happened<'board'>} event */
   show(event) {
     const { board } = event;
     if (this.passes(board.game)) {
@@ -110,23 +118,24 @@ export class Games {
       game = this.meet(board);
     }
     const before = game.last;
-    event.isNew = game.add(board, this.isTakenBack);
-    event.isHalfMove = event.isNew && before >= 0 && board.ply === before + 1 && !this.isTakenBack;
+    const isNew = game.add(board, this.isTakenBack);
+    const isHalfMove = isNew && before >= 0 && board.ply === before + 1 && !this.isTakenBack;
     if (this.isTakenBack) {
       game.offers.clear();
-    } else if (event.isHalfMove) {
+    } else if (isHalfMove) {
       game.offers.moved(game.nameOf(board.side));
     }
     this.isTakenBack = false;
-    this.changed(game, event);
+    this.changed(game, { ...event, isNew, isHalfMove });
   }
 
-  /** A game of which the first that is told is a board: one that is looked at from now on. */
+  /** A game of which the first that is told is a board: one that is looked at from now on.
+   * @param {BoardLine} board */
   meet(board) {
     const game = new Game(board.game, board.white, board.black, null);
     const row = this.listed.get(board.game);
     if (row && row.white === board.white && row.black === board.black) {
-      this.learn(game, row.terms);
+      game.learn(row.terms);
     } else {
       this.session.ask("games");
     }
@@ -138,6 +147,7 @@ export class Games {
     return game;
   }
 
+  /** @param {Happened<'hands'>} event */
   hold(event) {
     const game = this.byNumber.get(event.game);
     if (game) {
@@ -146,19 +156,19 @@ export class Games {
     }
   }
 
+  /** @param {Happened<'lost' | 'drawn' | 'stopped' | 'pair-ended'>} event */
   finish(event) {
     const game = this.byNumber.get(event.game);
     if (game) {
-      game.end = { reason: event.reason, result: event.result };
-      game.premove = null;
-      game.offers.clear();
+      game.finish({ reason: event.reason, result: event.result });
       this.changed(game, event);
     }
   }
 
   /** Whether a board line is to be acknowledged: thinking begins with it. A board that is only shown again began
    * before, and the server takes an acknowledgement for one of the present game, which in a simul may be another
-   * one. */
+   * one.
+   * @param {string} line */
   begins(line) {
     const board = boardOf(line);
     const game = board && this.byNumber.get(board.game);
@@ -166,21 +176,25 @@ export class Games {
     return this.running.length <= 1 && !isKnown;
   }
 
-  /** The game in which somebody plays; the shown one before others, and one's own before those. */
+  /** The game in which somebody plays; the shown one before others, and one's own before those.
+   * @param {string} who */
   gameOf(who) {
+    /** @param {Game} game */
     const rank = (game) => (game.number === this.shownNumber ? 0 : 2) + (game.role === "mine" ? 0 : 1);
     return [...this.byNumber.values()].filter((it) => !it.isOver && it.colourOf(who))
       .sort((one, other) => rank(one) - rank(other))[0];
   }
 
+  /** @param {Happened<OfferEvent>} event */
   offer(event) {
     const game = this.gameOf(event.who);
     if (game) {
-      game.offers.add(event.who, OFFERS[event.kind], event.n);
+      game.offers.add(event.who, OFFERS[event.kind], "n" in event ? event.n : 0);
       this.changed(game, event);
     }
   }
 
+  /** @param {Happened<'declines'>} event */
   decline(event) {
     const game = this.gameOf(event.who);
     if (game) {
@@ -189,15 +203,17 @@ export class Games {
     }
   }
 
+  /** @param {Answer} answer */
   take(answer) {
     if (answer.command === "games" && answer.isDone) {
       this.listed = new Map(answer.all("game").map((it) => [it.game, it]));
     } else if (answer.command === "unobserve" && answer.isDone) {
-      this.unwatch(Number(answer.line.trim().split(/ +/)[1]));
+      this.unwatch(Number(answer.said.trim().split(/ +/)[1]));
     }
   }
 
-  /** Who looks on no longer is told nothing more of the desk's boards. */
+  /** Who looks on no longer is told nothing more of the desk's boards.
+   * @param {number} number */
   unwatch(number) {
     const odd = number % 2 ? number : number - 1;
     for (const it of [odd, odd + 1]) {
@@ -208,6 +224,7 @@ export class Games {
     }
   }
 
+  /** @param {Game} game */
   remove(game) {
     this.byNumber.delete(game.number);
     if (this.shownNumber === game.number) {
@@ -217,6 +234,7 @@ export class Games {
     this.changed(game, { kind: "removed" });
   }
 
+  /** @param {number} number */
   choose(number) {
     this.shownNumber = number;
     this.changed(this.shown, { kind: "chosen" });
@@ -233,7 +251,8 @@ export class Games {
     return [...this.byNumber.values()].filter((it) => it.place).map((it) => it.keep);
   }
 
-  /** Takes the games that an earlier page has kept. */
+  /** Takes the games that an earlier page has kept.
+   * @param {KeptGame[]} kept */
   restore(kept) {
     kept.forEach((it) => this.put(gameOf(it)));
     const own = this.running[0] ?? this.own[0] ?? [...this.byNumber.values()][0];
@@ -246,6 +265,7 @@ export class Games {
   async learnAgain() {
     const { me } = this.session;
     const rows = (await this.session.ask("games")).all("game");
+    /** @param {Game} game */
     const isThere = (game) => rows.some((it) => it.game === game.number && it.white === game.white);
     [...this.byNumber.values()].filter((it) => !it.isOver && !isThere(it)).forEach((it) => this.remove(it));
     const own = rows.filter((it) => it.white === me || it.black === me);

@@ -7,33 +7,47 @@
 import { homesOf } from "./fischer.js";
 
 const FILES = "abcdefgh";
+/** @type {Wing[]} */
+const WINGS = ["short", "long"];
 const STRAIGHT = [[1, 0], [-1, 0], [0, 1], [0, -1]];
 const DIAGONAL = [[1, 1], [1, -1], [-1, 1], [-1, -1]];
 const JUMPS = [[1, 2], [2, 1], [2, -1], [1, -2], [-1, -2], [-2, -1], [-2, 1], [-1, 2]];
+/** @type {Record<string, number[][]>} */
 const WAYS = { N: JUMPS, B: DIAGONAL, R: STRAIGHT, Q: [...STRAIGHT, ...DIAGONAL], K: [...STRAIGHT, ...DIAGONAL] };
+/** @type {Record<string, number>} */
 const FARTHEST = { N: 1, K: 1, B: 7, R: 7, Q: 7 };
 const ENDS = { short: { king: "g", rook: "f" }, long: { king: "c", rook: "d" } };
 
-/** The square so many files and ranks away, or nothing where the board ends. */
+/** The square so many files and ranks away, or nothing where the board ends.
+ * @param {string} square @param {number} files @param {number} ranks */
 function step(square, files, ranks) {
   const file = FILES[FILES.indexOf(square[0]) + files];
   const rank = Number(square[1]) + ranks;
   return file && rank >= 1 && rank <= 8 ? file + rank : "";
 }
 
-function otherThan(colour) {
+/** @param {Colour} colour @returns {Colour} */
+export function otherThan(colour) {
   return colour === "w" ? "b" : "w";
 }
 
+/** @param {string} man */
+function colourOf(man) {
+  return man[0] === "w" ? "w" : "b";
+}
+
+/** @param {Colour} colour */
 function forward(colour) {
   return colour === "w" ? 1 : -1;
 }
 
+/** @param {Colour} colour */
 function backRank(colour) {
   return colour === "w" ? "1" : "8";
 }
 
-/** The squares that a man goes to along its ways; each way ends at the first man, that one among them. */
+/** The squares that a man goes to along its ways; each way ends at the first man, that one among them.
+ * @param {Men} men @param {string} square @param {string} kind */
 function along(men, square, kind) {
   return WAYS[kind].flatMap(([files, ranks]) => {
     const reached = [];
@@ -49,21 +63,25 @@ function along(men, square, kind) {
   });
 }
 
-/** The squares that a pawn strikes. */
+/** The squares that a pawn strikes.
+ * @param {string} square @param {Colour} colour */
 function struck(square, colour) {
   return [-1, 1].map((files) => step(square, files, forward(colour))).filter(Boolean);
 }
 
-/** The squares before a pawn to which it may go where they are empty. */
+/** The squares before a pawn to which it may go where they are empty.
+ * @param {string} square @param {Colour} colour */
 function pushes(square, colour) {
   const one = step(square, 0, forward(colour));
   const isHome = square[1] === (colour === "w" ? "2" : "7");
   return [one, isHome ? step(one, 0, forward(colour)) : ""].filter(Boolean);
 }
 
-/** The squares that the man on a square reaches, whether its king is safe then or not; castling aside. */
+/** The squares that the man on a square reaches, whether its king is safe then or not; castling aside.
+ * @param {Position} position @param {string} square */
 function reached({ men, passed }, square) {
-  const [colour, kind] = men[square];
+  const colour = colourOf(men[square]);
+  const kind = men[square][1];
   if (kind !== "P") {
     return along(men, square, kind).filter((to) => men[to]?.[0] !== colour);
   }
@@ -74,7 +92,8 @@ function reached({ men, passed }, square) {
     ...struck(square, colour).filter((to) => men[to]?.[0] === enemy || to === passed)];
 }
 
-/** Whether a colour attacks a square. */
+/** Whether a colour attacks a square.
+ * @param {Men} men @param {string} square @param {Colour} by */
 export function isAttacked(men, square, by) {
   if (struck(square, otherThan(by)).some((from) => men[from] === `${by}P`)) {
     return true;
@@ -82,24 +101,28 @@ export function isAttacked(men, square, by) {
   return Object.keys(WAYS).some((kind) => along(men, square, kind).some((from) => men[from] === by + kind));
 }
 
-/** The square of a colour's king, or nothing where it has none. */
+/** The square of a colour's king, or nothing where it has none.
+ * @param {Men} men @param {Colour} colour */
 export function kingOf(men, colour) {
   return Object.keys(men).find((it) => men[it] === `${colour}K`) ?? "";
 }
 
-/** The square of the king that is in check, or nothing. */
+/** The square of the king that is in check, or nothing.
+ * @param {Position} position */
 export function checkedKing({ men, side }) {
   const king = kingOf(men, side);
   return king && isAttacked(men, king, otherThan(side)) ? king : "";
 }
 
-/** The squares from one file to another one of a rank, both among them. */
+/** The squares from one file to another one of a rank, both among them.
+ * @param {string} one @param {string} other @param {string} rank */
 function between(one, other, rank) {
   const [low, high] = [FILES.indexOf(one), FILES.indexOf(other)].sort((x, y) => x - y);
   return Array.from(FILES.slice(low, high + 1), (file) => file + rank);
 }
 
-/** Whether a colour may castle to that side. */
+/** Whether a colour may castle to that side.
+ * @param {Position} position @param {Wing} wing */
 function mayCastle({ men, side, rights, homes }, wing) {
   const rank = backRank(side);
   const king = homes.king + rank;
@@ -110,47 +133,52 @@ function mayCastle({ men, side, rights, homes }, wing) {
     && way.every((it) => !isAttacked(men, it, otherThan(side)));
 }
 
-/** The men behind a move, { from, to }, { castle } or { drop, to }; what a pawn becomes shields as a pawn does. */
-export function menAfter({ men, side, passed, homes }, move) {
+/** The men behind a move, { from, to }, { castle } or { drop, to }; what a pawn becomes shields as a pawn does.
+ * @param {Position} position @param {Move} move */
+export function menAfter({ men, side, passed, homes }, { from = "", to = "", drop, castle }) {
   const after = { ...men };
-  if (move.castle) {
+  if (castle) {
     const rank = backRank(side);
     delete after[homes.king + rank];
-    delete after[homes[move.castle] + rank];
-    after[ENDS[move.castle].king + rank] = `${side}K`;
-    after[ENDS[move.castle].rook + rank] = `${side}R`;
-  } else if (move.drop) {
-    after[move.to] = side + move.drop;
+    delete after[homes[castle] + rank];
+    after[ENDS[castle].king + rank] = `${side}K`;
+    after[ENDS[castle].rook + rank] = `${side}R`;
+  } else if (drop) {
+    after[to] = side + drop;
   } else {
-    if (men[move.from][1] === "P" && move.to === passed) {
+    if (men[from][1] === "P" && to === passed) {
       delete after[step(passed, 0, -forward(side))];
     }
-    after[move.to] = men[move.from];
-    delete after[move.from];
+    after[to] = men[from];
+    delete after[from];
   }
   return after;
 }
 
-/** Whether the own king is safe behind a move. */
+/** Whether the own king is safe behind a move.
+ * @param {Position} position @param {Move} move */
 function isSafe(position, move) {
   const men = menAfter(position, move);
   const king = kingOf(men, position.side);
   return !king || !isAttacked(men, king, otherThan(position.side));
 }
 
-/** The wings to which the side to move may castle. */
+/** The wings to which the side to move may castle.
+ * @param {Position} position */
 function castlings(position) {
-  return ["short", "long"].filter((wing) => mayCastle(position, wing) && isSafe(position, { castle: wing }));
+  return WINGS.filter((wing) => mayCastle(position, wing) && isSafe(position, { castle: wing }));
 }
 
-/** The squares on which a castling is put: that of the rook, and where the king's home is on file e, its end. */
+/** The squares on which a castling is put: that of the rook, and where the king's home is on file e, its end.
+ * @param {Position} position */
 function castlingTargets(position) {
   const rank = backRank(position.side);
   return castlings(position).flatMap((wing) => [position.homes[wing] + rank,
     ...(position.homes.king === "e" ? [ENDS[wing].king + rank] : [])]);
 }
 
-/** The squares to which the man on a square may go, castling among them. */
+/** The squares to which the man on a square may go, castling among them.
+ * @param {Position} position @param {string} from */
 export function targets(position, from) {
   const { men, side } = position;
   if (men[from]?.[0] !== side) {
@@ -161,7 +189,8 @@ export function targets(position, from) {
   return [...new Set([...plain, ...(isAtHome ? castlingTargets(position) : [])])];
 }
 
-/** The squares on which a man of the hand may be put. */
+/** The squares on which a man of the hand may be put.
+ * @param {Position} position @param {string} kind */
 export function dropTargets(position, kind) {
   const { men, side, hands } = position;
   if (!hands?.[side].includes(kind)) {
@@ -173,9 +202,11 @@ export function dropTargets(position, kind) {
 }
 
 /** The squares to which a man might go from its square whatever stands elsewhere: those of a move that is put before
- * it is its colour's turn. */
+ * it is its colour's turn.
+ * @param {Position} position @param {string} from */
 export function strides({ men, homes }, from) {
-  const [colour, kind] = men[from];
+  const colour = colourOf(men[from]);
+  const kind = men[from][1];
   if (kind === "P") {
     return [...pushes(from, colour), ...struck(from, colour)];
   }
@@ -185,7 +216,8 @@ export function strides({ men, homes }, from) {
   return [...new Set([...along({}, from, kind), ...castling])].filter((it) => it !== from);
 }
 
-/** The position that a place of a game shows, { board, men, hands }, in a variant as `fischer 518`. */
+/** The position that a place of a game shows, { board, men, hands }, in a variant as `fischer 518`.
+ * @param {Place} place */
 export function positionOf({ board, men, hands }, variant = "chess") {
   const rank = board.side === "w" ? "6" : "3";
   return {

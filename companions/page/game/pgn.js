@@ -5,31 +5,40 @@ import { fenOf } from "./fen.js";
 
 const WIDEST = 80;
 const LEAST_CLOCK = 10; // seconds that a clock without minutes begins with
+/** @type {Record<string, string>} */
 const VARIANTS = { crazyhouse: "Crazyhouse", bughouse: "Bughouse", fischer: "Chess960" };
 const NO_DATE = "????.??.??";
 
-/** Seconds as h:mm:ss; below 0 the time was over. */
+/** @param {number} number */
+function two(number) {
+  return String(number).padStart(2, "0");
+}
+
+/** Seconds as h:mm:ss; below 0 the time was over.
+ * @param {number} seconds */
 function timeOf(seconds) {
   const whole = Math.max(0, seconds);
-  const two = (number) => String(number).padStart(2, "0");
   return `${Math.floor(whole / 3600)}:${two(Math.floor(whole / 60) % 60)}:${two(whole % 60)}`;
 }
 
-/** The seconds of `(m:ss)`. */
+/** The seconds of `(m:ss)`.
+ * @param {string} took */
 function secondsOf(took) {
   const [minutes, seconds] = took.slice(1, -1).split(":").map(Number);
   return 60 * minutes + seconds;
 }
 
+/** @param {Date | null} date */
 function dateOf(date) {
-  const two = (number) => String(number).padStart(2, "0");
   return date ? `${date.getFullYear()}.${two(date.getMonth() + 1)}.${two(date.getDate())}` : NO_DATE;
 }
 
+/** @param {Terms} terms */
 function timeControl(terms) {
   return terms.isTimed ? `${60 * terms.minutes || LEAST_CLOCK}+${terms.increment}` : "-";
 }
 
+/** @param {End | null} end */
 function termination(end) {
   if (!end || end.result === "*") {
     return "unterminated";
@@ -38,7 +47,8 @@ function termination(end) {
     : end.reason.includes("disconnection") ? "abandoned" : "normal";
 }
 
-/** The tags of a game whose first known place is given. */
+/** The tags of a game whose first known place is given.
+ * @param {Game} game @param {Place} first @param {string} site */
 function tagsOf(game, first, site) {
   const [variant] = game.terms.variant.split(" ");
   const isUsual = first.board.ply === 0 && variant !== "fischer";
@@ -51,17 +61,19 @@ function tagsOf(game, first, site) {
   ];
 }
 
-/** A half-move's words: its number, its form, and what the clock says. */
+/** A half-move's words: its number, its form, and what the clock says.
+ * @param {Place} place @param {boolean} isTimed */
 function wordsOf({ board }, isTimed) {
   const number = Math.ceil(board.ply / 2);
   const words = [board.ply % 2 ? `${number}.` : `${number}...`, board.short];
   if (isTimed) {
     const colour = board.side === "w" ? "b" : "w";
-    words.push(`{[%clk ${timeOf(board.clocks[colour])}]`, `[%emt ${timeOf(secondsOf(board.took))}]}`);
+    words.push(`{[%clk ${timeOf(board.clocks[colour] ?? 0)}]`, `[%emt ${timeOf(secondsOf(board.took))}]}`);
   }
   return words;
 }
 
+/** @param {string[]} words */
 function wrapped(words) {
   const lines = [""];
   for (const word of words) {
@@ -75,7 +87,8 @@ function wrapped(words) {
   return lines.join("\n");
 }
 
-/** The PGN of a game, from the first half-move on that is known with all behind it. `site` says where it was played. */
+/** The PGN of a game, from the first half-move on that is known with all behind it. `site` says where it was played.
+ * @param {Game} game @param {string} site */
 export function pgnOf(game, site) {
   const places = game.known;
   const tags = tagsOf(game, places[0], site).map(([name, value]) => `[${name} "${value}"]`);
@@ -87,7 +100,8 @@ export function pgnOf(game, site) {
   return `${tags.join("\n")}\n\n${wrapped(words)}\n`;
 }
 
-/** The name of a game's file. */
+/** The name of a game's file.
+ * @param {Game} game */
 export function fileName(game) {
   const date = dateOf(game.began).replaceAll(".", "-").replaceAll("?", "");
   return [game.white, game.black, ...(game.began ? [date] : [])].join("-") + ".pgn";

@@ -10,6 +10,7 @@ const LONGEST = 600;
 export const TERMS = `${NUMBER} ${NUMBER} (?:chess|crazyhouse|bughouse|fischer ${NUMBER})(?: (?:white|black))?`;
 
 export class Terms {
+  /** @param {number} minutes @param {number} increment @param {string} variant @param {string} [colour] */
   constructor(minutes, increment, variant, colour = "") {
     this.minutes = minutes;
     this.increment = increment;
@@ -17,10 +18,11 @@ export class Terms {
     this.colour = colour; // white, black, or nothing
   }
 
-  /** The terms that a text says, or null where a number is out of its bounds. */
+  /** The terms that a text says, or null where a number is out of its bounds.
+   * @param {string} text */
   static parsed(text) {
     const [minutes, increment, ...words] = text.split(" ");
-    const colour = ["white", "black"].includes(words.at(-1)) ? words.pop() : "";
+    const colour = ["white", "black"].includes(words.at(-1) ?? "") ? words.pop() : "";
     const fits = Number(minutes) <= LONGEST && Number(increment) <= LONGEST
       && (words.length === 1 || Number(words[1]) < ARRAYS);
     return fits ? new Terms(Number(minutes), Number(increment), words.join(" "), colour) : null;

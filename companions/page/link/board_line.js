@@ -13,14 +13,18 @@ const FORMS = [
   HANDLE, HANDLE, /^(?:-1|0|1)$/, NUMBER, NUMBER, NUMBER, NUMBER, WHOLE, WHOLE, /^[1-9]\d*$/, LONG,
   /^\(\d+:[0-5]\d\)$/, SHORT, BIT,
 ];
+/** @type {Record<string, string>} */
 const CASTLED = { "o-o": "gf", "o-o-o": "cd" }; // the files of the king and the rook behind it
 
-/** The rights to castle of a colour, as { short, long }. */
+/** The rights to castle of a colour, as { short, long }.
+ * @param {string[]} bits */
 function rightsOf([short, long]) {
   return { short: short === "1", long: long === "1" };
 }
 
-/** The board that a line shows, or null where it is no board line. */
+/** The board that a line shows, or null where it is no board line.
+ * @param {string} line
+ * @returns {BoardLine | null} */
 export function boardOf(line) {
   const fields = line.split(" ");
   if (fields.length !== FORMS.length || !FORMS.every((form, n) => form.test(fields[n]))) {
@@ -39,8 +43,10 @@ export function boardOf(line) {
   };
 }
 
-/** The men of a board by their squares, as { e1: "wK" }. */
+/** The men of a board by their squares, as { e1: "wK" }.
+ * @param {BoardLine} board */
 export function menOf(board) {
+  /** @type {Men} */
   const men = {};
   board.ranks.forEach((row, n) => Array.from(row).forEach((letter, file) => {
     if (letter !== "-") {
@@ -52,7 +58,8 @@ export function menOf(board) {
 }
 
 /** The squares of the half-move that led to a board, for showing it. Of castling they are those on which the king and
- * the rook stand now: from where they came the line doesn't say. */
+ * the rook stand now: from where they came the line doesn't say.
+ * @param {BoardLine} board */
 export function lastSquares(board) {
   const plain = /([a-h][1-8])-([a-h][1-8])/.exec(board.long);
   const drop = /@@-([a-h][1-8])/.exec(board.long);

@@ -8,12 +8,15 @@ const NAMES = [
 ];
 const SHORT = { a: "accept", k: "kibitz", m: "match", o: "observe", t: "tell" };
 
-/** The whole name of the command that a line begins with, or nothing where it is none. */
+const BY_SHORT = new Map(Object.entries(SHORT));
+
+/** The whole name of the command that a line begins with, or nothing where it is none.
+ * @param {string} line */
 export function commandOf(line) {
   const word = line.trim().split(/ +/)[0].toLowerCase();
   if (!word || NAMES.includes(word)) {
     return word;
   }
   const fitting = NAMES.filter((it) => it.startsWith(word));
-  return SHORT[word] ?? (fitting.length === 1 ? fitting[0] : "");
+  return BY_SHORT.get(word) ?? (fitting.length === 1 ? fitting[0] : "");
 }

@@ -78,8 +78,10 @@ const NEWS = [
 const RANKS = [["text-rank", "(?<rank>[pnbrqkPNBRQK-]{8})"]];
 const NUMERIC = new Set(["n", "game", "whiteLeft", "blackLeft"]);
 
+/** @param {string[][]} rows
+ * @returns {[LineKind, RegExp][]} */
 function compiled(rows) {
-  return rows.map(([kind, form]) => [kind, new RegExp(`^${form}$`)]);
+  return rows.map(([kind, form]) => [/** @type {LineKind} */ (kind), new RegExp(`^${form}$`)]);
 }
 
 const GENERAL = compiled([...REPLIES, ...NEWS]);
@@ -88,13 +90,17 @@ const REST = compiled(RANKS);
 
 /** What holds besides the form: a refusal's name is that of its number, terms are within their bounds, a board line
  * has its fields, and who loses plays. */
+/** @type {Record<string, (event: any) => boolean>} the event has the fields of its row */
 const HOLDS = {
   refused: (event) => REFUSALS.get(event.n)?.name === event.name,
   board: (event) => event.board !== null,
   lost: (event) => (event.loser === event.white ? "0-1" : event.loser === event.black ? "1-0" : "") === event.result,
 };
 
+/** @param {LineKind} kind @param {RegExpExecArray} match @param {string} text
+ * @returns {LineEvent | null} */
 function read(kind, match, text) {
+  /** @type {any} its fields are those that the row names */
   const event = { kind, text };
   for (const [name, value] of Object.entries(match.groups ?? {})) {
     event[name] = value !== undefined && NUMERIC.has(name) ? Number(value) : value;
@@ -109,6 +115,7 @@ function read(kind, match, text) {
   return holds ? event : null;
 }
 
+/** @param {[LineKind, RegExp][]} rows @param {string} text */
 function firstOf(rows, text) {
   for (const [kind, form] of rows) {
     const match = form.exec(text);
@@ -120,7 +127,9 @@ function firstOf(rows, text) {
   return null;
 }
 
-/** The event of a line, which may stand in the answer to that command. */
+/** The event of a line, which may stand in the answer to that command.
+ * @param {string} text
+ * @returns {LineEvent} */
 export function eventOf(text, command = "") {
   return firstOf(GENERAL, text) ?? firstOf(BY_COMMAND[command] ?? [], text) ?? firstOf(REST, text)
     ?? { kind: "unknown", text };

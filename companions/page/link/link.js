@@ -11,7 +11,8 @@ const ASKS_BACK = "[G]\0";
 const LONGEST = 1023;
 const PRINTABLE = /^[\x20-\x7e]*$/;
 
-/** What the server would answer to a line that can't be sent, or null where it can. */
+/** What the server would answer to a line that can't be sent, or null where it can.
+ * @param {string} line */
 function refusalOf(line) {
   if (!PRINTABLE.test(line)) {
     return "refused 56 BadByte";
@@ -24,24 +25,30 @@ export class Link {
    * which `line` is null for news; `acknowledges` says whether a board line is to be acknowledged where the server asks
    * for it; `found` gets the name under which a link is in that the page has come back to, and whether what came
    * meanwhile follows; `told` what the go-between says, `isIn` whether a member is in, `waits` that the link is lost
-   * for the moment; `ended` the code of its end. */
+   * for the moment; `ended` the code of its end.
+   * @param {string} url @param {boolean} isStamped @param {KeptLink | null} kept @param {LinkListeners} listeners */
   constructor(url, isStamped, kept, listeners) {
     this.isStamped = isStamped;
     this.listeners = listeners;
     // the lines that were sent and aren't answered, the oldest first
+    /** @type {Owed[]} */
     this.owed = (kept?.owed ?? []).map((line) => ({ line, keep: () => {} }));
+    /** @type {string[]} */
     this.lines = kept?.lines ?? []; // of the part that isn't whole
     this.prompt = kept?.prompt ?? "";
     this.isOpen = true;
     this.isKnown = false; // the go-between has answered on it
-    this.opened = new Promise((keep) => { this.greeted = keep; }); // kept with the first prompt, or the end
+    this.greeted = () => {};
+    /** @type {Promise<void>} */
+    this.opened = new Promise((keep) => { this.greeted = () => keep(); }); // kept with the first prompt, or the end
     this.seat = new Seat(url, kept?.seat ?? null, {
       taken: (answer) => this.taken(answer), hear: (message) => this.hear(message), told: listeners.told,
       isIn: listeners.isIn, waits: listeners.waits, ended: (code) => this.close(code),
     });
   }
 
-  /** There is a seat: a new one begins with a greeting, and on one's own the link goes on. */
+  /** There is a seat: a new one begins with a greeting, and on one's own the link goes on.
+   * @param {Taken} answer */
   taken({ taken, name, prompt, stamped, plain, archive = false }) {
     const isFirst = !this.isKnown;
     this.isKnown = true;
@@ -61,7 +68,8 @@ export class Link {
   }
 
   /** A new link, where the page had none or had one of an earlier page; else its own one is gone, and this none of
-   * its. */
+   * its.
+   * @param {boolean} isPlain @param {boolean} isFirst */
   begin(isPlain, isFirst) {
     if (!isFirst) {
       this.seat.leave();
@@ -77,12 +85,13 @@ export class Link {
     this.listeners.found("", false);
   }
 
-  /** Sends a line. The promise is kept with the part that answers it. */
+  /** Sends a line. The promise is kept with what answers it.
+   * @param {string} line
+   * @returns {Promise<Answer>} */
   ask(line) {
     const refusal = this.isOpen ? refusalOf(line) : "";
     if (refusal !== null) {
-      const part = { line, lines: refusal ? [refusal] : [], prompt: this.prompt };
-      return Promise.resolve(this.listeners.take(part) ?? part);
+      return Promise.resolve(this.listeners.take({ line, lines: refusal ? [refusal] : [], prompt: this.prompt }));
     }
     return new Promise((keep) => {
       this.owed.push({ line, keep });
@@ -90,6 +99,7 @@ export class Link {
     });
   }
 
+  /** @param {string} message */
   hear(message) {
     let text = message;
     while (text.startsWith(ASKS_BACK)) {
@@ -108,6 +118,7 @@ export class Link {
     }
   }
 
+  /** @param {string} prompt */
   endPart(prompt) {
     const { lines } = this;
     this.lines = [];
@@ -115,24 +126,22 @@ export class Link {
     this.greeted();
     if (lines[0] === "") {
       this.listeners.take({ line: null, lines: lines.slice(1), prompt });
-    } else if (!this.owed.length) {
-      this.listeners.take({ line: null, lines, prompt });
-    } else {
-      const { line, keep } = this.owed.shift();
-      const part = { line, lines, prompt };
-      keep(this.listeners.take(part) ?? part);
+      return;
     }
+    const answered = this.owed.shift();
+    const answer = this.listeners.take({ line: answered?.line ?? null, lines, prompt });
+    answered?.keep(answer);
   }
 
   /** What is owed comes no more, or as news. */
   giveUp() {
     for (const { line, keep } of this.owed.splice(0)) {
-      const part = { line, lines: [], prompt: "" };
-      keep(this.listeners.take(part) ?? part);
+      keep(this.listeners.take({ line, lines: [], prompt: "" }));
     }
   }
 
-  /** The other side is gone: what came behind the last prompt is the farewell. */
+  /** The other side is gone: what came behind the last prompt is the farewell.
+   * @param {number} code */
   close(code) {
     this.isOpen = false;
     this.endPart("");

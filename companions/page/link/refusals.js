@@ -18,7 +18,8 @@ const NAMES = {
 /** Of each number its name. */
 export const REFUSALS = new Map(Object.entries(NAMES).map(([number, name]) => [Number(number), { name }]));
 
-/** A refusal as a member reads it. */
+/** A refusal as a member reads it.
+ * @param {number} number */
 export function inWords(number) {
-  return t("refusal", { words: t(`refusal.${number}`), number, name: REFUSALS.get(number).name });
+  return t("refusal", { words: t(`refusal.${number}`), number, name: REFUSALS.get(number)?.name });
 }

@@ -1,12 +1,14 @@
 /** What a member has set in this session, as the lines that would set it again: channels, lists of names, what reaches
  * the member, a simul, a partner. The server shows nothing of it, so a page that begins anew has to remember. */
 
+/** @type {Record<string, string>} */
 const LISTS = { "+channel": "channel", "-channel": "channel", "+censor": "censor", "-censor": "censor",
   "+noplay": "noplay", "-noplay": "noplay" };
 
 export class Remembered {
   /** `rows` are those that `rows` gave before the page began anew: { key, line, told }, of which `line` is null for
-   * news. */
+   * news.
+   * @param {RememberedRow[]} [rows] */
   constructor(rows = []) {
     this.byKey = new Map(rows.map((it) => [it.key, it]));
   }
@@ -15,11 +17,13 @@ export class Remembered {
     return [...this.byKey.values()];
   }
 
+  /** @param {string} key @param {string | null} line @param {string[]} told */
   put(key, line, told) {
     this.byKey.set(key, { key, line, told });
   }
 
-  /** Takes what was done, whoever typed it. */
+  /** Takes what was done, whoever typed it.
+   * @param {Answer} answer */
   take(answer) {
     if (answer.line === null || !answer.all("ok").length) {
       return;
@@ -41,7 +45,8 @@ export class Remembered {
     }
   }
 
-  /** A partner, or none any more. */
+  /** A partner, or none any more.
+   * @param {string} name */
   partner(name) {
     if (name) {
       this.put("partner", null, [`You are now the partner of ${name}.`]);

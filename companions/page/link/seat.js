@@ -15,7 +15,7 @@ const COMES_BACK = [1001, 1005, 1006, 4004]; // codes of a close behind which co
 /** Whether the go-between is there, by one of the page's files. */
 async function isThere() {
   try {
-    const signal = AbortSignal.timeout(ANSWERS_WITHIN);
+    const signal = /** @type {any} the compiler's tables lack it */ (AbortSignal).timeout(ANSWERS_WITHIN);
     return (await fetch("icon.svg", { method: "HEAD", cache: "no-store", signal })).ok;
   } catch {
     return false;
@@ -25,7 +25,8 @@ async function isThere() {
 export class Seat {
   /** `kept` is what `keep` gave before the page began anew, or null. `taken` gets the go-between's answer, `hear` each
    * message, `told` what it tells the page itself, `waits` whether the link is lost for the moment, and `ended` the
-   * code of the close for good. `isIn` says whether there is anything to come back to. */
+   * code of the close for good. `isIn` says whether there is anything to come back to.
+   * @param {string} url @param {KeptSeat | null} kept @param {SeatListeners} listeners */
   constructor(url, kept, listeners) {
     this.url = url;
     this.listeners = listeners;
@@ -36,9 +37,10 @@ export class Seat {
     this.isTaken = false; // there was an answer on this socket
     this.isOver = false;
     this.lostSince = 0;
-    this.open();
+    this.socket = this.open();
   }
 
+  /** @returns {WebSocket} */
   open() {
     const socket = new WebSocket(this.url, PROTOCOL);
     this.socket = socket;
@@ -46,11 +48,13 @@ export class Seat {
     socket.onopen = () => this.say({ seat: this.token, ...(this.token === null ? {} : { heard: this.heard }) });
     socket.onmessage = (message) => socket === this.socket && this.receive(message.data);
     socket.onclose = (event) => socket === this.socket && this.closed(event.code);
+    return socket;
   }
 
+  /** @param {string} data */
   receive(data) {
     if (!data.startsWith(MARK)) {
-      this.heard += 1;
+      this.heard = (this.heard ?? 0) + 1;
       this.listeners.hear(data);
       return;
     }
@@ -62,7 +66,8 @@ export class Seat {
     }
   }
 
-  /** The go-between has given a seat: what it didn't get is sent again where it is the same one. */
+  /** The go-between has given a seat: what it didn't get is sent again where it is the same one.
+   * @param {Taken} answer */
   take(answer) {
     this.isTaken = true;
     this.token = answer.seat;
@@ -78,13 +83,15 @@ export class Seat {
     this.listeners.taken(answer);
   }
 
-  /** The messages behind the first so many, which didn't arrive. */
+  /** The messages behind the first so many, which didn't arrive.
+   * @param {number} arrived */
   missed(arrived) {
     const count = Math.max(0, this.sentCount - arrived);
     return count ? this.sent.slice(-count) : [];
   }
 
-  /** Sends a message, at once or as soon as the page is back. */
+  /** Sends a message, at once or as soon as the page is back.
+   * @param {string} message */
   send(message) {
     this.sentCount += 1;
     this.sent.push(message);
@@ -94,7 +101,8 @@ export class Seat {
     }
   }
 
-  /** Tells the go-between something that is no line, where it has given the seat: whether it went out. */
+  /** Tells the go-between something that is no line, where it has given the seat: whether it went out.
+   * @param {object} it */
   tell(it) {
     const mayTell = this.isTaken && this.socket.readyState === WebSocket.OPEN;
     if (mayTell) {
@@ -103,10 +111,12 @@ export class Seat {
     return mayTell;
   }
 
+  /** @param {object} it */
   say(it) {
     this.socket.send(MARK + JSON.stringify(it));
   }
 
+  /** @param {number} code */
   closed(code) {
     this.isTaken = false;
     if (this.isOver || !COMES_BACK.includes(code) || !this.listeners.isIn()) {
@@ -126,7 +136,8 @@ export class Seat {
     }
   }
 
-  /** Opens another one, once the go-between is there: behind each that fails Firefox lets the next one wait longer. */
+  /** Opens another one, once the go-between is there: behind each that fails Firefox lets the next one wait longer.
+   * @param {number} code */
   async comeBack(code) {
     const mayOpen = !this.isOver && await isThere();
     if (this.isOver) {
@@ -139,6 +150,7 @@ export class Seat {
     }
   }
 
+  /** @param {number} code */
   end(code) {
     this.isOver = true;
     this.listeners.ended(code);

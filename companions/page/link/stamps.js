@@ -14,7 +14,8 @@ export function stampNow() {
   return Math.floor(performance.timeOrigin + performance.now()) % CYCLE;
 }
 
-/** The stamped line of a text, or of an acknowledgement, without its line feed. */
+/** The stamped line of a text, or of an acknowledgement, without its line feed.
+ * @param {string} text @param {number} stamp */
 export function sealed(text, stamp) {
   const written = `${text}\x18${stamp}\x19`;
   const bytes = Array.from(written.padEnd(Math.ceil(written.length / GROUP) * GROUP, "1"), (it) => it.charCodeAt(0));

@@ -12,13 +12,15 @@ const PASSWORD = "password: ";
 const STAYS = 5_000; // milliseconds
 const LOST = [GONE, 1001, 1005, 1006, 4004]; // codes of a close that nobody wished for
 
-/** What a member is told where a link has ended by that code of a close. */
+/** What a member is told where a link has ended by that code of a close.
+ * @param {number} code @param {boolean} wasIn @param {boolean} wasPlaying */
 export function endInWords(code, wasIn, wasPlaying) {
   return hasText(`close.${code}`) ? t(`close.${code}`)
     : t(wasPlaying ? "link.ended-in-game" : wasIn ? "link.ended" : "close.before-login");
 }
 
-/** What an earlier page of this tab has kept, or null. */
+/** What an earlier page of this tab has kept, or null.
+ * @param {Storage | null} store */
 export function keptPage(store) {
   try {
     return JSON.parse(store?.getItem(KEY) ?? "null");
@@ -37,14 +39,17 @@ export function tabStore() {
 }
 
 export class WayBack {
+  /** @param {Session} session @param {Games} games @param {Storage | null} store @param {KeptPage | null} kept */
   constructor(session, games, store, kept) {
     this.session = session;
     this.games = games;
     this.store = store;
+    /** @type {{ me: string, games: KeptGame[] } | null} */
     this.kept = kept;
     this.remembered = new Remembered(kept?.remembered);
     this.password = ""; // of the member's account; it is kept nowhere else
     this.prompt = "";
+    /** @type {string[]} */
     this.opponents = []; // of the games that are to go on
     this.hiding = 0;
     session.on("partners", (event) => this.remembered.partner(event.who));
@@ -75,17 +80,19 @@ export class WayBack {
     this.store?.removeItem(KEY);
   }
 
+  /** @param {Answer} answer */
   take(answer) {
     this.remembered.take(answer);
     if (answer.all("entered").length) {
-      this.password = this.prompt === PASSWORD ? answer.line : "";
+      this.password = this.prompt === PASSWORD ? answer.said : "";
     } else if (answer.command === "register" && answer.isDone) {
-      this.password = answer.line.trim().replace(/^\S+ +/, "");
+      this.password = answer.said.trim().replace(/^\S+ +/, "");
     }
     this.prompt = answer.prompt;
   }
 
-  /** Somebody has come in by the login: what an earlier session set holds no more, but a game may wait. */
+  /** Somebody has come in by the login: what an earlier session set holds no more, but a game may wait.
+   * @param {Happened<'entered'>} event */
   entered({ who, isBack }) {
     if (!isBack) {
       this.remembered.clear();
@@ -97,7 +104,8 @@ export class WayBack {
     }
   }
 
-  /** The link is the one of before. A page that began anew learns again what it showed. */
+  /** The link is the one of before. A page that began anew learns again what it showed.
+   * @param {Happened<'link-back'>} event */
   async back({ isSame, isNewPage }) {
     if (isNewPage && this.kept) {
       this.games.restore(this.kept.games);
@@ -117,21 +125,23 @@ export class WayBack {
 
   /** The seat of an earlier page is gone: its member may enter again, and the game goes on where it was adjourned. */
   gone() {
-    const { me, games } = this.kept;
+    const { me, games } = /** @type {KeptPage} */ (this.kept);
     this.opponents = games.filter((it) => it.role === "mine" && !it.end)
       .map((it) => (it.white === me ? it.black : it.white));
     byId("login-name").value = /^Guest/.test(me) ? "" : me;
     this.show(this.opponents.length ? "way.gone-in-game" : "way.gone", true);
   }
 
-  /** Whether the page may enter again by itself, behind the end of a link under that name. */
+  /** Whether the page may enter again by itself, behind the end of a link under that name.
+   * @param {LinkEnd} end */
   mayEnter({ code, me }) {
     this.forget();
     this.hide();
     return LOST.includes(code) && me !== "" && this.password !== "";
   }
 
-  /** Enters again under an account, to go on with the games against those opponents. Whether the member is in. */
+  /** Enters again under an account, to go on with the games against those opponents. Whether the member is in.
+   * @param {string} me @param {string[]} opponents */
   async enterAgain(me, opponents) {
     const { password, session } = this;
     this.kept = { me, games: [] };
@@ -147,18 +157,21 @@ export class WayBack {
     return session.isIn;
   }
 
-  /** Asks to go on with the games against those players that lie on the server's shelf. */
+  /** Asks to go on with the games against those players that lie on the server's shelf.
+   * @param {string[]} opponents */
   async resume(opponents) {
     if (!opponents.length) {
       return;
     }
     const answer = await this.session.ask("stored");
-    const names = answer.events.flatMap((it) => [it.white, it.black, it.third, it.fourth]);
+    const names = [...answer.all("stored"), ...answer.all("stored-pair")]
+      .flatMap((it) => [it.white, it.black, it.third, it.fourth]);
     for (const other of opponents.filter((it) => names.includes(it))) {
       this.session.act(`resume ${other}`);
     }
   }
 
+  /** @param {string} key */
   show(key, isForAMoment = false) {
     clearTimeout(this.hiding);
     byId("way-back").textContent = t(key, { who: this.opponents.join(", ") });

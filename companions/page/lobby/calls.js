@@ -2,7 +2,7 @@
  * two at a time, and never moves it. During a game it is folded behind a button with their number. */
 
 import { showRows } from "../shell/list.js";
-import { byId, element, icon, onClick, tellMember } from "../shell/elements.js";
+import { byId, element, icon, onClick, onClickAt, tellMember } from "../shell/elements.js";
 import { onLanguage, t } from "../shell/texts.js";
 
 const MOST = 2; // that are shown at a time
@@ -11,6 +11,7 @@ const KINDS = {
   "resume-asked": { text: "call.resume", label: "call.go-on", command: "resume" },
 };
 
+/** @param {Call} call */
 function rowOf({ kind, who }) {
   const { text, label, command } = KINDS[kind];
   const line = `${command} ${who}`;
@@ -23,28 +24,28 @@ function rowOf({ kind, who }) {
 
 export class Calls {
   /** `isPlaying()` says whether the member is in a game that wants its eyes; `wants(who)` whether the member wants to
-   * be asked by that player. */
-  constructor(session, { isPlaying, wants }) {
+   * be asked by that player; `changed(count)` is told how many stand.
+   * @param {Session} session @param {CallsListeners} listeners */
+  constructor(session, { isPlaying, wants, changed }) {
     this.isPlaying = isPlaying;
     this.wants = wants;
+    this.changed = changed;
+    /** @type {Row[]} */
     this.challenges = [];
+    /** @type {Map<string, Call>} */
     this.asked = new Map(); // by the command that agrees
     this.isOpen = false; // unfolded by the member
     this.number = element("span");
     byId("calls-open").append(icon("bell"), this.number);
-    session.on(Object.keys(KINDS), (event) => this.ask(event));
+    session.on(["partner-asked", "resume-asked"], (event) => this.ask(event));
     session.on(["partners", "continuing"], () => this.forget());
     session.onAnswer((answer) => this.take(answer));
     onClick("calls-open", () => this.unfold(!this.isOpen));
     onLanguage(() => this.show());
-    byId("calls").addEventListener("click", (event) => {
-      const dismissed = event.target.closest("[data-dismiss]");
-      if (dismissed) {
-        this.answered(dismissed.dataset.dismiss);
-      }
-    });
+    onClickAt(byId("calls"), "[data-dismiss]", (button) => this.answered(button.dataset.dismiss ?? ""));
   }
 
+  /** @param {Call} call */
   ask({ kind, who }) {
     if (this.wants(who)) {
       this.asked.set(`${KINDS[kind].command} ${who}`, { kind, who });
@@ -52,12 +53,14 @@ export class Calls {
     }
   }
 
-  /** Takes the rows of the challenges that stand. */
+  /** Takes the rows of the challenges that stand.
+   * @param {Row[]} rows */
   challenged(rows) {
     this.challenges = rows;
     this.show();
   }
 
+  /** @param {Answer} answer */
   take(answer) {
     this.answered(answer.line);
     if (answer.command === "resume" && answer.all("asked").length) {
@@ -65,8 +68,9 @@ export class Calls {
     }
   }
 
+  /** @param {string | null} line */
   answered(line) {
-    if (this.asked.delete(line)) {
+    if (line !== null && this.asked.delete(line)) {
       this.show();
     }
   }
@@ -78,6 +82,7 @@ export class Calls {
     this.show();
   }
 
+  /** @param {boolean} isOpen */
   unfold(isOpen) {
     this.isOpen = isOpen;
     this.show();
@@ -97,13 +102,14 @@ export class Calls {
     byId("calls").hidden = isFolded || !all.length;
     this.isOpen &&= all.length > 0;
     this.showButton(all.length, isFolded);
-    this.changed?.(all.length);
+    this.changed(all.length);
   }
 
+  /** @param {number} count @param {boolean} isFolded */
   showButton(count, isFolded) {
     const button = byId("calls-open");
     button.hidden = !count || !this.isPlaying();
-    this.number.textContent = count;
+    this.number.textContent = String(count);
     button.setAttribute("aria-label", t("call.count", { n: count }));
     button.title = t("call.count", { n: count });
     button.setAttribute("aria-expanded", String(!isFolded));

@@ -4,7 +4,8 @@ import { arrayOf, ARRAYS } from "../game/fischer.js";
 import { drawing } from "../board/men.js";
 import { t } from "../shell/texts.js";
 
-/** Shows White's men of the array of that number, or nothing where there is none. */
+/** Shows White's men of the array of that number, or nothing where there is none.
+ * @param {HTMLElement} root @param {number} number */
 export function showArray(root, number) {
   const isArray = Number.isInteger(number) && number >= 0 && number < ARRAYS;
   const kinds = isArray ? [...arrayOf(number)] : [];

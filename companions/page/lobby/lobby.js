@@ -12,22 +12,34 @@ import { showUsual } from "./usual.js";
 import { isLobbySeen, onView } from "../shell/views.js";
 
 const EVERY = 4000; // milliseconds
+/** @type {ListName[]} */
 const SHARED = ["who", "sought", "games"];
+/** @type {ListName[]} */
 const OWN = ["pending", "stored"];
 const ROWS = new Set(["player", "sought", "game", "stored", "stored-pair", "pending-from", "pending-to"]);
 // own acts, and which lists they may change
+/** @type {Record<string, ListName[]>} */
 const CHANGING = {
   accept: OWN, decline: ["pending"], match: ["pending"], play: OWN, resume: OWN, withdraw: ["pending"],
   seek: ["sought"], unseek: ["sought"],
 };
 
+/** No rows of any list.
+ * @returns {Lists} */
+function noRows() {
+  return { who: [], sought: [], games: [], pending: [], stored: [] };
+}
+
 export class Lobby {
-  /** `challenged` gets the rows of the challenges to the member. */
+  /** `challenged` gets the rows of the challenges to the member.
+   * @param {Session} session @param {Games} games @param {SmallGames} smallGames
+   * @param {(rows: Row[]) => void} challenged */
   constructor(session, games, smallGames, challenged) {
     this.session = session;
     this.challenged = challenged;
     this.running = new RunningGames(session, games, smallGames);
-    this.rows = Object.fromEntries([...SHARED, ...OWN].map((it) => [it, []]));
+    this.rows = noRows();
+    /** @type {Map<string, boolean>} */
     this.asked = new Map(); // of the lists that are being asked for, whether to ask once more behind that
     this.isTold = false; // whether the go-between tells the shared lists
     session.onAnswer((answer) => this.take(answer));
@@ -62,7 +74,8 @@ export class Lobby {
     OWN.forEach((it) => this.ask(it));
   }
 
-  /** Asks for a list; one that is being asked for is asked for once more behind that, since it may have changed. */
+  /** Asks for a list; one that is being asked for is asked for once more behind that, since it may have changed.
+   * @param {string} line */
   async ask(line) {
     if (this.asked.has(line)) {
       this.asked.set(line, true);
@@ -81,27 +94,30 @@ export class Lobby {
     this.askOwn();
   }
 
+  /** @param {Told} told */
   hear(told) {
     const lists = SHARED.filter((it) => Array.isArray(told[it]));
-    lists.forEach((it) => this.set(it, told[it].map((line) => eventOf(line, it))));
+    lists.forEach((it) => this.set(it, /** @type {string[]} */ (told[it]).map((line) => eventOf(line, it))));
     if (lists.length) {
       this.show();
     }
   }
 
+  /** @param {Answer} answer */
   take(answer) {
     if (!answer.isDone || !this.session.me) {
       return;
     }
     (CHANGING[answer.command] ?? []).forEach((it) => this.ask(it));
     if (answer.command in this.rows) {
-      this.set(answer.command, answer.events);
+      this.set(/** @type {ListName} */ (answer.command), answer.events);
       this.show();
     }
   }
 
+  /** @param {ListName} list @param {LineEvent[]} events */
   set(list, events) {
-    this.rows[list] = events.filter((it) => ROWS.has(it.kind));
+    this.rows = { ...this.rows, [list]: events.filter((it) => ROWS.has(it.kind)) };
   }
 
   show() {
@@ -112,14 +128,14 @@ export class Lobby {
     showRows(byId("players"), who.map((it) => playerRow(it.who, me, games, sought)));
     showRows(byId("challenges"), pending.map(challengeRow));
     showRows(byId("stored"), stored.map((it) => storedRow(it, me)), t("lobby.none"));
-    byId("players-count").textContent = who.length || "";
-    byId("games-count").textContent = games.length || "";
+    byId("players-count").textContent = String(who.length || "");
+    byId("games-count").textContent = String(games.length || "");
     this.running.show(games);
     this.challenged(pending.filter((it) => it.kind === "pending-from").map(challengeRow));
   }
 
   forget() {
-    Object.keys(this.rows).forEach((it) => { this.rows[it] = []; });
+    this.rows = noRows();
     this.show();
   }
 }

@@ -2,7 +2,8 @@
 
 import { t } from "../shell/texts.js";
 
-/** A player, and what it does. */
+/** A player, and what it does.
+ * @param {string} who @param {string} me @param {Happened<'game'>[]} games @param {Happened<'sought'>[]} seeks */
 export function playerRow(who, me, games, seeks) {
   const game = games.find((it) => [it.white, it.black].includes(who));
   const seek = seeks.find((it) => it.who === who);
@@ -17,7 +18,8 @@ export function playerRow(who, me, games, seeks) {
     className: game ? "plays" : "" };
 }
 
-/** A seek, which is taken by a click anywhere on its row; one's own is taken back so. */
+/** A seek, which is taken by a click anywhere on its row; one's own is taken back so.
+ * @param {Happened<'sought'>} event @param {string} me */
 export function seekRow({ n, who, terms, text }, me) {
   const isMine = who === me;
   const parts = { time: terms.shortTime(), who: isMine ? t("player.you", { who }) : who,
@@ -28,7 +30,8 @@ export function seekRow({ n, who, terms, text }, me) {
     buttons: [{ name, parts, command: isMine ? `unseek ${n}` : `play ${n}` }] };
 }
 
-/** A challenge that stands, to the member or by it. */
+/** A challenge that stands, to the member or by it.
+ * @param {Happened<'pending-from' | 'pending-to'>} event */
 export function challengeRow({ kind, who, terms, text }) {
   if (kind === "pending-to") {
     return { key: text, text: t("pending.to", { who, terms: terms.inWords() }), buttons: [
@@ -42,7 +45,8 @@ export function challengeRow({ kind, who, terms, text }) {
   ] };
 }
 
-/** An adjourned game. */
+/** An adjourned game.
+ * @param {Happened<'stored' | 'stored-pair'>} event @param {string} me */
 export function storedRow(event, me) {
   const names = [event.white, event.black, event.third, event.fourth].filter(Boolean);
   const other = names.find((it) => it !== me);

@@ -4,6 +4,7 @@ import { byId, onSubmit, tellMember } from "../shell/elements.js";
 import { onLanguage, t } from "../shell/texts.js";
 
 export class Partner {
+  /** @param {Session} session */
   constructor(session) {
     this.session = session;
     this.name = "";
@@ -23,12 +24,13 @@ export class Partner {
     }
   }
 
-  /** Who asks somebody that has asked already has a partner then; the server answers `Ok.` to it. */
+  /** Who asks somebody that has asked already has a partner then; the server answers `Ok.` to it.
+   * @param {Answer} answer */
   take(answer) {
     if (answer.command !== "partner" || answer.refusal) {
       return;
     }
-    const name = answer.line.trim().split(/ +/)[1] ?? "";
+    const name = answer.said.trim().split(/ +/)[1] ?? "";
     if (answer.all("asked").length) {
       tellMember(t("partner.asked", { who: name }));
     } else if (answer.all("ok").length) {
@@ -36,6 +38,7 @@ export class Partner {
     }
   }
 
+  /** @param {string} name */
   set(name) {
     this.name = name;
     this.show();

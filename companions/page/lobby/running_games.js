@@ -11,7 +11,6 @@ class Card {
   constructor() {
     this.row = element("li");
     this.button = element("button", "small-game");
-    this.button.type = "button";
     this.above = element("span", "player");
     const board = element("span", "miniature");
     this.board = new SmallBoard(board);
@@ -22,15 +21,15 @@ class Card {
   }
 
   /** Shows a row of the list of games, and its last board where it is known; `isOpen` where the member has it on its
-   * own board. */
+   * own board.
+   * @param {Happened<'game'>} game @param {{ board: BoardLine, isOver: boolean } | null} known
+   * @param {boolean} isOpen */
   show(game, known, isOpen) {
     const { white, black, terms } = game;
     const places = { game: game.game, white, black, terms: terms.inWords() };
-    this.row.dataset.key = game.game;
-    for (const name of ["command", "show"]) {
-      delete this.button.dataset[name];
-    }
-    this.button.dataset[isOpen ? "show" : "command"] = isOpen ? game.game : `observe ${game.game}`;
+    this.row.dataset.key = String(game.game);
+    delete this.button.dataset[isOpen ? "command" : "show"];
+    this.button.dataset[isOpen ? "show" : "command"] = isOpen ? String(game.game) : `observe ${game.game}`;
     this.button.setAttribute("aria-label", t(isOpen ? "game.open-name" : "game.watch-name", places));
     this.above.textContent = black;
     this.below.textContent = white;
@@ -48,24 +47,35 @@ class Card {
 const EVERY = 4000; // milliseconds
 
 export class RunningGames {
+  /** @param {Session} session @param {Games} games @param {SmallGames} smallGames */
   constructor(session, games, smallGames) {
     this.session = session;
     this.games = games;
     this.smallGames = smallGames;
+    /** @type {Happened<'game'>[]} */
     this.rows = [];
+    /** @type {Map<string, Card>} */
     this.cards = new Map(); // by the games' numbers and players
+    /** @type {Set<Element>} */
     this.inSight = new Set(); // the cards' rows that are seen
-    smallGames.changed = (number) => this.showOne(number);
     this.observer = new IntersectionObserver((entries) => this.see(entries), { threshold: 0.3 });
     document.addEventListener("visibilitychange", () => this.want());
     onView(() => this.want());
     setInterval(() => this.want(), EVERY);
   }
 
+  /** @param {Happened<'game'>} row */
   keyOf({ game, white, black }) {
     return `${game} ${white} ${black}`;
   }
 
+  /** The card of a row, a new one where there is none.
+   * @param {Happened<'game'>} row */
+  cardOf(row) {
+    return this.cards.get(this.keyOf(row)) ?? new Card();
+  }
+
+  /** @param {IntersectionObserverEntry[]} entries */
   see(entries) {
     for (const { target, isIntersecting } of entries) {
       if (isIntersecting) {
@@ -77,10 +87,11 @@ export class RunningGames {
     this.want();
   }
 
+  /** @param {Happened<'game'>[]} rows */
   show(rows) {
     this.rows = rows;
     const list = byId("games");
-    const wanted = new Map(rows.map((it) => [this.keyOf(it), this.cards.get(this.keyOf(it)) ?? new Card()]));
+    const wanted = new Map(rows.map((it) => [this.keyOf(it), this.cardOf(it)]));
     for (const [key, card] of this.cards) {
       if (!wanted.has(key)) {
         this.observer.unobserve(card.row);
@@ -94,8 +105,9 @@ export class RunningGames {
     this.want();
   }
 
+  /** @param {HTMLElement} list @param {Happened<'game'>} row @param {number} n */
   place(list, row, n) {
-    const card = this.cards.get(this.keyOf(row));
+    const card = this.cardOf(row);
     if (list.children[n] !== card.row) {
       list.insertBefore(card.row, list.children[n] ?? null);
       this.observer.observe(card.row);
@@ -103,6 +115,7 @@ export class RunningGames {
     this.fill(row);
   }
 
+  /** @param {HTMLElement} list */
   showNone(list) {
     list.querySelector(".none")?.remove();
     if (!this.rows.length) {
@@ -110,13 +123,15 @@ export class RunningGames {
     }
   }
 
+  /** @param {Happened<'game'>} row */
   fill(row) {
     const own = this.games.byNumber.get(row.game);
-    const isOpen = Boolean(own?.place && !own.isOver && own.white === row.white && own.black === row.black);
-    const known = isOpen ? { board: own.place.board, isOver: false } : this.smallGames.boardOf(row);
-    this.cards.get(this.keyOf(row)).show(row, known, isOpen);
+    const isOpen = own?.isOver === false && own.white === row.white && own.black === row.black;
+    const board = isOpen ? own.place?.board : null;
+    this.cardOf(row).show(row, board ? { board, isOver: false } : this.smallGames.boardOf(row), Boolean(board));
   }
 
+  /** @param {number} number */
   showOne(number) {
     const row = this.rows.find((it) => it.game === number);
     if (row) {
@@ -127,7 +142,7 @@ export class RunningGames {
   /** Looks on at the games whose boards are seen. */
   want() {
     const isSeen = document.visibilityState === "visible" && this.session.isIn && isLobbySeen();
-    const seen = this.rows.filter((it) => this.inSight.has(this.cards.get(this.keyOf(it))?.row));
+    const seen = this.rows.filter((it) => this.inSight.has(this.cardOf(it).row));
     this.smallGames.want(isSeen ? seen.map((it) => it.game) : []);
   }
 }

@@ -5,6 +5,7 @@ import { byId, onClick } from "../shell/elements.js";
 import { onLanguage, t } from "../shell/texts.js";
 
 export class Simul {
+  /** @param {Session} session @param {Games} games */
   constructor(session, games) {
     this.session = session;
     this.games = games;
@@ -19,6 +20,7 @@ export class Simul {
     return this.isGiven && this.games.running.length > 1;
   }
 
+  /** @param {Answer} answer */
   note(answer) {
     if (answer.command === "simopen" && answer.all("ok").length) {
       this.isGiven = !this.isGiven;
@@ -38,7 +40,8 @@ export class Simul {
     byId("simnext").hidden = !this.isGiven;
   }
 
-  /** Makes a game the present one. Whether a line for it can be sent. */
+  /** Makes a game the present one. Whether a line for it can be sent.
+   * @param {Game} game */
   async reach(game) {
     if (!this.isOn || game.role !== "mine") {
       return true;
@@ -47,6 +50,7 @@ export class Simul {
     return answer.isDone && !game.isOver;
   }
 
+  /** @param {string} line */
   async go(line) {
     const answer = await this.session.act(line);
     if (answer.isDone) {
@@ -57,7 +61,7 @@ export class Simul {
   /** Shows the game that is the present one now. */
   async showPresent() {
     const answer = await this.session.ask("refresh");
-    const board = answer.events.find((it) => it.kind === "board");
+    const [board] = answer.all("board");
     if (board) {
       this.games.choose(board.board.game);
     }

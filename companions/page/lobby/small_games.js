@@ -9,24 +9,30 @@ const KEY = "small-games"; // where a page that begins anew finds at which games
 const FOR_GAMES = new Set(["observe", "unobserve", "kibitz", ""]);
 
 export class SmallGames {
-  /** `isBusy()` says whether the member has a game on the board; `store` keeps a text for this tab, and may be none.
-   * `changed(number)` is called where a small board has changed. */
-  constructor(session, isBusy, store) {
+  /** `store` keeps a text for this tab, and may be none. `isBusy()` says whether the member has a game on the board;
+   * `changed(number)` is called where a small board has changed.
+   * @param {Session} session @param {Storage | null} store @param {SmallGamesListeners} listeners */
+  constructor(session, store, { isBusy, changed }) {
     this.session = session;
     this.isBusy = isBusy;
     this.store = store;
-    this.changed = () => {};
+    this.changed = changed;
     this.restsUntil = 0; // the moment from which on it may look on again
+    /** @type {Set<number>} */
     this.seen = new Set(); // of games that are looked on at
+    /** @type {Map<number, number>} */
     this.left = new Map(); // of games that are looked on at no longer, how many answers are awaited
+    /** @type {Map<number, { board: BoardLine, since: number, isOver: boolean }>} */
     this.boards = new Map(); // the last boards that were told
+    session.on("acting", ({ command }) => this.before(command));
     session.on("board", (event) => this.take(event.board));
     session.on(["lost", "drawn", "stopped", "pair-ended"], (event) => this.finish(event.game));
     session.on(["creating", "continuing"], () => this.release());
     session.on("link-back", ({ isNewPage }) => isNewPage && this.recover());
   }
 
-  /** Whether a game is looked on at for its small board alone. */
+  /** Whether a game is looked on at for its small board alone.
+   * @param {number} number */
   has(number) {
     return this.seen.has(number) || this.left.has(number);
   }
@@ -35,13 +41,15 @@ export class SmallGames {
     return this.seen.size > 0 || this.left.size > 0;
   }
 
-  /** Looks on at these games, the first ones of them, and at no others. */
+  /** Looks on at these games, the first ones of them, and at no others.
+   * @param {number[]} numbers */
   want(numbers) {
     const wanted = this.isBusy() || performance.now() < this.restsUntil ? [] : numbers.slice(0, MOST);
     [...this.seen].filter((it) => !wanted.includes(it)).forEach((it) => this.leave(it));
     wanted.filter((it) => !this.has(it)).forEach((it) => this.look(it));
   }
 
+  /** @param {number} number */
   async look(number) {
     this.seen.add(number);
     this.keep();
@@ -62,11 +70,12 @@ export class SmallGames {
     numbers.forEach((it) => this.leave(it));
   }
 
+  /** @param {number} number */
   async leave(number) {
     this.seen.delete(number);
     this.left.set(number, (this.left.get(number) ?? 0) + 1);
     await this.session.ask(`unobserve ${number}`);
-    const awaited = this.left.get(number) - 1;
+    const awaited = (this.left.get(number) ?? 1) - 1;
     if (awaited) {
       this.left.set(number, awaited);
     } else {
@@ -80,7 +89,8 @@ export class SmallGames {
     [...this.seen].forEach((it) => this.leave(it));
   }
 
-  /** What the member sends for games is for those that it looks on at itself. */
+  /** What the member sends for games is for those that it looks on at itself.
+   * @param {string} command */
   before(command) {
     if (FOR_GAMES.has(command)) {
       this.restsUntil = performance.now() + RESTS;
@@ -88,6 +98,7 @@ export class SmallGames {
     }
   }
 
+  /** @param {BoardLine} board */
   take(board) {
     if (this.has(board.game)) {
       this.boards.set(board.game, { board, since: performance.now(), isOver: false });
@@ -95,6 +106,7 @@ export class SmallGames {
     }
   }
 
+  /** @param {number} number */
   finish(number) {
     if (this.has(number)) {
       this.seen.delete(number);
@@ -106,7 +118,8 @@ export class SmallGames {
     }
   }
 
-  /** The last board of a game of these players. */
+  /** The last board of a game of these players.
+   * @param {Happened<'game'>} row */
   boardOf({ game, white, black }) {
     const known = this.boards.get(game);
     return known && known.board.white === white && known.board.black === black ? known : null;

@@ -2,10 +2,13 @@
 
 import { closeBoxes } from "../shell/boxes.js";
 import { anyArray, showArray } from "./fischer_view.js";
-import { byId, onClick, onSubmit, tellMember } from "../shell/elements.js";
+import { byId, onClick, onClickAt, onSubmit, tellMember } from "../shell/elements.js";
 import { Terms } from "../game/terms.js";
 import { t } from "../shell/texts.js";
 
+const NUMBERS = /** @type {const} */ (["minutes", "increment", "fischer"]);
+
+/** @param {NUMBERS[number]} id */
 function whole(id) {
   return byId(id).valueAsNumber;
 }
@@ -16,13 +19,15 @@ function chosenTerms() {
 }
 
 /** Sends a line with the terms, and closes the box once it is done; where a number is out of its bounds the browser
- * says so. */
+ * says so.
+ * @param {Session} session @param {string} head */
 async function send(session, head) {
   if (byId("terms-form").reportValidity() && (await session.act(`${head} ${chosenTerms()}`)).isDone) {
     closeBoxes("terms");
   }
 }
 
+/** @param {Session} session */
 function challenge(session) {
   const name = byId("match-name").value.trim();
   if (name) {
@@ -45,7 +50,9 @@ export function openTerms(name = "") {
 function showKind() {
   const isFischer = byId("variant").value === "fischer";
   byId("fischer").disabled = !isFischer;
-  document.querySelectorAll("#terms .of-fischer").forEach((it) => { it.hidden = !isFischer; });
+  /** @type {NodeListOf<HTMLElement>} */
+  const ofFischer = document.querySelectorAll("#terms .of-fischer");
+  ofFischer.forEach((it) => { it.hidden = !isFischer; });
   showArray(byId("fischer-array"), whole("fischer"));
   byId("seek").disabled = byId("variant").value === "bughouse";
   const isChallenge = byId("match-name").value.trim() !== "" || byId("seek").disabled;
@@ -53,6 +60,7 @@ function showKind() {
   byId("seek").classList.toggle("strong", !isChallenge);
 }
 
+/** @param {Session} session */
 export function listenForTerms(session) {
   byId("variant").addEventListener("change", showKind);
   byId("match-name").addEventListener("input", showKind);
@@ -62,20 +70,15 @@ export function listenForTerms(session) {
       challenge(session);
     }
   });
-  for (const id of ["minutes", "increment", "fischer"]) {
+  for (const id of NUMBERS) {
     byId(id).required = true;
   }
-  document.addEventListener("click", (event) => {
-    const button = event.target.closest("[data-challenge]");
-    if (button) {
-      openTerms(button.dataset.challenge);
-    }
-  });
+  onClickAt(document, "[data-challenge]", (button) => openTerms(button.dataset.challenge));
   onSubmit("terms-form", () => send(session, "seek"));
   onClick("match", () => challenge(session));
   byId("fischer").addEventListener("input", showKind);
   onClick("fischer-die", () => {
-    byId("fischer").value = anyArray();
+    byId("fischer").value = String(anyArray());
     showKind();
   });
   session.on(["creating", "continuing"], () => closeBoxes("terms"));

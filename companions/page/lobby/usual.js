@@ -5,17 +5,19 @@ import { byId, element } from "../shell/elements.js";
 import { Terms } from "../game/terms.js";
 import { t } from "../shell/texts.js";
 
-const USUAL = [[1, 0], [2, 1], [3, 2], [5, 0], [5, 3], [10, 0], [15, 10]].map((it) => new Terms(...it, "chess"));
+const USUAL = [[1, 0], [2, 1], [3, 2], [5, 0], [5, 3], [10, 0], [15, 10]]
+  .map(([minutes, increment]) => new Terms(minutes, increment, "chess"));
 
+/** @param {string} id @param {string} head @param {string} foot */
 function cellOf(id, head, foot) {
   const cell = element("button", "cell");
-  cell.type = "button";
   cell.id = id;
   cell.append(element("span", "time", head), element("span", "speed", foot));
   return cell;
 }
 
-/** Shows the grid, with the seeks that are the member's own. */
+/** Shows the grid, with the seeks that are the member's own.
+ * @param {Happened<'sought'>[]} seeks */
 export function showUsual(seeks) {
   const root = byId("usual");
   if (!root.children.length) {

@@ -2,16 +2,18 @@
 
 import { byId } from "../shell/elements.js";
 import { t } from "../shell/texts.js";
-import { Terms } from "../game/terms.js";
 
+/** @type {Record<string, string>} */
 const ICONS = { "": "icon.svg", move: "icon_move.svg", call: "icon_call.svg" };
 
 export class Alerts {
+  /** @param {Session} session @param {Games} games @param {Preferences} preferences */
   constructor(session, games, preferences) {
     this.session = session;
     this.games = games;
     this.preferences = preferences;
     this.calls = 0; // how many stand
+    /** @type {Notification[]} */
     this.notes = []; // that are shown
     session.on(["challenge", "partner-asked", "resume-asked"], (event) => this.call(event));
     document.addEventListener("visibilitychange", () => document.hidden || this.forget());
@@ -25,17 +27,21 @@ export class Alerts {
     }
   }
 
-  call({ kind, who, terms }) {
-    this.note(t(`note.${kind}`, { who, terms: terms instanceof Terms ? terms.inWords() : "" }), `call ${who}`);
+  /** @param {Happened<'challenge' | 'partner-asked' | 'resume-asked'>} event */
+  call(event) {
+    const { kind, who } = event;
+    this.note(t(`note.${kind}`, { who, terms: "terms" in event ? event.terms.inWords() : "" }), `call ${who}`);
   }
 
-  /** So many calls stand. */
+  /** So many calls stand.
+   * @param {number} count */
   called(count) {
     this.calls = count;
     this.show();
   }
 
-  /** A game was told of. */
+  /** A game was told of.
+   * @param {Game | null} game @param {Happened} event */
   told(game, event) {
     const isTurn = game?.role === "mine" && !game.isOver && game.place && this.isTurn(game);
     if (event.kind === "board" && event.isHalfMove && isTurn) {
@@ -45,11 +51,13 @@ export class Alerts {
     this.show();
   }
 
+  /** @param {Game} game */
   isTurn(game) {
     return game.nameOf(game.toMove) === this.session.me;
   }
 
-  /** Shows a note of the browser where the page is out of sight; a later one of the same kind takes its place. */
+  /** Shows a note of the browser where the page is out of sight; a later one of the same kind takes its place.
+   * @param {string} words @param {string} tag */
   note(words, tag) {
     if (!document.hidden || !this.preferences.get("notes") || !("Notification" in window)) {
       return;

@@ -11,6 +11,7 @@ const GUEST = "guest";
 const IMMORTAL = ["r-b-k-nr", "p--p-ppp", "n--B----", "-p-NPN-P", "------P-", "---P-Q--", "P-P-K---", "q-----b-"];
 
 export class Login {
+  /** @param {Session} session */
   constructor(session) {
     this.session = session;
     this.asked = ""; // the name whose password the server waits for
@@ -18,8 +19,10 @@ export class Login {
     new SmallBoard(byId("login-board")).show(IMMORTAL);
     onSubmit("login-form", () => this.start(byId("login-name").value.trim()));
     onClick("guest", () => this.start(GUEST));
+    session.onEnd(() => { this.asked = ""; });
   }
 
+  /** @param {string} name */
   async start(name) {
     if (!this.isBusy) {
       this.isBusy = true;
@@ -31,7 +34,8 @@ export class Login {
     }
   }
 
-  /** The server waits for the password of one name only; for another one a new link is needed. */
+  /** The server waits for the password of one name only; for another one a new link is needed.
+   * @param {string} name */
   async enter(name) {
     const password = byId("login-password").value;
     if (!name) {
@@ -72,7 +76,8 @@ export class Login {
     this.asked = answer.prompt === PASSWORD ? this.asked : "";
   }
 
-  /** A password was given for a name that has no account: perhaps it is to be made one. */
+  /** A password was given for a name that has no account: perhaps it is to be made one.
+   * @param {string} password */
   askToRegister(password) {
     byId("login-password").value = "";
     ask("register-ask", async () => {

@@ -1,13 +1,14 @@
 /** How the page looks and which language it speaks, by the member's choice; the browser remembers it. */
 
-import { byId } from "../shell/elements.js";
+import { byId, element } from "../shell/elements.js";
 import { SmallBoard } from "../board/small_board.js";
-import { LANGUAGES, language, preferred, speak } from "../shell/texts.js";
+import { LANGUAGES, language, preferred, speak, translate } from "../shell/texts.js";
 
 const CHOICES = { theme: ["auto", "light", "dark"], board: ["meadow", "wood"], men: ["turned", "plain"] };
 const SAMPLE = ["rnbqkbnr", "RNBQKBNR"];
 
-/** What the browser remembers; nothing where it is told to remember nothing. */
+/** What the browser remembers; nothing where it is told to remember nothing.
+ * @param {string} name */
 function remembered(name) {
   try {
     return localStorage.getItem(name);
@@ -16,6 +17,7 @@ function remembered(name) {
   }
 }
 
+/** @param {string} name @param {string} value */
 function remember(name, value) {
   try {
     localStorage.setItem(name, value);
@@ -24,6 +26,7 @@ function remember(name, value) {
   }
 }
 
+/** @param {string} name @param {string} value */
 function apply(name, value) {
   document.documentElement.dataset[name] = value;
 }
@@ -32,27 +35,51 @@ function apply(name, value) {
 export async function takeUpLooks() {
   for (const [name, values] of Object.entries(CHOICES)) {
     const before = remembered(name);
-    apply(name, values.includes(before) ? before : values[0]);
+    apply(name, before !== null && values.includes(before) ? before : values[0]);
   }
   await speak(preferred(remembered("language")));
 }
 
-function listen(name, chosen) {
-  const field = byId(`look-${name}`);
+/** A field with its label; what is chosen there is remembered, and told to `chosen`.
+ * @param {string} name @param {HTMLOptionElement[]} options @param {string | undefined} value
+ * @param {(value: string) => void} chosen */
+function fieldOf(name, options, value, chosen) {
+  const label = element("label");
+  const field = element("select");
+  field.id = `look-${name}`;
+  label.htmlFor = field.id;
+  label.dataset.t = `look.${name}`;
+  field.append(...options);
+  field.value = value ?? "";
   field.addEventListener("change", () => {
     remember(name, field.value);
     chosen(field.value);
   });
-  return field;
+  return [label, field];
 }
 
-/** The fields in which it is chosen. */
-export function listenForLooks() {
-  for (const name of Object.keys(CHOICES)) {
-    listen(name, (value) => apply(name, value)).value = document.documentElement.dataset[name];
+/** @param {string} name @param {string} value */
+function optionOf(name, value) {
+  const option = new Option("", value);
+  option.dataset.t = `look.${name}-${value}`;
+  return option;
+}
+
+/** Puts the fields in which it is chosen into the settings, where `#looks` stands for them. */
+export function showLooks() {
+  const title = element("h3");
+  title.dataset.t = "look.title";
+  const pairs = element("div", "pairs");
+  const languages = Object.entries(LANGUAGES).map(([code, name]) => new Option(name, code));
+  pairs.append(...fieldOf("language", languages, language(), speak));
+  for (const [name, values] of Object.entries(CHOICES)) {
+    const options = values.map((it) => optionOf(name, it));
+    pairs.append(...fieldOf(name, options, document.documentElement.dataset[name], (value) => apply(name, value)));
   }
-  const field = listen("language", speak);
-  field.replaceChildren(...Object.entries(LANGUAGES).map(([code, name]) => new Option(name, code)));
-  field.value = language();
-  new SmallBoard(byId("look-sample"), SAMPLE.length).show(SAMPLE);
+  const sample = element("div");
+  sample.id = "look-sample";
+  sample.setAttribute("aria-hidden", "true");
+  byId("looks").replaceWith(title, pairs, sample);
+  translate(byId("settings"));
+  new SmallBoard(sample, SAMPLE.length).show(SAMPLE);
 }

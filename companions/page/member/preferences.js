@@ -1,12 +1,15 @@
 /** What a member prefers at the board, kept by the browser for the next time. */
 
 const KEY = "preferences";
+/** @type {Record<PreferenceName, boolean>} */
 const USUAL = { sounds: true, notes: false, premoves: true, legal: true, queen: false };
 
 export class Preferences {
-  /** `store` keeps texts by their keys; a browser that keeps nothing may have none. */
+  /** `store` keeps texts by their keys; a browser that keeps nothing may have none.
+   * @param {Pick<Storage, 'getItem' | 'setItem'> | null} store */
   constructor(store) {
     this.store = store;
+    /** @type {((name: PreferenceName, value: boolean) => void)[]} */
     this.listeners = [];
     this.values = { ...USUAL, ...this.kept() };
   }
@@ -14,16 +17,19 @@ export class Preferences {
   kept() {
     try {
       const kept = JSON.parse(this.store?.getItem(KEY) ?? "{}");
-      return Object.fromEntries(Object.entries(kept).filter(([name, value]) => typeof value === typeof USUAL[name]));
+      return Object.fromEntries(Object.entries(kept)
+        .filter(([name, value]) => typeof value === "boolean" && name in USUAL));
     } catch {
       return {};
     }
   }
 
+  /** @param {PreferenceName} name */
   get(name) {
     return this.values[name];
   }
 
+  /** @param {PreferenceName} name @param {boolean} value */
   set(name, value) {
     this.values[name] = value;
     try {
@@ -34,7 +40,8 @@ export class Preferences {
     this.listeners.forEach((it) => it(name, value));
   }
 
-  /** Calls `listener` with the name and the value of what is preferred from now on. */
+  /** Calls `listener` with the name and the value of what is preferred from now on.
+   * @param {(name: PreferenceName, value: boolean) => void} listener */
   onChange(listener) {
     this.listeners.push(listener);
   }
@@ -49,11 +56,15 @@ export function browserStore() {
   }
 }
 
-/** Each box that names what is preferred shows it, and changes it. */
+/** Each box that names what is preferred shows it, and changes it.
+ * @param {Preferences} preferences */
 export function listenForPreferences(preferences) {
-  const boxes = [...document.querySelectorAll("[data-prefer]")];
-  const show = () => boxes.forEach((it) => { it.checked = preferences.get(it.dataset.prefer); });
-  boxes.forEach((it) => it.addEventListener("change", () => preferences.set(it.dataset.prefer, it.checked)));
+  /** @type {HTMLInputElement[]} */
+  const boxes = Array.from(document.querySelectorAll("[data-prefer]"));
+  /** @param {HTMLInputElement} box */
+  const named = (box) => /** @type {PreferenceName} */ (box.dataset.prefer);
+  const show = () => boxes.forEach((it) => { it.checked = preferences.get(named(it)); });
+  boxes.forEach((it) => it.addEventListener("change", () => preferences.set(named(it), it.checked)));
   preferences.onChange(show);
   show();
 }

@@ -6,31 +6,41 @@ import { byId, onSubmit, tellMember } from "../shell/elements.js";
 import { isPassword } from "./passwords.js";
 import { onLanguage, t } from "../shell/texts.js";
 
-const LISTS = ["censor", "noplay"];
+const LISTS = /** @type {const} */ (["censor", "noplay"]);
 const VARIABLES = ["open", "shout", "seek"];
 
+/** The box of a variable.
+ * @param {string} name */
+function boxOf(name) {
+  return /** @type {HTMLInputElement} */ (byId(`set-${name}`));
+}
+
 export class Settings {
+  /** @param {Session} session */
   constructor(session) {
     this.session = session;
     session.on("entered", (event) => { byId("register-name").value = event.who; });
+    /** @type {Record<LISTS[number], Map<string, string>>} */
     this.kept = { censor: new Map(), noplay: new Map() }; // by the name in small letters
     session.onAnswer((answer) => this.take(answer));
     onSubmit("register-form", () => this.register());
     onSubmit("keep-form", () => this.keep());
     for (const name of VARIABLES) {
-      const box = byId(`set-${name}`);
+      const box = boxOf(name);
       box.addEventListener("change", () => session.act(`set ${name} ${box.checked ? 1 : 0}`));
     }
     onLanguage(() => this.showKept());
     this.showKept();
   }
 
-  /** Whether that player is kept away from the member's games, or from telling it anything too. */
+  /** Whether that player is kept away from the member's games, or from telling it anything too.
+   * @param {string} who */
   isKeptAway(who) {
     return LISTS.some((it) => this.kept[it].has(who.toLowerCase()));
   }
 
-  /** Whether the member wants to be asked by that player. */
+  /** Whether the member wants to be asked by that player.
+   * @param {string} who */
   wants(who) {
     return byId("set-open").checked && !this.isKeptAway(who);
   }
@@ -56,16 +66,17 @@ export class Settings {
     }
   }
 
-  /** Takes what was done, whoever typed it. */
+  /** Takes what was done, whoever typed it.
+   * @param {Answer} answer */
   take(answer) {
     if (!answer.all("ok").length) {
       return;
     }
-    const [, first = "", second = ""] = answer.line.trim().split(/ +/);
-    const list = answer.command.slice(1);
+    const [, first = "", second = ""] = answer.said.trim().split(/ +/);
+    const list = LISTS.find((it) => it === answer.command.slice(1));
     if (answer.command === "set" && VARIABLES.includes(first)) {
-      byId(`set-${first}`).checked = second === "1";
-    } else if (LISTS.includes(list)) {
+      boxOf(first).checked = second === "1";
+    } else if (list) {
       if (answer.command[0] === "+") {
         this.kept[list].set(first.toLowerCase(), first);
       } else {
@@ -85,7 +96,7 @@ export class Settings {
 
   forget() {
     Object.values(this.kept).forEach((it) => it.clear());
-    VARIABLES.forEach((it) => { byId(`set-${it}`).checked = true; });
+    VARIABLES.forEach((it) => { boxOf(it).checked = true; });
     this.showKept();
   }
 }

@@ -8,6 +8,7 @@ const EVERY = 500; // milliseconds
 const VOLUME = 0.25;
 const RESTS_AFTER = 1_500; // milliseconds: a loudspeaker that is kept ready takes time of the processor
 // of each sound its tones: frequency in hertz, when it begins and how long it is in seconds, its form
+/** @type {Record<SoundName, [number, number, number, OscillatorType][]>} */
 const TONES = {
   move: [[320, 0, 0.06, "triangle"], [180, 0.01, 0.08, "sine"]],
   capture: [[240, 0, 0.05, "square"], [150, 0.04, 0.12, "triangle"]],
@@ -17,10 +18,12 @@ const TONES = {
 };
 
 export class Sounds {
+  /** @param {Session} session @param {Games} games @param {Preferences} preferences */
   constructor(session, games, preferences) {
     this.session = session;
     this.games = games;
     this.preferences = preferences;
+    /** @type {AudioContext | null} */
     this.context = null;
     this.resting = 0;
     this.isAllowed = false; // the page was clicked or typed in
@@ -32,7 +35,8 @@ export class Sounds {
     document.addEventListener("keydown", mayPlay, { once: true });
   }
 
-  /** A game was told of: what is heard of it is what is seen of it. */
+  /** A game was told of: what is heard of it is what is seen of it.
+   * @param {Game | null} game @param {Happened} event */
   told(game, event) {
     if (game && (game === this.games.shown || game.role === "mine")) {
       this.play(soundOf(event));
@@ -43,24 +47,27 @@ export class Sounds {
     for (const game of this.games.running) {
       const colour = game.colourOf(this.session.me);
       const runs = game.place && game.isTicking && game.toMove === colour;
-      if (runs && this.lowTime.falls(game.number, game.left(colour), LOW)) {
+      if (colour && runs && this.lowTime.falls(game.number, game.left(colour) ?? Infinity, LOW)) {
         this.play("low");
       }
     }
   }
 
+  /** @param {SoundName | ''} name */
   async play(name) {
     if (name && this.isAllowed && this.preferences.get("sounds") && window.AudioContext) {
       clearTimeout(this.resting);
-      this.context ??= new AudioContext();
-      this.resting = setTimeout(() => this.context.suspend(), RESTS_AFTER);
-      await this.context.resume();
-      TONES[name].forEach((it) => this.tone(...it));
+      const context = this.context ?? new AudioContext();
+      this.context = context;
+      this.resting = setTimeout(() => context.suspend(), RESTS_AFTER);
+      await context.resume();
+      TONES[name].forEach((it) => this.tone(context, ...it));
     }
   }
 
-  tone(frequency, begins, seconds, form) {
-    const { context } = this;
+  /** @param {AudioContext} context @param {number} frequency @param {number} begins @param {number} seconds
+   * @param {OscillatorType} form */
+  tone(context, frequency, begins, seconds, form) {
     const start = context.currentTime + begins;
     const oscillator = context.createOscillator();
     const volume = context.createGain();

@@ -7,18 +7,20 @@ import { inWords } from "../link/refusals.js";
 const REFUSAL = "refusal";
 const LAST_OF_BOARD = 17; // the numbers up to it are those of boards
 
-/** Whether a refusal of that number is one of the position that stood. */
+/** Whether a refusal of that number is one of the position that stood.
+ * @param {number} number */
 export function isOfBoard(number) {
   return number <= LAST_OF_BOARD;
 }
 
+/** @param {Session} session */
 export function listenForRefusals(session) {
   let shown = 0;
-  session.complain = (number) => {
-    shown = number;
-    tellMember(inWords(number), REFUSAL);
-  };
-  session.settled = () => forgetNotice(REFUSAL);
+  session.on("complaint", ({ n }) => {
+    shown = n;
+    tellMember(inWords(n), REFUSAL);
+  });
+  session.on("settled", () => forgetNotice(REFUSAL));
   session.on(["board", "lost", "drawn", "stopped", "pair-ended"], () => {
     if (isOfBoard(shown)) {
       forgetNotice(REFUSAL);

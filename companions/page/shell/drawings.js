@@ -1,5 +1,5 @@
-/** The drawings of icons.svg. A browser asks for another file anew whenever an element is made that refers to it, so the
- * page takes the drawings into itself once, and what is made from then on refers to those. */
+/** The drawings of icons.svg. A browser asks for another file anew whenever an element is made that refers to it, so
+ * the page takes the drawings into itself once, and what is made from then on refers to those. */
 
 const FILE = new URL("../icons.svg", import.meta.url).pathname; // from whichever address the page was opened
 const OWN = "icon-"; // before the names of those that were taken in
@@ -18,7 +18,8 @@ export async function takeInDrawings() {
   }
 }
 
-/** What refers to a drawing. */
+/** What refers to a drawing.
+ * @param {string} name */
 export function drawingAt(name) {
   return document.getElementById(OWN + name) ? `#${OWN}${name}` : `${FILE}#${name}`;
 }

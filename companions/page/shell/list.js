@@ -6,12 +6,12 @@ const states = new WeakMap(); // of each row what it says
 
 /** What a button may name: a command, the game it is `at`, a field to `fill`, a `room` of the talk, a game to `show`,
  * it `dismiss`es, or a player to `challenge`. */
-const NAMED = ["command", "at", "fill", "dismiss", "room", "show", "challenge"];
+const NAMED = /** @type {const} */ (["command", "at", "fill", "dismiss", "room", "show", "challenge"]);
 
-/** A button that says `label`, or shows a drawing in its place, or has parts as a row has. */
-function buttonOf({ label = "", name = label, drawing, parts, className = "", ...rest }) {
+/** A button that says `label`, or shows a drawing in its place, or has parts as a row has.
+ * @param {RowButton} it */
+export function buttonOf({ label = "", name = label, drawing, parts, className = "", ...rest }) {
   const button = element("button", className);
-  button.type = "button";
   if (drawing) {
     button.classList.add("bare");
     button.append(icon(drawing));
@@ -21,35 +21,39 @@ function buttonOf({ label = "", name = label, drawing, parts, className = "", ..
   }
   button.setAttribute("aria-label", name);
   for (const key of NAMED.filter((it) => rest[it] !== undefined)) {
-    button.dataset[key] = rest[key];
+    button.dataset[key] = String(rest[key]);
   }
   return button;
 }
 
+/** @param {Record<string, string>} parts */
 function partsOf(parts) {
   return Object.entries(parts).filter(([, text]) => text).map(([name, text]) => element("span", name, text));
 }
 
+/** @param {Row} row */
 function contentOf({ text, parts, buttons = [] }) {
   return [...text === undefined ? [] : [element("span", "what", text)], ...partsOf(parts ?? {}),
     ...buttons.map(buttonOf)];
 }
 
-/** Fills a row anew where it says something else; the button that had the focus has it again. */
+/** Fills a row anew where it says something else; the button that had the focus has it again.
+ * @param {Element} row @param {Row} it */
 function fill(row, it) {
   const state = JSON.stringify(it);
   if (states.get(row) === state) {
     return;
   }
-  const at = [...row.children].indexOf(document.activeElement);
+  const at = [...row.children].findIndex((it) => it === document.activeElement);
   states.set(row, state);
   row.className = it.className ?? "";
   row.replaceChildren(...contentOf(it));
   if (at >= 0) {
-    row.children[at]?.focus();
+    /** @type {HTMLElement | undefined} */ (row.children[at])?.focus();
   }
 }
 
+/** @param {string} key */
 function rowOf(key) {
   const row = element("li");
   row.dataset.key = key;
@@ -57,16 +61,13 @@ function rowOf(key) {
 }
 
 /** Shows rows, { key, text, parts, buttons, className }, in their order; rows of one key are the same, whatever they
- * say. `none` stands where there are none. */
+ * say. `none` stands where there are none.
+ * @param {HTMLElement} list @param {Row[]} rows */
 export function showRows(list, rows, none = "") {
   const wanted = rows.length || !none ? rows : [{ key: "none", text: none, className: "none" }];
-  const known = new Map([...list.children].map((row) => [row.dataset.key, row]));
+  const known = new Map(/** @type {HTMLElement[]} */ ([...list.children]).map((row) => [row.dataset.key, row]));
   const shown = wanted.map(({ key }) => known.get(key) ?? rowOf(key));
-  for (const row of [...list.children]) {
-    if (!shown.includes(row)) {
-      row.remove();
-    }
-  }
+  [...list.children].filter((row) => !shown.some((it) => it === row)).forEach((row) => row.remove());
   shown.forEach((row, n) => {
     fill(row, wanted[n]);
     if (list.children[n] !== row) {

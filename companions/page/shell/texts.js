@@ -9,17 +9,22 @@ export const LANGUAGES = { en: "English", de: "Deutsch" };
 const DEFAULT = "en";
 const PARTS = { t: "textContent", tLabel: "ariaLabel", tPlaceholder: "placeholder", tTitle: "title" };
 
-let texts = ENGLISH;
+/** @type {Record<string, string>} */
+const DEFAULT_TEXTS = ENGLISH;
+let texts = DEFAULT_TEXTS;
 let code = DEFAULT;
+/** @type {(() => void)[]} */
 const changed = [];
 
-/** The text of a key, with what stands in its places. A key without a text is shown as it is, so that it is found. */
+/** The text of a key, with what stands in its places. A key without a text is shown as it is, so that it is found.
+ * @param {string} key @param {Record<string, unknown>} [places] */
 export function t(key, places = {}) {
-  const text = texts[key] ?? ENGLISH[key] ?? key;
-  return text.replace(/\{(\w+)\}/g, (place, name) => places[name] ?? place);
+  const text = texts[key] ?? DEFAULT_TEXTS[key] ?? key;
+  return text.replace(/\{(\w+)\}/g, (place, name) => String(places[name] ?? place));
 }
 
-/** Whether there is a text of that key. */
+/** Whether there is a text of that key.
+ * @param {string} key */
 export function hasText(key) {
   return key in ENGLISH;
 }
@@ -28,29 +33,33 @@ export function language() {
   return code;
 }
 
-/** Calls `listener` whenever another language was chosen, behind the texts of index.html. */
+/** Calls `listener` whenever another language was chosen, behind the texts of index.html.
+ * @param {() => void} listener */
 export function onLanguage(listener) {
   changed.push(listener);
 }
 
-/** The language that was asked for, or the first of the browser's that there is. */
+/** The language that was asked for, or the first of the browser's that there is.
+ * @param {string | null} asked @param {readonly string[]} [known] */
 export function preferred(asked, known = navigator.languages) {
   const codes = [asked, ...known.map((it) => it.slice(0, 2))];
-  return codes.find((it) => it in LANGUAGES) ?? DEFAULT;
+  return codes.find((it) => it !== null && it in LANGUAGES) ?? DEFAULT;
 }
 
 /** Puts their texts into all elements below `root` that name a key: `data-t` for what they say, `data-t-label` for
- * what a screen reader says, `data-t-placeholder` and `data-t-title`. */
+ * what a screen reader says, `data-t-placeholder` and `data-t-title`.
+ * @param {ParentNode} [root] */
 export function translate(root = document) {
   for (const [name, property] of Object.entries(PARTS)) {
     const attribute = `data-${name.replace(/[A-Z]/g, (it) => `-${it.toLowerCase()}`)}`;
-    for (const it of root.querySelectorAll(`[${attribute}]`)) {
-      it[property] = t(it.dataset[name]);
+    for (const it of /** @type {NodeListOf<HTMLElement>} */ (root.querySelectorAll(`[${attribute}]`))) {
+      Object.assign(it, { [property]: t(it.dataset[name] ?? "") });
     }
   }
 }
 
-/** Speaks that language from now on. */
+/** Speaks that language from now on.
+ * @param {string} asked */
 export async function speak(asked) {
   if (asked !== code) {
     texts = (await import(`../texts/${asked}.js`)).TEXTS;

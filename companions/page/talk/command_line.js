@@ -8,11 +8,15 @@ import { isPassword, passwordOf } from "../member/passwords.js";
 import { t } from "../shell/texts.js";
 
 const KEPT = 2000; // lines
+/** @type {Record<string, number>} */
+const STEPS = { ArrowUp: -1, ArrowDown: 1 };
 
 export class CommandLine {
-  /** `isPlaying` says whether a line may cost the member a game. */
+  /** `isPlaying` says whether a line may cost the member a game.
+   * @param {Session} session @param {() => boolean} isPlaying */
   constructor(session, isPlaying) {
     this.session = session;
+    /** @type {string[]} */
     this.typed = [];
     this.at = 0; // the place in what was typed
     onSubmit("command-form", () => askingFirst(byId("command").value, isPlaying(), () => this.send()));
@@ -22,7 +26,8 @@ export class CommandLine {
     byId("command").addEventListener("keydown", (event) => this.recall(event));
   }
 
-  /** Ctrl and K open the box, and close it; Escape closes it too. */
+  /** Ctrl and K open the box, and close it; Escape closes it too.
+   * @param {KeyboardEvent} event */
   press(event) {
     const box = byId("commands");
     if (event.key === "Escape" && box.open && box.contains(document.activeElement)) {
@@ -54,16 +59,18 @@ export class CommandLine {
     }
   }
 
+  /** @param {string[]} lines */
   show(lines) {
     const output = byId("output");
-    const all = output.textContent.split("\n").filter((it) => it !== "").concat(lines);
+    const all = (output.textContent ?? "").split("\n").filter((it) => it !== "").concat(lines);
     output.textContent = `${all.slice(-KEPT).join("\n")}\n`;
     output.scrollTop = output.scrollHeight;
   }
 
-  /** The arrows bring back what was typed. */
+  /** The arrows bring back what was typed.
+   * @param {KeyboardEvent} event */
   recall(event) {
-    const step = { ArrowUp: -1, ArrowDown: 1 }[event.key];
+    const step = STEPS[event.key];
     if (step) {
       event.preventDefault();
       this.at = Math.min(Math.max(this.at + step, 0), this.typed.length);

@@ -6,8 +6,10 @@ import { t } from "../shell/texts.js";
 const SHOWN = 3; // lines
 
 export class PartnerTalk {
+  /** @param {Session} session */
   constructor(session) {
     this.session = session;
+    /** @type {string[]} */
     this.said = [];
     session.on("partner-tell", (event) => this.add(`${event.who}: ${event.said}`));
     session.on(["partners", "parted"], () => this.forget());
@@ -23,13 +25,15 @@ export class PartnerTalk {
     }
   }
 
-  /** Takes what was said to the partner, wherever it was typed. */
+  /** Takes what was said to the partner, wherever it was typed.
+   * @param {Answer} answer */
   take(answer) {
     if (answer.command === "ptell" && answer.isDone) {
-      this.add(t("talk.you", { said: answer.line.trim().replace(/^\S+ */, "") }));
+      this.add(t("talk.you", { said: answer.said.trim().replace(/^\S+ */, "") }));
     }
   }
 
+  /** @param {string} text */
   add(text) {
     this.said = [...this.said, text].slice(-SHOWN);
     byId("partner-said").textContent = this.said.join("\n");

@@ -1,17 +1,19 @@
 /** The box of the talk: a room for all, one for the game, one for the partner, and one for each channel and person,
  * each behind a tab. What is said in a room that isn't seen is counted at its tab. */
 
-import { byId, element } from "../shell/elements.js";
+import { byId, element, onClickAt } from "../shell/elements.js";
 import { lineToldIn } from "./told_line.js";
 
 const KEPT = 500; // lines of a room
+/** @type {Record<string, number>} */
+const STEPS = { ArrowLeft: -1, ArrowRight: 1 };
 
 class Room {
+  /** @param {string} key @param {number} id */
   constructor(key, id) {
     this.key = key;
     this.unread = 0;
     this.tab = element("button");
-    this.tab.type = "button";
     this.tab.id = `tab-${id}`;
     this.tab.role = "tab";
     this.tab.dataset.room = key;
@@ -27,13 +29,13 @@ class Room {
     this.panel.setAttribute("aria-labelledby", this.tab.id);
   }
 
-  /** A line; who says it stands out, and a line of the server at its end is a button. */
+  /** A line; who says it stands out, and a line of the server at its end is a button.
+   * @param {SaidLine} line */
   add({ who = "", said, kind }) {
     const row = element("p", kind);
     const line = lineToldIn({ kind, said });
     if (line) {
       const button = element("button", "", line);
-      button.type = "button";
       button.dataset.types = line;
       row.append(element("b", "", who), `: ${said.slice(0, -line.length)}`, button);
     } else if (who) {
@@ -43,34 +45,43 @@ class Room {
     }
     this.panel.append(row);
     while (this.panel.children.length > KEPT) {
-      this.panel.firstChild.remove();
+      this.panel.firstChild?.remove();
     }
     this.panel.scrollTop = this.panel.scrollHeight;
   }
 
+  /** Counts a line that isn't read. */
+  count() {
+    this.unread += 1;
+  }
+
+  read() {
+    this.unread = 0;
+  }
+
+  /** @param {boolean} isChosen */
   show(isChosen) {
     this.tab.setAttribute("aria-selected", String(isChosen));
     this.panel.hidden = !isChosen;
     this.mark.hidden = !this.unread;
-    this.mark.textContent = this.unread;
+    this.mark.textContent = String(this.unread);
   }
 }
 
 export class Rooms {
   /** `isSeen()` says whether the box is in sight, `changed()` is called where another room is chosen or something is
-   * read or isn't. */
+   * read or isn't.
+   * @param {() => boolean} isSeen @param {() => void} changed */
   constructor(isSeen, changed) {
     this.isSeen = isSeen;
     this.changed = changed;
+    /** @type {Map<string, Room>} */
     this.byKey = new Map();
     this.made = 0;
     this.chosen = "";
-    byId("rooms").addEventListener("click", (event) => {
-      const tab = event.target.closest("[data-room]");
-      if (tab) {
-        event.stopPropagation();
-        this.choose(tab.dataset.room);
-      }
+    onClickAt(byId("rooms"), "[data-room]", (tab, event) => {
+      event.stopPropagation();
+      this.choose(tab.dataset.room ?? "");
     });
     byId("rooms").addEventListener("keydown", (event) => this.walk(event));
   }
@@ -83,25 +94,31 @@ export class Rooms {
     return this.all.reduce((sum, it) => sum + it.unread, 0);
   }
 
+  /** @param {string} key */
   has(key) {
     return this.byKey.has(key);
   }
 
-  /** The room of a key, made where there is none yet, under that name. */
+  /** The room of a key, made where there is none yet, under that name.
+   * @param {string} key @param {string} name */
   open(key, name) {
-    if (!this.byKey.has(key)) {
-      this.made += 1;
-      const room = new Room(key, this.made);
-      this.byKey.set(key, room);
-      byId("rooms").append(room.tab);
-      byId("said").append(room.panel);
-      room.show(false);
-    }
-    const room = this.byKey.get(key);
+    const room = this.byKey.get(key) ?? this.make(key);
     room.name.textContent = name;
     return room;
   }
 
+  /** @param {string} key */
+  make(key) {
+    this.made += 1;
+    const room = new Room(key, this.made);
+    this.byKey.set(key, room);
+    byId("rooms").append(room.tab);
+    byId("said").append(room.panel);
+    room.show(false);
+    return room;
+  }
+
+  /** @param {string} key */
   close(key) {
     const room = this.byKey.get(key);
     if (room) {
@@ -114,6 +131,7 @@ export class Rooms {
     }
   }
 
+  /** @param {string} key */
   choose(key) {
     this.chosen = key;
     this.read();
@@ -124,7 +142,7 @@ export class Rooms {
   read() {
     const room = this.byKey.get(this.chosen);
     if (room && this.isSeen()) {
-      room.unread = 0;
+      room.read();
     }
     this.all.forEach((it) => it.show(it.key === this.chosen));
     if (room) {
@@ -133,20 +151,25 @@ export class Rooms {
     this.changed();
   }
 
-  /** A line of a room that is there; what the member says itself isn't unread, nor what it reads elsewhere. */
+  /** A line of a room that is there; what the member says itself isn't unread, nor what it reads elsewhere.
+   * @param {string} key @param {SaidLine} line */
   add(key, line, isRead = false) {
     const room = this.byKey.get(key);
+    if (!room) {
+      return;
+    }
     room.add(line);
     if (!isRead && line.kind !== "own" && line.kind !== "happened" && !(key === this.chosen && this.isSeen())) {
-      room.unread += 1;
+      room.count();
     }
     room.show(key === this.chosen);
     this.changed();
   }
 
-  /** The arrows go from tab to tab. */
+  /** The arrows go from tab to tab.
+   * @param {KeyboardEvent} event */
   walk(event) {
-    const step = { ArrowLeft: -1, ArrowRight: 1 }[event.key];
+    const step = STEPS[event.key];
     const at = this.all.findIndex((it) => it.tab === event.target);
     if (step && at >= 0) {
       event.preventDefault();

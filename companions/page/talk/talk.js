@@ -1,52 +1,50 @@
 /** Talk: tells, channels, shouts, kibitzing, the partner's words, and what else happened, each in its room. Who talks
  * to the member doesn't change whom the member writes to. */
 
-import { byId, element, icon, onClick, onSubmit, tellMember } from "../shell/elements.js";
+import { byId, onClick, onClickAt, onSubmit, tellMember } from "../shell/elements.js";
+import { buttonOf } from "../shell/list.js";
 import { Rooms } from "./rooms.js";
 import { hasText, onLanguage, t } from "../shell/texts.js";
 import { isTalkSeen, onView, showView } from "../shell/views.js";
 import { reasonInWords } from "../game/state_words.js";
 
+/** @type {AtGame[]} */
 const AT_GAMES = ["declines", "taken-back", "lost", "drawn", "stopped", "pair-ended", "offer-draw", "offer-abort",
   "offer-adjourn", "offer-takeback"];
+/** @type {InHall[]} */
 const IN_HALL = ["challenge-declined", "partners", "parted", "partner-asked", "resume-asked"];
 const [ALL, GAME, PARTNER] = ["all", "game", "partner"];
 const NUMBER = /^\d{1,3}$/;
 
+/** @param {string} who */
 function roomOfPerson(who) {
   return `person ${who.toLowerCase()}`;
 }
 
+/** @param {number} n */
 function roomOfChannel(n) {
   return `channel ${n}`;
 }
 
-/** What happened; an end has its reason in words. */
+/** What happened; an end has its reason in words.
+ * @param {Happened<AtGame | InHall | 'unknown'>} event */
 function happenedInWords(event) {
-  if (event.result !== undefined) {
+  if ("result" in event) {
     return t("happened.end", { ...event, reason: reasonInWords(event.reason) });
   }
   return hasText(`happened.${event.kind}`) ? t(`happened.${event.kind}`, event) : event.text;
 }
 
-/** A button for a room, which shows a drawing. */
-function actButton(drawing, name) {
-  const button = element("button", "bare");
-  button.type = "button";
-  button.append(icon(drawing));
-  button.setAttribute("aria-label", name);
-  button.title = name;
-  return button;
-}
-
 export class Talk {
   /** `atGame(line)` sends a line for the game that is shown, if there is one; `isForeign(event)` says of what is told
-   * of a game that the member neither plays nor looks on there; `isKeptAway(who)` of whom nothing is wanted. */
+   * of a game that the member neither plays nor looks on there; `isKeptAway(who)` of whom nothing is wanted.
+   * @param {Session} session @param {TalkListeners} listeners */
   constructor(session, { atGame, isForeign, isKeptAway }) {
     this.session = session;
     this.atGame = atGame;
     this.isKeptAway = isKeptAway;
     this.rooms = new Rooms(isTalkSeen, () => this.show());
+    /** @param {Happened<"kibitz" | AtGame>} event @param {() => void} act */
     const here = (event, act) => !isForeign(event) && act();
     session.on("tell", (event) => this.hear(this.person(event.who), event));
     session.on("partner-tell", (event) => this.hear(this.partner(), event));
@@ -56,7 +54,7 @@ export class Talk {
     session.on(AT_GAMES, (event) => here(event, () => this.happen(this.game(), event)));
     session.on(IN_HALL, (event) => this.happen(ALL, event));
     session.on("partners", () => this.partner());
-    session.on("unknown", (event, answer) => answer.line === null && this.happen(ALL, event));
+    session.on("unknown", (event, answer) => answer?.line === null && this.happen(ALL, event));
     session.onAnswer((answer) => this.take(answer));
     this.listen();
     this.forget();
@@ -68,33 +66,21 @@ export class Talk {
     onClick("room-open", () => this.askWhere(byId("room-form").hidden));
     onView(() => this.rooms.read());
     onLanguage(() => this.rename());
-    document.addEventListener("click", (event) => {
-      const button = event.target.closest("[data-room]");
-      if (button) {
-        this.speakIn(button.dataset.room);
-      }
-    });
-    byId("said").addEventListener("click", (event) => {
-      const button = event.target.closest("[data-types]");
-      if (button) {
-        this.session.act(button.dataset.types);
-      }
-    });
-    byId("room-acts").addEventListener("click", (event) => {
-      if (event.target.closest("[data-leaves]")) {
-        this.leave(this.rooms.chosen);
-      }
-    });
+    onClickAt(document, "[data-room]", (button) => this.speakIn(button.dataset.room ?? ""));
+    onClickAt(byId("said"), "[data-types]", (button) => this.session.act(button.dataset.types ?? ""));
+    onClickAt(byId("room-acts"), "[data-leaves]", () => this.leave(this.rooms.chosen));
   }
 
   // ---- rooms ----
 
-  /** The room of a person; a name that was typed may have other capitals than the player's own. */
+  /** The room of a person; a name that was typed may have other capitals than the player's own.
+   * @param {string} who */
   person(who, isTyped = false) {
     const key = roomOfPerson(who);
     return isTyped && this.rooms.has(key) ? key : this.rooms.open(key, who[0].toUpperCase() + who.slice(1)).key;
   }
 
+  /** @param {number} n */
   channel(n) {
     return this.rooms.open(roomOfChannel(n), t("talk.channel", { n })).key;
   }
@@ -108,7 +94,8 @@ export class Talk {
     return this.rooms.open(PARTNER, t("talk.partner")).key;
   }
 
-  /** Opens the room of a person or a channel, and goes to its field. */
+  /** Opens the room of a person or a channel, and goes to its field.
+   * @param {string} key */
   speakIn(key) {
     const [kind, who] = key.split(" ");
     if (kind === "person") {
@@ -123,6 +110,7 @@ export class Talk {
     byId("talk-text").focus();
   }
 
+  /** @param {boolean} isAsking */
   askWhere(isAsking) {
     byId("room-form").hidden = !isAsking;
     byId("room-open").setAttribute("aria-expanded", String(isAsking));
@@ -146,6 +134,7 @@ export class Talk {
     this.speakIn(NUMBER.test(name) ? roomOfChannel(Number(name)) : `person ${name}`);
   }
 
+  /** @param {string} key */
   async leave(key) {
     const [kind, n] = key.split(" ");
     if (kind !== "channel") {
@@ -157,6 +146,7 @@ export class Talk {
 
   // ---- what is heard, said and done ----
 
+  /** @param {string} key @param {Happened<'tell' | 'partner-tell' | 'channel-tell' | 'shout' | 'kibitz'>} event */
   hear(key, { who, said, kind }) {
     const isRead = kind === "partner-tell" && byId("partner-talk").checkVisibility();
     this.rooms.add(key, { who, said, kind }, isRead);
@@ -165,12 +155,15 @@ export class Talk {
     }
   }
 
+  /** @param {string} key @param {Happened<AtGame | InHall | 'unknown'>} event */
   happen(key, event) {
-    if (!(["partner-asked", "resume-asked"].includes(event.kind) && this.isKeptAway(event.who))) {
+    const isAsking = event.kind === "partner-asked" || event.kind === "resume-asked";
+    if (!isAsking || !this.isKeptAway(event.who)) {
       this.rooms.add(key, { said: happenedInWords(event), kind: "happened" });
     }
   }
 
+  /** @param {string} key @param {string} text */
   lineOf(key, text) {
     const [kind, who] = key.split(" ");
     return { [ALL]: `shout ${text}`, [GAME]: `kibitz ${text}`, [PARTNER]: `ptell ${text}` }[kind]
@@ -192,31 +185,34 @@ export class Talk {
     }
   }
 
-  /** Takes what was said and done, whoever typed it. */
+  /** Takes what was said and done, whoever typed it.
+   * @param {Answer} answer */
   take(answer) {
     const { command, line } = answer;
     if (line === null || !answer.isDone) {
       return;
     }
-    const [, first = "", rest = ""] = /^(\S*) *(.*)$/.exec(line.trim().replace(/^\S+ */, ""));
+    const said = line.trim().replace(/^\S+ */, "");
+    const [, first = "", rest = ""] = /^(\S*) *(.*)$/.exec(said) ?? [];
     if (command === "tell") {
       this.told(NUMBER.test(first) ? this.channel(Number(first)) : this.person(first, true), rest);
     } else if (command === "shout") {
-      this.told(ALL, line.trim().replace(/^\S+ */, ""));
+      this.told(ALL, said);
     } else if (command === "ptell") {
-      this.told(this.partner(), line.trim().replace(/^\S+ */, ""));
+      this.told(this.partner(), said);
     } else if (command === "+channel") {
       this.channel(Number(first));
     } else if (command === "-channel") {
       this.rooms.close(roomOfChannel(Number(first)));
     } else if (command === "inchannel") {
       const names = answer.all("player").map((it) => it.who).join(", ") || t("channel.nobody");
-      const said = t("channel.members", { n: Number(first), names });
+      const members = t("channel.members", { n: Number(first), names });
       const key = roomOfChannel(Number(first));
-      this.rooms.add(this.rooms.has(key) ? key : ALL, { said, kind: "happened" });
+      this.rooms.add(this.rooms.has(key) ? key : ALL, { said: members, kind: "happened" });
     }
   }
 
+  /** @param {string} key @param {string} said */
   told(key, said) {
     this.rooms.add(key, { who: t("talk.me"), said, kind: "own" });
   }
@@ -244,17 +240,19 @@ export class Talk {
     byId("talk-label").textContent = words;
     byId("talk-text").placeholder = words;
     byId("unread").hidden = !unread;
-    byId("unread").textContent = unread;
+    byId("unread").textContent = String(unread);
     byId("unread").title = t("talk.unread", { n: unread });
     this.showActs(chosen);
   }
 
+  /** @param {string} key @param {string} name */
   wordsOf(key, name) {
     const [kind, n] = key.split(" ");
     return kind === "channel" ? t("talk.to-channel", { n }) : kind === "person" ? t("talk.to-person", { who: name })
       : t(`talk.to-${kind || ALL}`);
   }
 
+  /** @param {string} key */
   showActs(key) {
     const [kind, n] = key.split(" ");
     const acts = byId("room-acts");
@@ -263,10 +261,9 @@ export class Talk {
       return;
     }
     acts.dataset.of = `${key} ${t("close")}`;
-    const leave = actButton("close", t(kind === "channel" ? "channel.leave" : "close"));
+    const leave = buttonOf({ drawing: "close", name: t(kind === "channel" ? "channel.leave" : "close") });
     leave.dataset.leaves = key;
-    const who = actButton("people", t("channel.who"));
-    who.dataset.command = `inchannel ${n}`;
+    const who = buttonOf({ drawing: "people", name: t("channel.who"), command: `inchannel ${n}` });
     acts.replaceChildren(...kind === "channel" ? [who, leave] : [leave]);
   }
 

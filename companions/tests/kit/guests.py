@@ -8,7 +8,7 @@ from ficslink.events import Began, Ended, Event, Moved
 from ficslink.lines import Tell
 from ficslink.member import Member
 
-from .running import LOOK_EVERY, PATIENCE
+from .running import PATIENCE, async_wait_until
 
 
 class Guest:
@@ -83,24 +83,31 @@ class Guest:
 
     async def answered(self, line: str, fits: Callable[[list[str]], bool]) -> list[str]:
         """Sends a line until its answer fits; that answer."""
-        async with asyncio.timeout(PATIENCE):
-            while not fits(texts := await self.does(line)):
-                await asyncio.sleep(LOOK_EVERY)
+        texts: list[str] = []
+
+        async def is_so() -> bool:
+            texts[:] = await self.does(line)
+            return fits(texts)
+
+        assert await async_wait_until(is_so), f"{line} is answered {texts}"
         return texts
 
     # ---- what it does ----
 
     async def challenges(self, terms: str = "5 0 white", name: str = "House") -> Game:
         """Challenges the bot; the game that begins. That another game is over the bot hears a moment later."""
-        async with asyncio.timeout(PATIENCE):
-            while True:
-                try:
-                    await self.does(f"match {name} {terms}")
-                    return await self.game()
-                except RefusalError as refusal:
-                    if refusal.refusal is not Refusal.PLAYING:
-                        raise
-                await asyncio.sleep(LOOK_EVERY)
+
+        async def is_asked() -> bool:
+            try:
+                await self.does(f"match {name} {terms}")
+            except RefusalError as refusal:
+                if refusal.refusal is not Refusal.PLAYING:
+                    raise
+                return False
+            return True
+
+        assert await async_wait_until(is_asked), f"{name} plays on"
+        return await self.game()
 
     async def plays(self, game: Game, *words: str) -> None:
         """Makes half-moves, each once it is to move."""

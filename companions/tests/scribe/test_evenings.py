@@ -61,7 +61,12 @@ async def test_bughouse(evening: Evening) -> None:
     assert (first[0]["Partner"], second[0]["Partner"]) == (second[0]["Link"], first[0]["Link"])
     assert half_moves_of(first[1]) == ["e4", "d5", "exd5"]
     assert half_moves_of(second[1]) == ["e4", "e5"]
-    [pair] = [text for name, text in files_of(evening.archive).items() if name.endswith(".bpgn")]
+
+    def pairs() -> list[str]:
+        return [text for name, text in files_of(evening.archive).items() if name.endswith(".bpgn")]
+
+    assert await async_wait_until(lambda: any(pairs()))  # it is written behind the two games
+    [pair] = pairs()
     assert "1A. e4 1a. d5 2A. exd5 1B. e4 1b. e5 {Dan resigns} 0-1" in pair
 
 

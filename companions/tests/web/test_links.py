@@ -4,7 +4,7 @@ import asyncio
 
 import aiohttp
 import pytest
-from ficsd_companions.limits.pace import unread
+from ficsd_companions.limits.pace import PACE_AT_ONCE, unread
 
 from tests.kit.running import async_wait_until
 from tests.kit.stamped import stamped
@@ -104,7 +104,9 @@ async def test_what_came_before_a_reset_is_told(played: Played) -> None:
     end.writer.transport.pause_reading()  # there are lines that weren't read as it is reset
     for n in range(200):
         await tab.send(f"tell ben {n} too late")
-    assert await async_wait_until(lambda: unread(end.writer.get_extra_info("socket")) > 0)
+    # those that are taken at once have come, and others come one by one
+    taken = sum(len(f"tell ben {n} too late\n") for n in range(PACE_AT_ONCE))
+    assert await async_wait_until(lambda: unread(end.writer.get_extra_info("socket")) >= taken)
     await end.say("Goodbye.\n\r")
     end.writer.transport.abort()
     assert await tab.message() == "Goodbye."

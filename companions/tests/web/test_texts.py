@@ -19,7 +19,7 @@ NAMED = (
     r': "((?:[a-z-]+\.)[a-z-]+)"\)',
 )
 LANGUAGE = re.compile("[a-z]{2}")
-BUILT = r"\bt\(\s*`([^`$]+)\$\{"  # the beginning of a key that ends in something else
+BUILT = r"\bt(?:\(\s*| = )`([^`$]+)\$\{"  # the beginning of a key that ends in something else
 
 
 Tables = dict[str, dict[str, str]]

@@ -1,6 +1,6 @@
 //! How the men stand at the start, in each variant.
 ghost use Rattle.std.specs.Prelude.{◌≡◌, map, unwrap_or};
-ghost use Rattle.chess_model.specs.Placement.{array_from, array_of, unpromoted};
+ghost use Rattle.chess_model.specs.Placement.{array_from, array_of, back_rank, unpromoted};
 
 use crate::home_rank::{Files, home_rank};
 use crate::limits::ARRAYS;
@@ -13,94 +13,39 @@ const WHITE_PAWN: Option<Man> = Some(Man {
     promoted: false,
 });
 
-const WHITE_KNIGHT: Option<Man> = Some(Man {
-    colour: Colour::White,
-    kind: Kind::Knight,
-    promoted: false,
-});
-
-const WHITE_BISHOP: Option<Man> = Some(Man {
-    colour: Colour::White,
-    kind: Kind::Bishop,
-    promoted: false,
-});
-
-const WHITE_ROOK: Option<Man> = Some(Man {
-    colour: Colour::White,
-    kind: Kind::Rook,
-    promoted: false,
-});
-
-const WHITE_QUEEN: Option<Man> = Some(Man {
-    colour: Colour::White,
-    kind: Kind::Queen,
-    promoted: false,
-});
-
-const WHITE_KING: Option<Man> = Some(Man {
-    colour: Colour::White,
-    kind: Kind::King,
-    promoted: false,
-});
-
 const BLACK_PAWN: Option<Man> = Some(Man {
     colour: Colour::Black,
     kind: Kind::Pawn,
     promoted: false,
 });
 
-const BLACK_KNIGHT: Option<Man> = Some(Man {
-    colour: Colour::Black,
-    kind: Kind::Knight,
-    promoted: false,
-});
-
-const BLACK_BISHOP: Option<Man> = Some(Man {
-    colour: Colour::Black,
-    kind: Kind::Bishop,
-    promoted: false,
-});
-
-const BLACK_ROOK: Option<Man> = Some(Man {
-    colour: Colour::Black,
-    kind: Kind::Rook,
-    promoted: false,
-});
-
-const BLACK_QUEEN: Option<Man> = Some(Man {
-    colour: Colour::Black,
-    kind: Kind::Queen,
-    promoted: false,
-});
-
-const BLACK_KING: Option<Man> = Some(Man {
-    colour: Colour::Black,
-    kind: Kind::King,
-    promoted: false,
-});
-
-#[rattlefmt::skip]
-const USUAL_ARRAY: [Option<Man>; 64] = [
-    WHITE_ROOK, WHITE_KNIGHT, WHITE_BISHOP, WHITE_QUEEN, WHITE_KING, WHITE_BISHOP, WHITE_KNIGHT, WHITE_ROOK,
-    WHITE_PAWN, WHITE_PAWN, WHITE_PAWN, WHITE_PAWN, WHITE_PAWN, WHITE_PAWN, WHITE_PAWN, WHITE_PAWN,
-    None, None, None, None, None, None, None, None,
-    None, None, None, None, None, None, None, None,
-    None, None, None, None, None, None, None, None,
-    None, None, None, None, None, None, None, None,
-    BLACK_PAWN, BLACK_PAWN, BLACK_PAWN, BLACK_PAWN, BLACK_PAWN, BLACK_PAWN, BLACK_PAWN, BLACK_PAWN,
-    BLACK_ROOK, BLACK_KNIGHT, BLACK_BISHOP, BLACK_QUEEN, BLACK_KING, BLACK_BISHOP, BLACK_KNIGHT, BLACK_ROOK,
+/// The kinds on the home ranks of chess, from file a to file h (FIDE Laws, 2.3).
+const USUAL_RANK: Files = [
+    Some(Kind::Rook),
+    Some(Kind::Knight),
+    Some(Kind::Bishop),
+    Some(Kind::Queen),
+    Some(Kind::King),
+    Some(Kind::Bishop),
+    Some(Kind::Knight),
+    Some(Kind::Rook),
 ];
 
 /// The placement of the start (FIDE Laws, 2.3): the man on each square, by the square's number.
-#[tactic(auto, unfolding(crate::specs::FischerArrays::numbered_rank))]
 pub fn array_for(v: Variant) -> [Option<Man>; 64]
     ensures { result ≡ array_of v }
 {
+    array_with(&rank_for(v))
+}
+
+/// The home ranks of a variant.
+#[tactic(auto, unfolding(crate::specs::FischerArrays::numbered_rank))]
+fn rank_for(v: Variant) -> Files
+    ensures { map (λ man. unwrap_or man Kind.Pawn) result ≡ back_rank v }
+{
     match v {
-        Variant::Chess => USUAL_ARRAY,
-        Variant::Crazyhouse => USUAL_ARRAY,
-        Variant::Bughouse => USUAL_ARRAY,
-        Variant::Fischer(number) => array_with(&home_rank(number % ARRAYS)),
+        Variant::Fischer(number) => home_rank(number % ARRAYS),
+        _ => USUAL_RANK,
     }
 }
 

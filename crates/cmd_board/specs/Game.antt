@@ -15,8 +15,7 @@ use Rattle.style12_writer.specs.declared.view.Viewer.{Viewer}
 use Rattle.style12_writer.specs.Line12.{line12_text}
 use Rattle.variant_rules.specs.States.{state_in}
 use Rattle.chess_model.specs.Result.{is_end}
-use Rattle.cmd_board.specs.Endings.{end_lines}
-use Rattle.session_core.specs.Texts.{refusal_line}
+use Rattle.cmd_board.specs.Endings.{end_lines, refusal_line}
 use Rattle.move_reader.specs.Reading.{reading}
 
 -- the game: the board of game_board, whose half-moves are all at moment 0

@@ -1,11 +1,12 @@
-//! How a game ends by itself, and the line that tells it.
+//! How a game ends by itself, the line that tells it, and the line of a refusal.
 
 ghost use Rattle.std.specs.Prelude.{◌≡◌, ◌++◌, ◌↔◌, OnOk, IsSome, IsTrue, codes, true};
 ghost use Rattle.style12_writer.specs.EndLine.{is_decisive, end_text};
-ghost use Rattle.cmd_board.specs.Endings.{end_lines};
+ghost use Rattle.cmd_board.specs.Endings.{end_lines, refusal_line};
 
 use crate::game::END_OF_LINE;
 use chess_model::{Colour, State, Why};
+use fics_words::{Refusal, write_refusal};
 use memory::NoMemory;
 use style12_writer::{BoardView, end_line};
 
@@ -45,6 +46,15 @@ pub(crate) fn put_ended(line: &[u8], out: &mut Vec<u8>) -> Result<(), NoMemory>
     ensures { OnOk result (out.new.items ≡ out.old.items ++ (line.now ++ codes "\n\r")) }
 {
     out.extend_from_slice(line)?;
+    out.extend_from_slice(END_OF_LINE)?;
+    Ok(())
+}
+
+/// Appends the line of a refusal.
+pub(crate) fn put_refusal(cause: Refusal, out: &mut Vec<u8>) -> Result<(), NoMemory>
+    ensures { OnOk result (out.new.items ≡ out.old.items ++ refusal_line cause) }
+{
+    write_refusal(out, cause)?;
     out.extend_from_slice(END_OF_LINE)?;
     Ok(())
 }

@@ -4,14 +4,13 @@ ghost use Rattle.std.specs.Prelude.{◌≡◌, ◌++◌, OnOk, codes};
 ghost use Rattle.cmd_board.specs.Game.{untimed, view_of, observer, shown_text, state_of};
 ghost use Rattle.style12_writer.specs.Line12.{line12_text};
 
-use crate::endings::{put_end, put_ended};
+use crate::endings::{put_end, put_ended, put_refusal};
 use chess_model::{MoveWord, State, Terms, Variant};
 use clock_ledger::Moment;
 use fics_words::{Handle, Refusal};
 use game_board::GameBoard;
 use memory::NoMemory;
 use move_reader::read_word;
-use session_core::put_refusal;
 use std::alloc::Global;
 use std::marker::Model;
 use style12_writer::{BoardView, Viewer, line12};

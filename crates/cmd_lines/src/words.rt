@@ -4,7 +4,7 @@ ghost use Rattle.std.specs.Prelude.{◌≡◌, ◌<◌, ◌++◌, IfSome, OnOk, 
 ghost use Rattle.std.specs.List.{after_first, before_first, position};
 ghost use Rattle.cmd_lines.specs.Words.{is_blank, refusal_text};
 
-use fics_words::{Refusal, write_number};
+use fics_words::{Refusal, write_refusal};
 use memory::NoMemory;
 
 /// The bytes before the first blank, and those behind it; all and none where there is no blank.
@@ -30,10 +30,7 @@ fn first_blank(bytes: &[u8]) -> Option<usize>
 pub fn put_refusal(cause: Refusal, out: &mut Vec<u8>) -> Result<(), NoMemory>
     ensures { OnOk result (out.new.items ≡ out.old.items ++ refusal_text cause) }
 {
-    out.extend_from_slice(b"refused ")?;
-    write_number(out, u64::from(cause.number()))?;
-    out.extend_from_slice(b" ")?;
-    out.extend_from_slice(cause.name().as_bytes())?;
+    write_refusal(out, cause)?;
     out.extend_from_slice(b"\n")?;
     Ok(())
 }

@@ -16,3 +16,4 @@ pub mod TermReading
 pub mod TermWords
 pub mod Texts
 pub mod Unseek
+pub mod Words

@@ -8,7 +8,7 @@ use Rattle.command_words.specs.declared.rows.Takes.{Takes}
 use Rattle.command_words.specs.declared.rows.Takes.TheVariants.{Nothing, MaybeName}
 use Rattle.command_words.specs.declared.rows.Bare.TheVariants.{Adjourn, Quit, Resign, SimOpen}
 use Rattle.command_words.specs.declared.rows.MaybeByName.TheVariants.{Accept}
-use Rattle.command_words.specs.declared.rows.TheConstants.{ROWS}
+use Rattle.command_words.specs.Words.{commands}
 
 -- the command's name begins with the word
 abbrev pub begins : List ℕ → CommandRow → Bool
@@ -42,8 +42,8 @@ called_or (Some takes) other = Ok takes
 
 abbrev pub named_by : List ℕ → Result Takes Refusal
 named_by word =
-    called_or (taken (find (is_called word) ROWS.now))
-    (one_by_front (count_by (begins word) ROWS.now) (taken (find (begins word) ROWS.now)))
+    called_or (taken (find (is_called word) commands))
+    (one_by_front (count_by (begins word) commands) (taken (find (begins word) commands)))
 
 example_name : named_by (codes "quit") ≡ Ok (Nothing Quit)
 example_name = refl

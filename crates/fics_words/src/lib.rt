@@ -25,5 +25,5 @@ pub use line::{Line, MOST_LINE_BYTES, MOST_TEXT_BYTES};
 pub use lines::Lines;
 pub use number::{read_number, write_number};
 pub use player::Player;
-pub use refusal::Refusal;
+pub use refusal::{Refusal, write_refusal};
 pub use seats::{Opponents, Seats};

@@ -1,6 +1,10 @@
 //! Why a command was refused: 65 causes, each with the number and the name that a player is shown.
 
-ghost use Rattle.std.specs.Prelude.{◌≡◌};
+ghost use Rattle.std.specs.Prelude.{◌≡◌, ◌++◌, OnOk};
+ghost use Rattle.fics_words.specs.Refusal.{refusal_words};
+
+use crate::number::write_number;
+use memory::NoMemory;
 
 /// The cause of a refusal, numbered from 1 to 65; shown to a player as `refused N Name`.
 #[derive(Clone, Copy, Debug, PartialEq, Eq)]
@@ -219,4 +223,15 @@ impl Refusal {
             Refusal::AlreadyReported => "AlreadyReported",
         }
     }
+}
+
+/// Appends the words by which a refusal is told, its number and its name; what ends their line is for the caller.
+pub fn write_refusal(out: &mut Vec<u8>, cause: Refusal) -> Result<(), NoMemory>
+    ensures { OnOk result (out.new.items ≡ out.old.items ++ refusal_words cause) }
+{
+    out.extend_from_slice(b"refused ")?;
+    write_number(out, u64::from(cause.number()))?;
+    out.extend_from_slice(b" ")?;
+    out.extend_from_slice(cause.name().as_bytes())?;
+    Ok(())
 }

@@ -35,7 +35,7 @@ pub fn fail_of(error: Error) -> KeeperFail {
 }
 
 /// Makes the table where the database has none. A view or an index of that name is found at the first record.
-pub fn make_table<S: Alter>(conn: &mut Connection<S>) -> Result<(), KeeperFail> {
+fn make_table<S: Alter>(conn: &mut Connection<S>) -> Result<(), KeeperFail> {
     match conn.execute(TABLE, &[]) {
         Ok(_) => Ok(()),
         Err(Error::SqlInputError(CompileError::Exists)) => Ok(()),
@@ -43,16 +43,47 @@ pub fn make_table<S: Alter>(conn: &mut Connection<S>) -> Result<(), KeeperFail> 
     }
 }
 
-/// The connection, with the table made where the database had none.
-pub fn with_table<S: Alter + Drop>(mut conn: Connection<S>) -> Result<Connection<S>, KeeperFail> {
-    match make_table(&mut conn) {
-        Ok(()) => Ok(conn),
+/// What a store is asked. One function asks it all: each call of a generic one at a store has the proofs of all that
+/// the store stands on to tie.
+#[derive(Clone, Copy)]
+pub enum Asked<'a> {
+    /// Makes the table where it is missing.
+    Table,
+    /// Puts the record under the key, in place of the one that is there.
+    Put { key: &'a [u8], bytes: &'a [u8] },
+    /// Takes away the record under the key, if there is one.
+    Remove { key: &'a [u8] },
+    /// All records with their keys, in ascending order of key.
+    Load,
+}
+
+/// Carries out what is asked. No pairs come but where it is all records.
+pub fn carry_out<S: Alter>(
+    alloc: Global,
+    conn: &mut Connection<S>,
+    asked: Asked<'_>,
+) -> Result<Vec<Pair>, KeeperFail>
+    ensures ascending { IfOk result (λ pairs. IsAscending pairs.items) }
+{
+    match asked {
+        Asked::Table => no_pairs(alloc, make_table(conn)),
+        Asked::Put { key, bytes } => no_pairs(alloc, put_record(conn, key, bytes)),
+        Asked::Remove { key } => no_pairs(alloc, remove_record(conn, key)),
+        Asked::Load => all_pairs(alloc, conn),
+    }
+}
+
+fn no_pairs(alloc: Global, outcome: Result<(), KeeperFail>) -> Result<Vec<Pair>, KeeperFail>
+    ensures ascending { IfOk result (λ pairs. IsAscending pairs.items) }
+{
+    match outcome {
+        Ok(()) => Ok(Vec::new(alloc)),
         Err(fail) => Err(fail),
     }
 }
 
 /// Puts the record under the key, in place of the one that is there.
-pub fn put_record<S: Alter>(
+fn put_record<S: Alter>(
     conn: &mut Connection<S>,
     key: &[u8],
     bytes: &[u8],
@@ -64,7 +95,7 @@ pub fn put_record<S: Alter>(
 }
 
 /// Takes away the record under the key, if there is one.
-pub fn remove_record<S: Alter>(conn: &mut Connection<S>, key: &[u8]) -> Result<(), KeeperFail> {
+fn remove_record<S: Alter>(conn: &mut Connection<S>, key: &[u8]) -> Result<(), KeeperFail> {
     match conn.execute(REMOVE, params![key]) {
         Ok(_) => Ok(()),
         Err(error) => Err(fail_of(error)),
@@ -72,7 +103,7 @@ pub fn remove_record<S: Alter>(conn: &mut Connection<S>, key: &[u8]) -> Result<(
 }
 
 /// All records with their keys, in ascending order of key; a fault where the table gives them in another order.
-pub fn all_pairs<S: Alter>(alloc: Global, conn: &mut Connection<S>) -> Result<Vec<Pair>, KeeperFail>
+fn all_pairs<S: Alter>(alloc: Global, conn: &mut Connection<S>) -> Result<Vec<Pair>, KeeperFail>
     ensures ascending { IfOk result (λ pairs. IsAscending pairs.items) }
 {
     match read_pairs(alloc, conn) {

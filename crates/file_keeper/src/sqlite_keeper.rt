@@ -5,9 +5,10 @@ ghost use Rattle.edge_traits.specs.Faults.{Rose};
 ghost use Rattle.edge_traits.specs.Keeper.{OnKeepFailed};
 ghost use Rattle.edge_traits.specs.Pairs.{IsAscending};
 
-use crate::records::{all_pairs, fail_of, kept, loaded, put_record, remove_record, with_table};
+use crate::records::{Asked, carry_out, fail_of, kept, loaded};
 use edge_traits::{Keeper, KeeperFail, Kept, Pair};
 use sqlite::{Connection, File, FileStore};
+use std::alloc::Global;
 
 type Store = Connection<FileStore<File>>;
 
@@ -57,57 +58,54 @@ impl Keeper for SqliteKeeper {
     ghost faults = { λ keeper. keeper.faults };
 
     fn put(&mut self, key: &[u8], bytes: &[u8]) -> Kept {
-        let outcome = put_in(&self.rt, &self.path, &mut self.store, key, bytes);
-        kept(&mut self.faults, outcome)
+        let outcome = asked_of(
+            &self.rt,
+            &self.path,
+            &mut self.store,
+            Asked::Put { key, bytes },
+        );
+        kept(&mut self.faults, done(outcome))
     }
 
     fn remove(&mut self, key: &[u8]) -> Kept {
-        let outcome = remove_in(&self.rt, &self.path, &mut self.store, key);
-        kept(&mut self.faults, outcome)
+        let outcome = asked_of(&self.rt, &self.path, &mut self.store, Asked::Remove { key });
+        kept(&mut self.faults, done(outcome))
     }
 
     fn load(&mut self) -> Result<Vec<Pair>, KeeperFail> {
-        let outcome = load_from(&self.rt, &self.path, &mut self.store);
+        let outcome = asked_of(&self.rt, &self.path, &mut self.store, Asked::Load);
         loaded(&mut self.faults, outcome)
     }
 }
 
-fn put_in(
+/// Asks the store, which is opened where there is none, and let go where that fails.
+fn asked_of(
     rt: &HostRuntime,
     path: &str,
     store: &mut Option<Store>,
-    key: &[u8],
-    bytes: &[u8],
-) -> Result<(), KeeperFail> {
-    let mut conn = taken_or_opened(rt, path, store)?;
-    let outcome = put_record(&mut conn, key, bytes);
-    keep_open(store, conn, outcome.is_ok());
-    outcome
-}
-
-fn remove_in(
-    rt: &HostRuntime,
-    path: &str,
-    store: &mut Option<Store>,
-    key: &[u8],
-) -> Result<(), KeeperFail> {
-    let mut conn = taken_or_opened(rt, path, store)?;
-    let outcome = remove_record(&mut conn, key);
-    keep_open(store, conn, outcome.is_ok());
-    outcome
-}
-
-fn load_from(
-    rt: &HostRuntime,
-    path: &str,
-    store: &mut Option<Store>,
+    asked: Asked<'_>,
 ) -> Result<Vec<Pair>, KeeperFail>
     ensures ascending { IfOk result (λ pairs. IsAscending pairs.items) }
 {
     let mut conn = taken_or_opened(rt, path, store)?;
-    let outcome = all_pairs(rt.alloc(), &mut conn);
+    let outcome = ask(rt.alloc(), &mut conn, asked);
     keep_open(store, conn, outcome.is_ok());
     outcome
+}
+
+/// Asks a store. It alone has the proofs of a store to tie.
+fn ask(alloc: Global, conn: &mut Store, asked: Asked<'_>) -> Result<Vec<Pair>, KeeperFail>
+    ensures ascending { IfOk result (λ pairs. IsAscending pairs.items) }
+{
+    carry_out(alloc, conn, asked)
+}
+
+/// Whether what was asked went well.
+fn done(outcome: Result<Vec<Pair>, KeeperFail>) -> Result<(), KeeperFail> {
+    match outcome {
+        Ok(_) => Ok(()),
+        Err(fail) => Err(fail),
+    }
 }
 
 /// The store, taken out; opened where there is none.
@@ -124,7 +122,7 @@ fn taken_or_opened(
 
 fn open_store(rt: &HostRuntime, path: &str) -> Result<Store, KeeperFail> {
     match Connection::open(rt, path) {
-        Ok(conn) => with_table(conn),
+        Ok(conn) => with_table(rt.alloc(), conn),
         Err(error) => Err(fail_of(error)),
     }
 }
@@ -152,5 +150,17 @@ fn close_conn(conn: Store) -> Result<(), KeeperFail> {
     match conn.close() {
         Ok(()) => Ok(()),
         Err(error) => Err(fail_of(error)),
+    }
+}
+
+/// The store, once it has its table.
+fn with_table(alloc: Global, conn: Store) -> Result<Store, KeeperFail> {
+    let mut conn = conn;
+    match ask(alloc, &mut conn, Asked::Table) {
+        Ok(_) => Ok(conn),
+        Err(fail) => {
+            let_go(Some(conn));
+            Err(fail)
+        }
     }
 }

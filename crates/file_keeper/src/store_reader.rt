@@ -5,7 +5,7 @@ ghost use Rattle.edge_traits.specs.Faults.{Rose};
 ghost use Rattle.edge_traits.specs.Pairs.{IsAscending};
 
 use crate::copied::Copied;
-use crate::records::{all_pairs, fail_of, loaded, with_table};
+use crate::records::{Asked, carry_out, fail_of, loaded};
 use edge_traits::{Keeper, KeeperFail, Kept, Pair};
 use sqlite::{Connection, FileStore, Files, Options};
 use std::alloc::Global;
@@ -92,7 +92,7 @@ fn load_copy(rt: &HostRuntime, path: &str) -> Result<Vec<Pair>, KeeperFail>
 {
     let files = copied_files(rt, path)?;
     let mut conn = open_copy(rt.alloc(), files)?;
-    let outcome = all_pairs(rt.alloc(), &mut conn);
+    let outcome = ask(rt.alloc(), &mut conn, Asked::Load);
     let_go(conn);
     outcome
 }
@@ -106,7 +106,7 @@ fn open_copy(alloc: Global, files: Files<Copied>) -> Result<CopiedStore, KeeperF
         return Err(KeeperFail::Failed);
     }
     match Connection::open_files(alloc, files, Options::new(SEED)) {
-        Ok(conn) => with_table(conn),
+        Ok(conn) => with_table(alloc, conn),
         Err((error, _left)) => Err(fail_of(error)),
     }
 }
@@ -186,5 +186,24 @@ fn io_fail(error: &io::Error) -> KeeperFail {
         KeeperFail::Memory
     } else {
         KeeperFail::Failed
+    }
+}
+
+/// Asks the copies. It alone has the proofs of a store to tie.
+fn ask(alloc: Global, conn: &mut CopiedStore, asked: Asked<'_>) -> Result<Vec<Pair>, KeeperFail>
+    ensures ascending { IfOk result (λ pairs. IsAscending pairs.items) }
+{
+    carry_out(alloc, conn, asked)
+}
+
+/// The copies, once they have their table.
+fn with_table(alloc: Global, conn: CopiedStore) -> Result<CopiedStore, KeeperFail> {
+    let mut conn = conn;
+    match ask(alloc, &mut conn, Asked::Table) {
+        Ok(_) => Ok(conn),
+        Err(fail) => {
+            let_go(conn);
+            Err(fail)
+        }
     }
 }

@@ -4,7 +4,7 @@ use Rattle.std.specs.Prelude.{ℕ, zero, suc, Bool, true, false, ℤ, pos, List,
 use Rattle.command_words.specs.declared.style.Style.{Style}
 use Rattle.command_words.specs.declared.style.Style.TheVariants.{One, Twelve}
 use Rattle.fics_words.specs.declared.refusal.Refusal.{Refusal}
-use Rattle.fics_words.specs.Refusal.{number_of, name_of}
+use Rattle.fics_words.specs.Refusal.{refusal_words}
 use Rattle.linked_desk.specs.declared.acts.DeskReply.TheVariants.{Items}
 use Rattle.linked_desk.specs.Sight.{board_in, sight}
 use Rattle.lobby_state.specs.declared.acts.LobbyReply.TheVariants.{Asked, Done, Entered, Told, Number, Lines, Waiting}
@@ -39,9 +39,9 @@ prompt_of (Password name) = codes "password: "
 prompt_of (In name) = codes "fics% "
 prompt_of Gone = codes "Goodbye." ++ line_end
 
--- the line of a refusal: its number and its name
+-- the line of a refusal
 abbrev pub refusal_line : Refusal → List ℕ
-refusal_line cause = codes "refused " ++ decimal (number_of cause) ++ codes " " ++ name_of cause ++ line_end
+refusal_line cause = refusal_words cause ++ line_end
 
 -- the line of a session that comes in
 abbrev pub entered_line : List ℕ → List ℕ

@@ -45,4 +45,3 @@ pub use laws::{
 };
 pub use session::Session;
 pub use standing::{LinkMark, Standing};
-pub use texts::put_refusal;

@@ -9,7 +9,7 @@ ghost use Rattle.session_core.specs.Texts.{prompt_of, refusal_line, reply_text, 
 use crate::reader::Reader;
 use crate::standing::{LinkMark, Standing};
 use command_words::Style;
-use fics_words::{Handle, Line, Lines, Refusal, write_number};
+use fics_words::{Handle, Line, Lines, Refusal, write_number, write_refusal};
 use linked_desk::{DeskReply, viewer_of};
 use lobby_state::LobbyReply;
 use memory::NoMemory;
@@ -19,12 +19,13 @@ use style12_writer::{BoardView, Item, board1, end_line, line_b1, line12};
 /// The end of a line.
 pub(crate) const LINE_END: &[u8] = b"\n\r";
 
-/// Appends the line of a refusal: its number and its name.
-pub fn put_refusal(cause: Refusal, out: &mut Vec<u8>) -> Result<(), NoMemory>
+/// Appends the line of a refusal.
+pub(crate) fn put_refusal(cause: Refusal, out: &mut Vec<u8>) -> Result<(), NoMemory>
     ensures { OnOk result (out.new.items ≡ out.old.items ++ refusal_line cause) }
 {
-    put_count(b"refused ", u64::from(cause.number()), b" ", out)?;
-    put_ended(cause.name().as_bytes(), out)
+    write_refusal(out, cause)?;
+    out.extend_from_slice(LINE_END)?;
+    Ok(())
 }
 
 /// What stands at the end of an answer: a prompt, or a farewell.

@@ -1,6 +1,6 @@
 //! The tests of parts behind turns, with threads.
-use crate::{one_act_seen, open_gate, three_acts, tries_beside, two_counters};
 use std::test::Fail;
+use turn_workers::{one_act_seen, open_gate, three_acts, tries_beside, two_counters};
 
 #[test]
 fn two_threads_make_a_thousand_acts_each(rt: HostRuntime) -> Result<(), Fail> {

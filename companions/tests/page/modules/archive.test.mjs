@@ -112,7 +112,7 @@ test("a pair: a captured man keeps its colour and comes to the other board", () 
   const pair = [{ link: "2026-11-30/1", pgn: BOARDS[0] }, { link: "2026-11-30/2", pgn: BOARDS[1] }];
   for (const [one, other] of [pair, [pair[1], pair[0]]]) {
     const games = archivedPair(one, other, BPGN);
-    assert.deepEqual(games.map((it) => it.number), [one.link, other.link]);
+    assert.deepEqual(games.map((it) => it.link), [one.link, other.link]);
     const [first, second] = one === pair[0] ? games : [...games].reverse();
     assert.deepEqual([...first.places.values()].map((it) => it.hands),
       [{ w: "", b: "" }, { w: "", b: "" }, { w: "", b: "" }, { w: "", b: "" }, { w: "", b: "" }]);

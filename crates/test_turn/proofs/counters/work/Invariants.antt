@@ -1,9 +1,0 @@
-use Rattle.std.proofs.Common.{◌≡◌}
-use Rattle.test_turn.specs.Worked.{MadeMany}
-use Rattle.test_turn.proofs.counters.work.Given as goal
-
-abbrev pub invariant-acts : goal.invariant-acts
-invariant-acts g l = record {
-  here : l.pass.home ≡ l.fn.pass.home;
-  made : MadeMany l.act l.counter l.fn.pass.view l.pass.view;
-}

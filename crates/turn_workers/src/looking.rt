@@ -1,0 +1,27 @@
+//! What a pass knows of the history before the table closes.
+
+ghost use Rattle.std.specs.Prelude.{◌≡◌, [], ◌∷◌, IfOk};
+ghost use Rattle.histories.specs.History.{entry};
+ghost use Rattle.turn_counters.specs.declared.bump.Bump.TheVariants.{First};
+
+use memory::NoMemory;
+use std::alloc::Global;
+use std::sync::Wait;
+use turn_counters::{Counters, bump_first};
+use turn_table::{Pass, Turns};
+
+/// A pass that was split makes one act and is joined, and the table stays open. The history that the first pass then
+/// sees is that one entry.
+pub fn one_act_seen<R: Wait>(
+    rt: &R,
+    alloc: Global,
+) -> Result<(Turns<Counters>, Pass<Counters>), NoMemory>
+    ensures { IfOk result (λ t. t.1.view.seen ≡ entry 1 First 1 ∷ []) }
+{
+    let (table, mut base) = Turns::<Counters>::new(alloc, Vec::from_array(alloc, [0, 0])?)?;
+    let mut other = table.split(&mut base);
+    bump_first(rt, &table, &mut other);
+    table.join(&mut base, other);
+    table.look(&mut base);
+    Ok((table, base))
+}
