@@ -33,7 +33,7 @@ def words_for(crate: str, what: str | None) -> argparse.ArgumentParser:
 
 
 def how_to_build(crate: str) -> str:
-    return "`./ficsd board </dev/null`" if crate == "fics_server" else f"`(cd crates/{crate} && rt run)`"
+    return "`./ficsd --build`" if crate == "fics_server" else f"`(cd crates/{crate} && rt run)`"
 
 
 def checked(program: Path, crate: str = "fics_server") -> str:

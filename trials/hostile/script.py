@@ -27,7 +27,7 @@ def options(text: str, more: Iterable[Option] = ()) -> argparse.Namespace:
     given = parser.parse_args()
     words = shlex.split(given.program)
     if not words or not os.access(words[0], os.X_OK):
-        sys.exit(f"{given.program} isn't there; `./ficsd board </dev/null` builds the program")
+        sys.exit(f"{given.program} isn't there; `./ficsd --build` builds the program")
     return given
 
 

@@ -28,7 +28,7 @@ REBOOTED = 133  # by which systemd-nspawn says that its machine wants to be boot
 NEEDED = "systemd,systemd-sysv,dbus,iproute2,procps,sqlite3,python3,python3-aiohttp"
 # how the blocks of the page that are run begin
 BLOCKS = {
-    "setup": "./ficsd board",
+    "setup": "./ficsd --build",
     "backup": "systemctl stop ficsd\ninstall -d",
     "hot": "install -d",
     "restore": "systemctl stop ficsd\nrm",

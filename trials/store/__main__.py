@@ -1,7 +1,7 @@
 """Tries the program over a store as its operators and players would: evenings that go on after the server was stopped
 or killed, commands beside it, what is no store, a disk without room, a full store, and what keeping costs.
 
-usage: tools/trial store [PROGRAM | --unproved]; without a word the program that `./ficsd board </dev/null` builds. With
+usage: tools/trial store [PROGRAM | --unproved]; without a word the program that `./ficsd --build` builds. With
 `--unproved` each start takes minutes. The command `sqlite3` is Debian's; without it its lines are left out. Ends with 1
 where something came otherwise than it should. It isn't part of the gate.
 """

@@ -40,7 +40,7 @@ def program_of(words: list[str]) -> Program:
         return Program([str(paths.TOP / "ficsd"), "--unproved"], True)
     program = Path(words[0]).resolve() if words else paths.program
     if not os.access(program, os.X_OK):
-        sys.exit(f"store: {program} isn't there; `./ficsd board </dev/null` builds it")
+        sys.exit(f"store: {program} isn't there; `./ficsd --build` builds it")
     return Program([str(program)], False)
 
 

@@ -27,7 +27,7 @@ async def run(chosen: Chosen, password: str | None) -> int:
     if chosen.engine is None:
         if not house:
             raise BadChoice(
-                "the house's search needs the server's program: ./ficsd board </dev/null builds it, or "
+                "the house's search needs the server's program: ./ficsd --build builds it, or "
                 "--program FILE names it"
             )
         brain, engine = Brain(house), f"the house's own search, {chosen.depth} half-moves ahead"
