@@ -41,19 +41,23 @@ def address(word: str) -> Address:
 
 def count(most: int, least: int = 1) -> Callable[[str], int]:
     """A whole number between two bounds."""
+
     def read(word: str) -> int:
         if not re.fullmatch(r"0|[1-9]\d{0,17}", word) or not least <= int(word) <= most:
             raise argparse.ArgumentTypeError(f"a number from {least} to {most} is wanted")
         return int(word)
+
     return read
 
 
 def amount(unit: str, least: float, most: float) -> Callable[[str], float]:
     """A number of a unit between two bounds."""
+
     def read(word: str) -> float:
         if not re.fullmatch(r"\d+(\.\d*)?|\.\d+", word) or not least <= float(word) <= most:
             raise argparse.ArgumentTypeError(f"{least:g} to {most:g} {unit} are wanted")
         return float(word)
+
     return read
 
 
@@ -71,8 +75,10 @@ def handle(word: str) -> str:
 
 def folder_with(file: str) -> Callable[[str], Path]:
     """A folder in which a file of that name lies."""
+
     def read(word: str) -> Path:
         if not (Path(word) / file).is_file():
             raise argparse.ArgumentTypeError(f"{word} has no {file}")
         return Path(word)
+
     return read
