@@ -2,7 +2,8 @@
 opponent's board by plain links in the same run.
 
 Held to a bound is how much later the opponent has the board than the mover: that the page and the browser take the
-longer where a machine has much else to do comes in both of these moments."""
+longer where a machine has much else to do comes in both of these moments. So that a page that is slow for both is seen
+too, the whole from the click on has a bound of its own, which is wide enough for such a machine."""
 
 import asyncio
 import random
@@ -24,6 +25,7 @@ pytestmark = [pytest.mark.browser, pytest.mark.slow]
 HALF_MOVES = 60
 REST_SECONDS = 0.5
 THINKS = (0.1, 0.4)  # seconds
+WHOLE_AT_MOST = 2  # times that of plain links
 SQUARES = (("g1", "f3"), ("g8", "f6"), ("f3", "g1"), ("f6", "g8"))
 NOTES_CLICKS = """const now = () => performance.timeOrigin + performance.now();
 addEventListener("click", () => { window.clicked = now(); }, true);
@@ -115,3 +117,5 @@ def test_one_pair(evening: Evening, loop: asyncio.AbstractEventLoop) -> None:
         )
     later, plainly = (statistics.median(it.later for it in delays) for delays in (windows, links))
     assert later < AT_MOST * plainly
+    in_all, plainly_in_all = (statistics.median(it.whole for it in delays) for delays in (windows, links))
+    assert in_all < WHOLE_AT_MOST * plainly_in_all
