@@ -10,7 +10,7 @@ SECONDS = {
     "cmd_bot": 45, "cmd_check": 26, "cmd_demo": 116, "cmd_examine": 81, "cmd_job": 103,
     "cmd_lines": 97, "cmd_pgn": 36, "cmd_replay": 218, "cmd_run": 50, "cmd_store": 17,
     "cmd_tidy": 39, "cmd_tourney": 59, "collections": 110, "command_words": 190, "desk_boards": 149,
-    "edge_traits": 33, "examine_board": 111, "fics_board": 63, "fics_server": 437, "fics_words": 105,
+    "edge_traits": 33, "examine_board": 111, "fics_board": 44, "fics_server": 458, "fics_words": 105,
     "file_keeper": 321, "game_board": 138, "game_records": 134, "hall_core": 180, "histories": 17,
     "holdings_drops": 17, "house_bot": 57, "line_reader": 49, "link_core": 88, "linked_desk": 388,
     "lobby_load": 104, "lobby_shelf": 122, "lobby_state": 950, "lobby_store": 38, "login_handles": 29,
