@@ -6,6 +6,7 @@
 #![tactic(auto)]
 
 mod no_store;
+mod pace;
 mod std_streams;
 mod tcp_door;
 mod tcp_peer;

@@ -1,22 +1,22 @@
 //! A connection over TCP.
 
+use crate::pace::Pace;
 use edge_traits::{Heard, Link, Sent};
 use std::io::{self, ErrorKind, Read, Write};
 use std::net::{Shutdown, TcpStream};
 use std::time::Duration;
 
-/// How long a read waits before it answers Quiet.
-const PAUSE_MILLIS: u64 = 100;
-
 /// How long a write waits for a client that doesn't read, before it is a fault of this connection.
 const PATIENCE_SECONDS: u64 = 10;
 
-/// A connection over TCP, made by `TcpDoor`. A read answers Quiet after 100 ms without bytes; a write that waits for
-/// more than 10 s is a fault. What comes over the connection isn't told.
+/// A connection over TCP, made by `TcpDoor`. A read answers Quiet after 100 ms without bytes, and sooner where its
+/// player may be awaiting something: the pause is that of `Pace`. A write that waits for more than 10 s is a fault. What
+/// comes over the connection isn't told.
 #[derive(Drop)]
 pub struct TcpPeer {
     stream: TcpStream,
     faults: u64,
+    pace: Pace,
 }
 
 impl TcpPeer {
@@ -27,9 +27,31 @@ impl TcpPeer {
         ensures { IfOk result (λ peer. peer.faults ≡ 0) }
     {
         stream.set_nodelay(true)?;
-        stream.set_read_timeout(Some(Duration::from_millis(PAUSE_MILLIS)))?;
+        let pace = Pace::new();
+        stream.set_read_timeout(Some(Duration::from_millis(pace.millis())))?;
         stream.set_write_timeout(Some(Duration::from_secs(PATIENCE_SECONDS)))?;
-        Ok(TcpPeer { stream, faults: 0 })
+        Ok(TcpPeer {
+            stream,
+            faults: 0,
+            pace,
+        })
+    }
+
+    /// Reads at this pace from now on. Only where the pause changes is the system asked; where it refuses, reads go on
+    /// with the pause that they had.
+    fn keep_to(&mut self, pace: Pace)
+        ensures { self.new.faults ≡ self.old.faults }
+    {
+        let millis = pace.millis();
+        if millis != self.pace.millis()
+            && self
+                .stream
+                .set_read_timeout(Some(Duration::from_millis(millis)))
+                .is_err()
+        {
+            return;
+        }
+        self.pace = pace;
     }
 
     /// Counts a fault.
@@ -51,8 +73,14 @@ impl Link for TcpPeer {
     fn read(&mut self, buf: &mut [u8]) -> Heard {
         match self.stream.read(buf) {
             Ok(0) => Heard::End,
-            Ok(n) => Heard::Bytes(n),
-            Err(error) if is_pause(error.kind()) => Heard::Quiet,
+            Ok(n) => {
+                self.keep_to(self.pace.heard());
+                Heard::Bytes(n)
+            }
+            Err(error) if is_pause(error.kind()) => {
+                self.keep_to(self.pace.paused());
+                Heard::Quiet
+            }
             Err(_) => {
                 self.fault();
                 Heard::Failed
@@ -62,7 +90,10 @@ impl Link for TcpPeer {
 
     fn write(&mut self, bytes: &[u8]) -> Sent {
         match self.stream.write_all(bytes) {
-            Ok(()) => Sent::All,
+            Ok(()) => {
+                self.keep_to(self.pace.told());
+                Sent::All
+            }
             Err(_) => {
                 self.fault();
                 Sent::Failed
