@@ -1,4 +1,4 @@
-//! A placement as sets of squares, one bit a square, beside the man on each square.
+//! A placement as sets of squares, one bit a square. The man on each square stands beside them.
 //!
 //! Sliding men look along printed rays that are cut at the first man in their way. The contract: contracts see a `Bits`
 //! as the placement of chess_model; its sets have exactly the squares where such a man stands, `reach` has the squares

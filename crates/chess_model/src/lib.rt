@@ -1,5 +1,5 @@
-//! The rules of chess, crazyhouse, bughouse and Fischer random as definitions, and the values that boards and players
-//! speak of.
+//! The rules of chess, crazyhouse, bughouse and Fischer random as definitions. The values that boards and players speak
+//! of stand beside them.
 //!
 //! `specs/` says what a placement, a move, an attack, a right, a hand and an allowed move are, once, for all
 //! variants and for one or two boards: a game is the list of its half-moves, and everything else is said of that

@@ -1,4 +1,4 @@
-//! The command `demo`: a large evening of the server of one thread, made from a number, and its counts.
+//! The command `demo`: a large evening that is made from a number, and its counts. The server of one thread plays it.
 //!
 //! The contract of `demo`: what is written is the summary of the history that `specs/Demo.antt` makes of the number,
 //! and of no other (`one_demo`), for it says of each step whose line comes and which line it is, by the draws from the

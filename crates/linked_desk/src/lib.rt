@@ -1,4 +1,4 @@
-//! A desk: the game that is played at it, its players, and the viewers who are told of it.
+//! A desk: a game that is played, its players, and the viewers who are told of it.
 //!
 //! A desk is vacant, or it has a game with a serial, its seats and boards (two seats and one board, or four and two),
 //! and a feed of items in which each viewer has a place. The contract: `act` carries out one row of a table

@@ -1,5 +1,5 @@
-//! The shelf: the adjourned games that wait to be resumed, who asks to resume which of them, and the save orders by
-//! which a store learns of accounts and games.
+//! The shelf: the adjourned games that wait to be resumed. With them stand who asks to resume which of them, and the
+//! save orders by which a store learns of accounts and games.
 //!
 //! The contract: a `GameShelf` is seen as one value, `specs/Shelf.antt`: the games in the order of their numbers, the
 //! orders in the order in which they were made, and the requests. Each call says which value stands afterwards. What

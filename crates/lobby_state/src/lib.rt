@@ -1,7 +1,7 @@
-//! The lobby: who is registered and who is in the hall, which seeks and challenges stand, who is in which channel, who
-//! are partners, which adjourned games lie on the shelf and who asks to resume them, and which desks are in use for
-//! which game. The lists of each kind are kept by crates of their own; here stands what the acts of members do to them
-//! all.
+//! The lobby: who is there, what is offered, asked and said, and which games are to be. It knows who is registered and
+//! who is in the hall, which seeks and challenges stand, who is in which channel, who are partners, which adjourned
+//! games lie on the shelf and who asks to resume them, and which desks are in use for which game. The lists of each
+//! kind are kept by crates of their own; here stands what the acts of members do to them all.
 //!
 //! The contract: what an act does, by the lobby before, the session and the act, stands in one record of its own file
 //! in `specs/`: why it is refused, what it replies, and what stands afterwards. A refusal and running out of memory

@@ -1,4 +1,4 @@
-//! Looks for the best move in positions where it is known, and prints for each its name, how far it looks ahead and the
+//! Looks for the best move in positions where it is known. It prints for each its name, how far it looks ahead and the
 //! value. With a word behind the program's name it looks in harder positions too, and in each once more by the plain
 //! search, which has no bounds, so that the two can be compared in one run.
 #![tactic(auto)]

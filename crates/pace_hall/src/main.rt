@@ -1,5 +1,5 @@
-//! Makes many acts at tables of two players, over the server of one thread or over a hall with as many threads as are
-//! asked for, and prints how many it made. `bench/hall` measures how long that takes.
+//! Makes many acts at tables of two players. It makes them over the server of one thread or over a hall with as many
+//! threads as are asked for, and prints how many it made. `bench/hall` measures how long that takes.
 //!
 //! The words are PLACE WHAT THREADS TABLES ROUNDS: `server`, `apart` or `same`; `looks` or `moves`; the threads, the
 //! tables of each, and the rounds at each table. Or they are `shelf WHAT GAMES ROUNDS`, or `full DEED ROUNDS`: what a

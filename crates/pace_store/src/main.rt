@@ -1,5 +1,5 @@
-//! Puts records into a store, loads them or holds the store, and prints what came of it. `bench/store` measures how
-//! long that takes, and what becomes of a store on which things go wrong.
+//! Puts records into a store, loads them or holds the store. It prints what came of it. `bench/store` measures how long
+//! that takes, and what becomes of a store on which things go wrong.
 //!
 //! The words are WHAT PATH COUNT: `put` puts so many records and says of each what came of it, `load` says how many
 //! there are, `read` says it by the keeper that only reads, and `hold` keeps the store until its input ends.

@@ -1,6 +1,6 @@
-//! Counts the lists of allowed half-moves that lead on from some positions, by `moves`, `make` and `unmake`, and prints
-//! for each position its name, the length of the lists and their number. Each word behind the program's name makes the
-//! lists one half-move longer.
+//! Counts the lists of allowed half-moves that lead on from some positions. It does so by `moves`, `make` and `unmake`,
+//! and prints for each position its name, the length of the lists and their number. Each word behind the program's name
+//! makes the lists one half-move longer.
 #![tactic(auto)]
 
 ghost use Rattle.std.specs.Prelude.{◌≡◌};

@@ -1,4 +1,4 @@
-//! What written move words stand for, over any board that can be asked for its men and its rules.
+//! What written move words stand for, over any board. It is asked for its men and its rules.
 //!
 //! The contract: `answer` gives a word its one allowed move or the first cause why it has none, as `WordAnswer` and
 //! `Answer` of chess_model say, in the position for which an `AskedBoard` stands. Boards differ in how they tell their

@@ -1,4 +1,4 @@
-//! Laws of the rules that hold over all positions, and that no crate needs to play by them.
+//! Laws of the rules that hold over all positions. No crate needs them to play.
 //!
 //! The contract: with the colours exchanged and the board turned over, each half-move is allowed exactly where it was.
 #![tactic(auto)]

@@ -1,4 +1,4 @@
-//! The slow board of chess, crazyhouse and bughouse, which follows the definitions of `chess_model` word by word.
+//! The slow board of chess, crazyhouse and bughouse. It follows the definitions of `chess_model` word by word.
 //!
 //! `PlainBoard` keeps 64 squares, the rights and the two hands in place of the list of half-moves. No crate of the
 //! program plays by it: it stands beside the positions over sets of squares, for tests and for readers.

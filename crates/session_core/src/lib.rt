@@ -1,4 +1,4 @@
-//! One session: what it does for each thing that comes from its player, over any server that runs its acts.
+//! One session: what it does for whatever comes from its player. It does so over any server that runs its acts.
 //!
 //! What comes is an input. A session's course says which acts it makes for an input and what it writes: the next act
 //! follows from the input, from what the session remembers and from the replies to the acts before it, and so does the

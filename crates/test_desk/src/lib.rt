@@ -1,7 +1,7 @@
-//! Tests of games at a desk, and in folders of their own of the boards below them, games that are played again, and of
-//! the texts that players see. Those of the desks stand here where no line of a player reaches: acts of another game's serial, at a vacant desk and of who has
-//! no seat, what is counted to its end, milliseconds, and games as they lie in a store. What players bring about by
-//! lines stands in `test_evenings`.
+//! Tests of games at a desk, of the boards below it and of the texts that players see. The boards, games that are
+//! played again and the texts have folders of their own. Tests of desks stand here where no line of a player reaches:
+//! acts of another game's serial, at a vacant desk and of who has no seat, what is counted to its end, milliseconds,
+//! and games as they lie in a store. What players bring about by lines stands in `test_evenings`.
 #![tactic(auto)]
 
 #[cfg(test)]

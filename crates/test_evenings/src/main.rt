@@ -1,4 +1,4 @@
-//! Replays the evenings in the files that its words name, and says where one is written otherwise than stands there.
+//! Replays the evenings in some files, and says where one is written otherwise. The program's words name the files.
 //!
 //! A row `= NAME` begins an evening. Its other rows are the lines of a script, and set in by two blanks under each of
 //! them stands what is written for it; last of all `status N`, set in, where the run ends with a status that isn't 0. A

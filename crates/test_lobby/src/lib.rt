@@ -1,6 +1,6 @@
-//! Tests of the lobby's acts where no line of a player reaches; what players bring about by lines stands in
-//! `test_evenings`. The expected answers are those of the rules of the server, and the expected lines are written out by
-//! hand.
+//! Tests of the lobby's acts where no line of a player reaches. What players bring about by lines stands in
+//! `test_evenings`. The expected answers are those of the rules of the server, and the expected lines are written out
+//! by hand.
 //!
 //! A test is a table of steps with what each has to answer. The steps are carried out by functions without contracts,
 //! so a test is proved quickly: what it shows is shown by running it.

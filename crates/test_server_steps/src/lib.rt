@@ -1,5 +1,6 @@
-//! Steps that tests make at a server of one thread by acts alone, what replies say in short, and what comes from players
-//! and is written by sessions: what the tests of the server, of sessions, of the hall and of the steward share.
+//! Steps that tests make at a server of one thread by acts alone. Beside them stand what replies say in short, and what
+//! comes from players and is written by sessions: what the tests of the server, of sessions, of the hall and of the
+//! steward share.
 //!
 //! It promises nothing by contracts: what a step shows is shown by running it.
 #![tactic(auto)]
