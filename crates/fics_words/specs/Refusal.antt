@@ -1,4 +1,4 @@
--- The 65 causes of a refusal: this server's own numbers and names.
+-- The causes of a refusal: this server's own numbers and names.
 use Rattle.std.specs.Prelude.{ℕ, List, ◌++◌, codes, decimal}
 use Rattle.fics_words.specs.declared.refusal.Refusal.{Refusal}
 use Rattle.fics_words.specs.declared.refusal.Refusal.TheVariants.{Ambiguous, LeavesKing, CastleForbidden, NoDrops, NotInHand, Occupied, EndRank, NoPiece, CannotReach, GameOver, NotYourTurn, TooManyMoves, NothingToClaim, NotFallen, TooFewMoves, NoSuchOffer, AlreadyOffered, NotWatching, FeedFull, NotPlaying, NotInVariant, BadHandle, WrongPassword, HandleTaken, HallFull, Unknown, AmbiguousWord, BadArguments, TooLong, NoSuchSeek, SeekFull, NoSuchPlayer, Playing, NoChallenge, NoDesk, Refuses, NoPartner, HasPartner, NotInChannel, ListFull, BadChannel, NotGiving, SimulFull, NoStored, ShelfFull, NoSuchGame, AccountsFull, AlreadyRegistered, QueueFull, BadOpponent, OnList, NotOnList, NotRegistered, NotIn, AlreadyWatching, BadByte, NoMoreMoves, NoEarlierMoves, TourneyStarted, TourneyFull, TooFewPlayers, TourneyNotStarted, NoSuchRound, NotPaired, AlreadyReported}

@@ -1,4 +1,4 @@
-//! Why a command was refused: 65 causes, each with the number and the name that a player is shown.
+//! Why a command was refused: each cause has a number and a name that a player is shown.
 
 ghost use Rattle.std.specs.Prelude.{◌≡◌, ◌++◌, OnOk};
 ghost use Rattle.fics_words.specs.Refusal.{refusal_words};
@@ -6,7 +6,7 @@ ghost use Rattle.fics_words.specs.Refusal.{refusal_words};
 use crate::number::write_number;
 use memory::NoMemory;
 
-/// The cause of a refusal, numbered from 1 to 65; shown to a player as `refused N Name`.
+/// The cause of a refusal, numbered from 1 on in this order; shown to a player as `refused N Name`.
 #[derive(Clone, Copy, Debug, PartialEq, Eq)]
 pub enum Refusal {
     /// Two or more allowed moves match the word.
@@ -144,7 +144,7 @@ pub enum Refusal {
 impl Refusal {
     ghost use Rattle.fics_words.specs.Refusal.{number_of, name_of};
 
-    /// The refusal's number, 1 to 65.
+    /// The refusal's number, from 1 on.
     pub fn number(self) -> u8
         ensures { result ≡ number_of self }
     {
