@@ -1,9 +1,11 @@
-"""Libraries that crates.txt gives a crate whose text doesn't name them."""
+"""Libraries that crates.txt gives a crate whose text has no path into them."""
 import re
 
 from .sources import KINDS, of_crates, text, uses_of_crates
 
 COMMENT = {".rt": re.compile(r"//.*"), ".antt": re.compile(r"--.*")}
+# a path in code begins with the library's name, one in definitions and proofs has it behind the name of them all
+PATH = re.compile(r"(?<![\w:.])(?:Rattle\.)?(\w+)(?:::|\.)")
 
 
 def texts_of_crates():
@@ -17,7 +19,7 @@ def texts_of_crates():
 def faults():
     texts = texts_of_crates()
     for crate, uses in uses_of_crates().items():
-        words = set(re.findall(r"\w+", texts.get(crate, "")))
+        named = set(PATH.findall(texts.get(crate, "")))
         for it in uses:
-            if it not in words:
+            if it not in named:
                 yield f"crates.txt gives {crate} the library {it}, which its text doesn't name"
