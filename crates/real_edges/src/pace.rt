@@ -29,8 +29,8 @@ impl Haste {
 /// How many pauses it takes until a player counts as idle: of those who await something, some ten seconds.
 const PAUSES_TO_IDLE: u16 = 1_000;
 
-/// The pause of a connection: 10 ms behind bytes that came, 50 ms behind bytes that were written in a pause, and 100 ms,
-/// the longest, from the thousandth pause on.
+/// The pause of a connection: 10 ms behind bytes that came, 50 ms behind bytes that were written in a pause, and
+/// 100 ms, the longest, from the thousandth pause on.
 #[derive(Clone, Copy)]
 pub(crate) struct Pace {
     haste: Haste,

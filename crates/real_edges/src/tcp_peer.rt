@@ -10,8 +10,8 @@ use std::time::Duration;
 const PATIENCE_SECONDS: u64 = 10;
 
 /// A connection over TCP, made by `TcpDoor`. A read answers Quiet after 100 ms without bytes, and sooner where its
-/// player may be awaiting something, by the pause of `Pace`. A write that waits for more than 10 s is a fault. What comes
-/// over the connection isn't told.
+/// player may be awaiting something, by the pause of `Pace`. A write that waits for more than 10 s is a fault. What
+/// comes over the connection isn't told.
 #[derive(Drop)]
 pub struct TcpPeer {
     stream: TcpStream,
