@@ -67,6 +67,9 @@ const WHO_IS_NOT_IN_IS_REFUSED_STEPS: &[Step] = &[
     Step::Match(9, *b"Ann", CHESS, 54),
     Step::Ask(9, None, 54),
     Step::Ask(9, Some(*b"Ann"), 54),
+    // that who asks isn't in comes before that nobody has the name
+    Step::Match(9, *b"Zoe", CHESS, 54),
+    Step::Ask(9, Some(*b"Zoe"), 54),
     // who is going can't be named, not even by itself
     Step::Match(1, *b"Cid", CHESS, 32),
     Step::Match(3, *b"Cid", CHESS, 32),

@@ -15,6 +15,7 @@ const WHO_IS_NOT_IN_SEEKS_NOTHING_STEPS: &[Seeking] = &[
     Seeking::Post(9, PAIRS, 0, 54),
     Seeking::Unpost(9, None, 54),
     Seeking::Ask(9, 1, 54),
+    Seeking::Ask(9, 7, 54),
 ];
 
 const LISTS_AS_COPIED_AHEAD_STEPS: &[Seeking] = &[

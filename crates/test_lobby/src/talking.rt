@@ -8,6 +8,7 @@ use std::test::Fail;
 const WHO_IS_NOT_IN_SAYS_NOTHING_STEPS: &[Talk] = &[
     Talk::Other(Step::Enter(1, *b"Ann", DONE)),
     Talk::Tell(9, *b"Ann", b"hi", 54),
+    Talk::Tell(9, *b"Zoe", b"hi", 54),
     Talk::Shout(9, b"hello", 1054),
     Talk::Set(9, Var::Shout, false, 54),
     Talk::Channel(9, 4, true, 54),
