@@ -6,7 +6,8 @@ ghost use Rattle.edge_traits.specs.Keeper.{Stays};
 ghost use Rattle.cmd_check.specs.CheckEnds.{CheckEnds, WritesLine};
 ghost use Rattle.cmd_check.specs.Counts.{check_line};
 ghost use Rattle.cmd_lines.specs.Ends.{OnWriteFault as OnFaultOfWriting};
-ghost use Rattle.cmd_store.specs.Outcomes.{OnKeeperFault, OnWriteFault};
+ghost use Rattle.lobby_load.specs.Calling.{LoadsOnce};
+ghost use Rattle.cmd_store.specs.Outcomes.{EndsAt, OnKeeperFault, OnWriteFault};
 
 use cmd_lines::{End, send};
 use cmd_store::{Outcome, outcome_of};
@@ -16,12 +17,13 @@ use lobby_load::open_store;
 use memory::NoMemory;
 use std::alloc::Global;
 
-/// Loads what a keeper holds, and writes how many accounts and games that is: the line `ok: A accounts, G games`. Of a
-/// bad record it writes the line `bad record K`, and at a fault of the keeper nothing. At a fault of writing, and when
-/// out of memory, at most a beginning of the line was written.
+/// Loads what a keeper holds, for which it calls it once, and writes how many accounts and games that is: the line
+/// `ok: A accounts, G games`. Of a bad record it writes the line `bad record K`, and at a fault of the keeper nothing.
+/// At a fault of writing, and when out of memory, at most a beginning of the line was written.
 pub fn check<K: Sink, P: Keeper>(alloc: Global, sink: &mut K, keeper: &mut P) -> Outcome
     ensures ends { CheckEnds (P.table keeper.old) (K.written sink.old) (K.written sink.new) result }
     ensures unchanged { Stays (P.table keeper.old) (P.table keeper.new) }
+    ensures called { LoadsOnce (P.calls keeper.old) (P.calls keeper.new) (EndsAt result) }
     ensures keeper_cause { OnKeeperFault result (Rose (P.faults keeper.old) (P.faults keeper.new)) }
     ensures keeper_counted { P.faults keeper.old ≤ P.faults keeper.new }
     ensures write_cause { OnWriteFault result (Rose (K.faults sink.old) (K.faults sink.new)) }

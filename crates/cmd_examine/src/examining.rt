@@ -6,7 +6,8 @@ ghost use Rattle.edge_traits.specs.Keeper.{Stays};
 ghost use Rattle.game_records.specs.Replays.{Replays};
 ghost use Rattle.lobby_shelf.specs.Numbers.{stored_game};
 ghost use Rattle.lobby_state.specs.WellFormed.{IsWellFormed};
-ghost use Rattle.cmd_store.specs.Outcomes.{OnKeeperFault, OnReadFault, OnWriteFault};
+ghost use Rattle.lobby_load.specs.Calling.{LoadsOnce};
+ghost use Rattle.cmd_store.specs.Outcomes.{EndsAt, OnKeeperFault, OnReadFault, OnWriteFault};
 ghost use Rattle.examine_board.specs.Exam.{opened};
 ghost use Rattle.cmd_examine.specs.ExamineEnds.{EndsBeforeInput, ExamineEnds, ExaminesOpened, TellsNone};
 
@@ -25,7 +26,8 @@ use std::alloc::Global;
 const NO_SUCH_GAME: &[u8] = b"no such game\n";
 
 /// Loads the store, and examines its game of that number: writes the lines that show it before its first half-move,
-/// then reads the source to its end and writes what its lines give, one write a read. It changes nothing at the keeper.
+/// then reads the source to its end and writes what its lines give, one write a read. It calls the keeper for its load
+/// alone.
 pub fn examine<S: Source, K: Sink, P: Keeper>(
     alloc: Global,
     game: u64,
@@ -37,6 +39,7 @@ pub fn examine<S: Source, K: Sink, P: Keeper>(
         (K.written sink.new) result }
     ensures unread { EndsBeforeInput result → source.new ≡ source.old }
     ensures unchanged { Stays (P.table keeper.old) (P.table keeper.new) }
+    ensures called { LoadsOnce (P.calls keeper.old) (P.calls keeper.new) (EndsAt result) }
     ensures read_cause { OnReadFault result (Rose (S.faults source.old) (S.faults source.new)) }
     ensures write_cause { OnWriteFault result (Rose (K.faults sink.old) (K.faults sink.new)) }
     ensures keeper_cause { OnKeeperFault result (Rose (P.faults keeper.old) (P.faults keeper.new)) }
@@ -83,6 +86,7 @@ fn examine_opened<S: Source, K: Sink>(
     source: &mut S,
     sink: &mut K,
 ) -> Outcome
+    ensures calm { OnKeeperFault result ⊥ }
     ensures ends { ExaminesOpened opened (S.left source.old) (S.left source.new) (K.written sink.old)
         (K.written sink.new) result }
     ensures unread { EndsBeforeInput result → source.new ≡ source.old }
@@ -98,6 +102,7 @@ fn examine_opened<S: Source, K: Sink>(
 
 /// Tells that there is no such game.
 fn tell_none<K: Sink>(sink: &mut K) -> Outcome
+    ensures calm { OnKeeperFault result ⊥ }
     ensures ends { TellsNone (K.written sink.old) (K.written sink.new) result }
     ensures write_cause { OnWriteFault result (Rose (K.faults sink.old) (K.faults sink.new)) }
 {

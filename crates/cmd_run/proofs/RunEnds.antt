@@ -4,7 +4,11 @@ use Rattle.std.specs.Prelude.{◌⊎◌, ◌==◌, if◌then◌else◌, Option, 
 use Rattle.std.specs.declared.alloc.Global.{Global}
 use Rattle.std.specs.Io.KnownBytes.{Keeps}
 use Rattle.std.proofs.KnownBytes.{Appends-nil}
+use Rattle.edge_traits.specs.Calls.{Calls}
 use Rattle.edge_traits.specs.Keeper.{Stays}
+use Rattle.edge_traits.specs.declared.keeper.Kept.{Kept}
+use Rattle.edge_traits.specs.declared.keeper.Kept.TheVariants.{Failed}
+use Rattle.lobby_load.specs.Calling.{LoadsOnce}
 use Rattle.edge_traits.specs.Pairs.{Records}
 use Rattle.cmd_lines.specs.Ends as read
 use Rattle.cmd_job.specs.Usage.{UsageEnds}
@@ -14,7 +18,7 @@ use Rattle.cmd_run.specs.Words.{Does, IsCommand, IsOverStore, Names}
 use Rattle.cmd_run.proofs.Named.{is_command, one_command}
 use Rattle.cmd_lines.specs.declared.end.End.{End}
 use Rattle.cmd_lines.specs.declared.end.End.TheVariants.{Done, ReadFault, WriteFault, Memory, BadLine, Spent}
-use Rattle.cmd_store.specs.Outcomes.{AsRead, OnKeeperFault, OnReadFault, OnWriteFault, status_of_outcome}
+use Rattle.cmd_store.specs.Outcomes.{AsRead, EndsAt, OnKeeperFault, OnReadFault, OnWriteFault, status_of_outcome}
 use Rattle.cmd_store.specs.declared.outcome.Outcome.{Outcome}
 use Rattle.cmd_store.specs.declared.outcome.Outcome.TheVariants.{Read, BadRecord, KeeperFault, NoGame}
 use Rattle.cmd_run.specs.declared.command.RunCommand.{RunCommand}
@@ -178,6 +182,54 @@ pub unread_at : (outcome : Outcome) (P : Type 0) (status : ℕ) → status ≡ s
 unread_at outcome P status is stays (inl told) = stays (subst EndsBeforeInput (sym (one_outcome outcome KeeperFault status is told)) tt)
 unread_at outcome P status is stays (inr (inl told)) = stays (subst EndsBeforeInput (sym (one_outcome outcome BadRecord status is told)) tt)
 unread_at outcome P status is stays (inr (inr told)) = stays (subst EndsBeforeInput (sym (one_outcome outcome NoGame status is told)) tt)
+
+-- the one load of a command over a store; another doesn't call the keeper
+failed_told : (outcome : Outcome) (answer : Kept) → EndsAt outcome answer → answer ≡ Failed → status_of_outcome outcome ≡ 4
+failed_told (Read end) answer at failed = absurd (at failed)
+failed_told BadRecord answer at failed = absurd (at failed)
+failed_told KeeperFault answer at failed = refl
+failed_told NoGame answer at failed = absurd (at failed)
+
+over_store : (command : RunCommand) → IsOverStore command ⊎ (IsOverStore command → ⊥)
+over_store Board = inr (λ bad. bad)
+over_store Replay = inr (λ bad. bad)
+over_store Tourney = inr (λ bad. bad)
+over_store Tidy = inr (λ bad. bad)
+over_store (Bot depth) = inr (λ bad. bad)
+over_store (Demo number) = inr (λ bad. bad)
+over_store Check = inl tt
+over_store Pgn = inl tt
+over_store (Examine game) = inl tt
+
+loads_by : (old new : Calls) (command : RunCommand) (outcome : Outcome) (status : ℕ) → status ≡ status_of_outcome outcome → (IsOverStore command → LoadsOnce old new (EndsAt outcome)) → ((IsOverStore command → ⊥) → new ≡ old)
+    → IsOverStore command ⊎ (IsOverStore command → ⊥) → (new ≡ old) ⊎ LoadsOnce old new (λ answer. answer ≡ Failed → status ≡ 4)
+loads_by old new command outcome status is loads stays (inl over) =
+    let p = loads over in
+    inr (p.0, p.1, λ failed. is ∙ failed_told outcome p.0 p.2 failed)
+loads_by old new command outcome status is loads stays (inr other) = inl (stays other)
+
+pub loads_at : (old new : Calls) (command : RunCommand) (outcome : Outcome) (status : ℕ) → status ≡ status_of_outcome outcome → (IsOverStore command → LoadsOnce old new (EndsAt outcome)) → ((IsOverStore command → ⊥) → new ≡ old)
+    → (new ≡ old) ⊎ LoadsOnce old new (λ answer. answer ≡ Failed → status ≡ 4)
+loads_at old new command outcome status is loads stays = loads_by old new command outcome status is loads stays (over_store command)
+
+-- a fault of the keeper is told of a command over a store
+fault_over : (table : Option Records) (left left' written written' : Option (List ℕ)) (command : RunCommand) → CommandEnds table left left' written written' KeeperFault command → IsOverStore command
+fault_over table left left' written written' Board h = h
+fault_over table left left' written written' Replay h = h
+fault_over table left left' written written' Tourney h = h
+fault_over table left left' written written' Tidy h = h
+fault_over table left left' written written' (Bot depth) h = h
+fault_over table left left' written written' (Demo number) h = h.1
+fault_over table left left' written written' Check h = tt
+fault_over table left left' written written' Pgn h = tt
+fault_over table left left' written written' (Examine game) h = tt
+
+pub failed_at : (old new : Calls) (command : RunCommand) (table : Option Records) (left left' written written' : Option (List ℕ)) (outcome : Outcome) → CommandEnds table left left' written written' outcome command → (status : ℕ)
+    → status ≡ status_of_outcome outcome → (IsOverStore command → LoadsOnce old new (EndsAt outcome)) → status ≡ 4 → LoadsOnce old new (λ answer. answer ≡ Failed)
+failed_at old new command table left left' written written' outcome ends status is loads told =
+    let same = one_outcome outcome KeeperFault status is told in
+    subst (λ (e : Outcome). LoadsOnce old new (EndsAt e)) same
+    (loads (fault_over table left left' written written' command (subst (λ (e : Outcome). CommandEnds table left left' written written' e command) same ends)))
 
 -- a table that isn't touched stays
 pub Stays-same : (table : Option Records) → Stays table table

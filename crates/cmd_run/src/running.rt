@@ -5,11 +5,13 @@ ghost use Rattle.std.specs.Io.KnownBytes.{Appends, Keeps};
 ghost use Rattle.edge_traits.specs.Faults.{Rose};
 ghost use Rattle.edge_traits.specs.Keeper.{Stays};
 ghost use Rattle.edge_traits.specs.Source.{most_reads};
+ghost use Rattle.edge_traits.specs.declared.keeper.Kept.{Kept};
+ghost use Rattle.lobby_load.specs.Calling.{LoadsOnce};
 ghost use Rattle.cmd_run.specs.RunEnds.{CommandEnds, IsGood, WritesPart};
 ghost use Rattle.cmd_job.specs.Usage.{usage_line};
 ghost use Rattle.cmd_examine.specs.ExamineEnds.{EndsBeforeInput};
 ghost use Rattle.cmd_run.specs.Words.{Does, IsCommand, IsOverStore, IsWithin, Names, ReadsInput};
-ghost use Rattle.cmd_store.specs.Outcomes.{OnKeeperFault, OnReadFault, OnWriteFault};
+ghost use Rattle.cmd_store.specs.Outcomes.{EndsAt, OnKeeperFault, OnReadFault, OnWriteFault};
 ghost use Rattle.cmd_lines.specs.declared.end.End.{End};
 ghost use Rattle.cmd_store.specs.declared.outcome.Outcome.{Outcome};
 ghost use Rattle.cmd_run.specs.declared.command.RunCommand.{RunCommand};
@@ -34,8 +36,8 @@ use std::alloc::Global;
 /// to its end, 1 where the words name no command, 2 at a fault of reading, 3 at a fault of writing, 4 at a fault of the
 /// keeper, 5 where a record of the store is bad, 6 for want of memory, 7 at the first line outside the grammar, 9 after
 /// 2^40 reads, and 10 where the store has no game of the number. The source is read by the commands that read an input
-/// alone, and not before the store was loaded; the keeper is called by the commands over a store alone, and its table
-/// stays as it is.
+/// alone, and not before the store was loaded; the keeper is called by the commands over a store alone, once, for its
+/// load, and its table stays as it is.
 pub fn run<S: Source, K: Sink, P: Keeper>(
     alloc: Global,
     words: &[String],
@@ -77,6 +79,10 @@ pub fn run<S: Source, K: Sink, P: Keeper>(
     ensures unread { (result ≡ 4) ⊎ ((result ≡ 5) ⊎ (result ≡ 10)) → source.new ≡ source.old }
     ensures keeper_stays { ¬ (Does words.now IsOverStore) → keeper.new ≡ keeper.old }
     ensures table_stays { Stays (P.table keeper.old) (P.table keeper.new) }
+    ensures loads { (P.calls keeper.new ≡ P.calls keeper.old)
+        ⊎ LoadsOnce (P.calls keeper.old) (P.calls keeper.new) (λ answer. answer ≡ Kept.Failed → result ≡ 4) }
+    ensures failed_load { result ≡ 4
+        → LoadsOnce (P.calls keeper.old) (P.calls keeper.new) (λ answer. answer ≡ Kept.Failed) }
     ensures keeper_counted { P.faults keeper.old ≤ P.faults keeper.new }
 {
     match read_command(alloc, words) {
@@ -104,6 +110,8 @@ fn run_command<S: Source, K: Sink, P: Keeper>(
     ensures unread { EndsBeforeInput result → source.new ≡ source.old }
     ensures keeper_stays { ¬ (IsOverStore command) → keeper.new ≡ keeper.old }
     ensures table_stays { Stays (P.table keeper.old) (P.table keeper.new) }
+    ensures called { IsOverStore command
+        → LoadsOnce (P.calls keeper.old) (P.calls keeper.new) (EndsAt result) }
     ensures keeper_counted { P.faults keeper.old ≤ P.faults keeper.new }
 {
     match command {

@@ -1,9 +1,11 @@
 -- The ways in which a command over a store ends: the number that tells of each, and their causes. This program's own.
-use Rattle.std.specs.Prelude.{◌≡◌, ℕ, refl}
+use Rattle.std.specs.Prelude.{◌≡◌, ◌≢◌, ℕ, refl}
 use Rattle.cmd_lines.specs.Ends.{status_of}
 use Rattle.cmd_lines.specs.Ends as read
 use Rattle.cmd_lines.specs.declared.end.End.{End}
 use Rattle.cmd_lines.specs.declared.end.End.TheVariants.{Done, WriteFault, Memory}
+use Rattle.edge_traits.specs.declared.keeper.Kept.{Kept}
+use Rattle.edge_traits.specs.declared.keeper.Kept.TheVariants.{Failed}
 use Rattle.lobby_load.specs.Refused.{unopened_status}
 use Rattle.lobby_load.specs.declared.refusals.StoreFault.{StoreFault}
 use Rattle.lobby_load.specs.declared.refusals.StoreFault.TheVariants as store
@@ -45,6 +47,11 @@ OnWriteFault outcome P = Unit {0}
 abbrev pub OnKeeperFault : Outcome → Type 0 → Type 0
 OnKeeperFault KeeperFault P = P
 OnKeeperFault outcome P = Unit {0}
+
+-- what the keeper answered to the load of a command that ended so: its fault is told exactly where the load failed
+abbrev pub EndsAt : Outcome → Kept → Type 0
+EndsAt KeeperFault answer = answer ≡ Failed
+EndsAt outcome answer = answer ≢ Failed
 
 example_read_to_its_end : status_of_outcome (Read Done) ≡ 0
 example_read_to_its_end = refl

@@ -2,25 +2,29 @@
 use Rattle.std.specs.Prelude.{◌≡◌, ◌≢◌, ℕ, ◌+◌, ◌<◌, ◌≤◌, ⊤, List, [], ◌∷◌, ◌++◌, length, IfSome}
 use Rattle.std.specs.declared.option.Option.{Option}
 use Rattle.edge_traits.specs.Link.{Handed, Tale, IsFresh}
+use Rattle.edge_traits.specs.declared.doorway.Answered.{Answered}
+use Rattle.edge_traits.specs.declared.doorway.Answered.TheVariants as answered
 use Rattle.edge_traits.specs.declared.doorway.Came.{Came}
 use Rattle.edge_traits.specs.declared.doorway.Came.TheVariants.{Link, Quiet, Closed, Failed}
 
 -- what a door tells: the links that it has left to give, each as what it tells; those that came, in their order, as
--- what they told when they came; those that came back, each with its number and as it was handed back; and how many
--- Quiets the door gave
+-- what they told when they came; those that came back, each with its number and as it was handed back; how many Quiets
+-- the door gave; and what it answered last
 pub record DoorTale : Type 0 where
   pub left : List (Option Tale)
   pub came : List (Option Tale)
   pub back : List (ℕ × Handed)
   pub quiets : ℕ
+  pub last : Answered
 
 -- what an answer of a door, whose links tell this, does to what it tells
 abbrev pub Gives : {L : Type 0} → (L → Option Tale) → Came L → DoorTale → DoorTale → Type 0
 Gives tells (Link link) old new =
-    (old.left ≡ tells link ∷ new.left) × (new ≡ record old { left = new.left; came = old.came ++ tells link ∷ [] })
-Gives tells Quiet old new = new ≡ record old { quiets = old.quiets + 1 }
-Gives tells Closed old new = (old.left ≡ []) × (new ≡ old)
-Gives tells Failed old new = new ≡ old
+    (old.left ≡ tells link ∷ new.left)
+    × (new ≡ record old { left = new.left; came = old.came ++ tells link ∷ []; last = answered.Link })
+Gives tells Quiet old new = new ≡ record old { quiets = old.quiets + 1; last = answered.Quiet }
+Gives tells Closed old new = (old.left ≡ []) × (new ≡ record old { last = answered.Closed })
+Gives tells Failed old new = new ≡ record old { last = answered.Failed }
 
 -- the fact holds of a link that came
 abbrev pub IfCame : {L : Type 0} → Came L → (L → Type 0) → Type 0

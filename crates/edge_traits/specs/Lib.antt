@@ -1,4 +1,6 @@
 pub mod Answers
+pub mod CallLog
+pub mod Calls
 pub mod Door
 pub mod Faults
 pub mod Keeper

@@ -15,9 +15,20 @@ pub enum Came<L> {
     Failed,
 }
 
+/// What a door answered last, without the connection.
+#[derive(Clone, Copy, PartialEq, Eq)]
+pub enum Answered {
+    /// It wasn't asked yet.
+    Nothing,
+    Link,
+    Quiet,
+    Closed,
+    Failed,
+}
+
 /// Where connections come from, and where they are handed back. A door that tells its `tale` says which links it has
-/// left to give, which came, which came back under which numbers and with how many faults, and how many Quiets it gave;
-/// a real one tells nothing. Its count of `faults` never falls.
+/// left to give, which came, which came back under which numbers and with how many faults, how many Quiets it gave, and
+/// what it answered last; a real one tells nothing. Its count of `faults` never falls.
 pub trait Doorway {
     ghost use Rattle.std.specs.Prelude.{◌≡◌, ℕ, ◌≤◌, IfSome};
     ghost use Rattle.std.specs.declared.option.Option.{Option};

@@ -1,5 +1,6 @@
 //! Where records are kept between two runs.
 
+use crate::call_log::Request;
 use memory::{Duplicate, NoMemory};
 use std::alloc::Global;
 use std::marker::Model;
@@ -39,10 +40,10 @@ impl Duplicate for Pair {
     }
 }
 
-/// What became of a change of the table.
+/// What became of a call: of a change of the table, or of a load.
 #[derive(Clone, Copy, Debug, PartialEq, Eq)]
 pub enum Kept {
-    /// The change was made.
+    /// The change was made, or the table was loaded.
     Done,
     /// A fault, which the object counted; the table is as before.
     Failed,
@@ -60,10 +61,11 @@ pub enum KeeperFail {
 }
 
 /// A table of records under keys. An object that tells its `table` changes it by nothing but what it answers
-/// `Done`; its count of `faults` never falls.
+/// `Done`; its count of `faults` never falls; and its `calls` are all that it had, each with its answer.
 pub trait Keeper {
-    ghost use Rattle.std.specs.Prelude.{ℕ, ◌≤◌, IfOk};
+    ghost use Rattle.std.specs.Prelude.{◌≡◌, ℕ, ◌≤◌, IfOk};
     ghost use Rattle.std.specs.declared.option.Option.{Option};
+    ghost use Rattle.edge_traits.specs.Calls.{Calls, load_answer, noted};
     ghost use Rattle.edge_traits.specs.Faults.{Rose};
     ghost use Rattle.edge_traits.specs.Pairs.{Records, IsAscending};
     ghost use Rattle.edge_traits.specs.Keeper.{HasPut, HasRemoved, AreAllOf, Stays, OnKeepFailed, OnLoadFailed};
@@ -72,17 +74,21 @@ pub trait Keeper {
 
     ghost faults: { Self → ℕ };
 
+    ghost calls: { Self → Calls };
+
     /// Puts the record under the key, in place of the one that is there.
     fn put(&mut self, key: &[u8], bytes: &[u8]) -> Kept
         ensures put { HasPut (table self.old) (table self.new) key.now bytes.now result }
         ensures cause { OnKeepFailed result (Rose (faults self.old) (faults self.new)) }
-        ensures counted { faults self.old ≤ faults self.new };
+        ensures counted { faults self.old ≤ faults self.new }
+        ensures noted { calls self.new ≡ noted (calls self.old) Request.Put result };
 
     /// Takes away the record under the key, if there is one.
     fn remove(&mut self, key: &[u8]) -> Kept
         ensures removed { HasRemoved (table self.old) (table self.new) key.now result }
         ensures cause { OnKeepFailed result (Rose (faults self.old) (faults self.new)) }
-        ensures counted { faults self.old ≤ faults self.new };
+        ensures counted { faults self.old ≤ faults self.new }
+        ensures noted { calls self.new ≡ noted (calls self.old) Request.Remove result };
 
     /// Gives all pairs in ascending order of key.
     fn load(&mut self) -> Result<Vec<Pair>, KeeperFail>
@@ -90,5 +96,6 @@ pub trait Keeper {
         ensures ascending { IfOk result (λ pairs. IsAscending pairs.items) }
         ensures unchanged { Stays (table self.old) (table self.new) }
         ensures cause { OnLoadFailed result (Rose (faults self.old) (faults self.new)) }
-        ensures counted { faults self.old ≤ faults self.new };
+        ensures counted { faults self.old ≤ faults self.new }
+        ensures noted { calls self.new ≡ noted (calls self.old) Request.Load (load_answer result) };
 }

@@ -2,9 +2,10 @@
 //!
 //! The contract: a call answers `Failed` only where the object's count of faults rose in that call, and what an object
 //! tells of itself changes by nothing but what the call answers. Code that is generic in these traits can't raise a
-//! count by itself.
+//! count by itself. A keeper tells each call that it had.
 #![tactic(auto)]
 
+mod call_log;
 mod clock;
 mod doorway;
 mod gate;
@@ -13,8 +14,9 @@ mod link;
 mod sink;
 mod source;
 
+pub use call_log::{CallLog, Note, Request};
 pub use clock::{Clock, StillClock};
-pub use doorway::{Came, Doorway};
+pub use doorway::{Answered, Came, Doorway};
 pub use gate::{Gate, OpenGate};
 pub use keeper::{Keeper, KeeperFail, Kept, Pair};
 pub use link::{Heard, Link};

@@ -1,11 +1,13 @@
 //! The table of records, in SQL, over any store of SQLite; and counts of faults.
 
 ghost use Rattle.std.specs.Prelude.{◌≡◌, ◌≤◌, IsTrue, IfOk};
+ghost use Rattle.edge_traits.specs.Calls.{load_answer, noted};
 ghost use Rattle.edge_traits.specs.Faults.{Rose};
 ghost use Rattle.edge_traits.specs.Keeper.{OnKeepFailed, OnLoadFailed};
 ghost use Rattle.edge_traits.specs.Pairs.{IsAscending, keys_order};
+ghost use Rattle.edge_traits.specs.declared.call_log.Request.{Request};
 
-use edge_traits::{KeeperFail, Kept, Pair};
+use edge_traits::{CallLog, KeeperFail, Kept, Pair, Request};
 use sqlite::{Alter, Connection, Error, ErrorCode, Rows, params};
 use sqlite_resolve::CompileError;
 use std::alloc::{AllocError, Global};
@@ -199,17 +201,30 @@ pub fn kept(faults: &mut u64, outcome: Result<(), KeeperFail>) -> Kept
     }
 }
 
-/// The answer to a load; counts the fault, if it was one.
+/// The answer to a load, which is noted; counts the fault, if it was one.
 pub fn loaded(
     faults: &mut u64,
+    calls: &mut CallLog,
     outcome: Result<Vec<Pair>, KeeperFail>,
 ) -> Result<Vec<Pair>, KeeperFail>
     ensures same { result ≡ outcome }
     ensures cause { OnLoadFailed result (Rose faults.old faults.new) }
     ensures counted { faults.old ≤ faults.new }
+    ensures noted { calls.new ≡ noted calls.old Request.Load (load_answer result) }
 {
-    if let Err(KeeperFail::Failed) = &outcome {
-        *faults = faults.saturating_add(1);
+    match outcome {
+        Ok(pairs) => {
+            calls.note(Request::Load, Kept::Done);
+            Ok(pairs)
+        }
+        Err(KeeperFail::Memory) => {
+            calls.note(Request::Load, Kept::Memory);
+            Err(KeeperFail::Memory)
+        }
+        Err(KeeperFail::Failed) => {
+            *faults = faults.saturating_add(1);
+            calls.note(Request::Load, Kept::Failed);
+            Err(KeeperFail::Failed)
+        }
     }
-    outcome
 }

@@ -1,12 +1,12 @@
 //! The keeper of a server: a file of SQLite.
 
-ghost use Rattle.std.specs.Prelude.{◌≡◌, ◌≤◌, IfOk};
+ghost use Rattle.std.specs.Prelude.{◌≡◌, ◌≤◌, [], IfOk};
 ghost use Rattle.edge_traits.specs.Faults.{Rose};
 ghost use Rattle.edge_traits.specs.Keeper.{OnKeepFailed};
 ghost use Rattle.edge_traits.specs.Pairs.{IsAscending};
 
 use crate::records::{Asked, carry_out, fail_of, kept, loaded};
-use edge_traits::{Keeper, KeeperFail, Kept, Pair};
+use edge_traits::{CallLog, Keeper, KeeperFail, Kept, Pair, Request};
 use sqlite::{Connection, File, FileStore};
 use std::alloc::Global;
 
@@ -24,18 +24,21 @@ pub struct SqliteKeeper {
     path: String,
     store: Option<Store>,
     faults: u64,
+    calls: CallLog,
 }
 
 impl SqliteKeeper {
     /// A keeper over the file at this path, which isn't opened yet.
     pub fn new(rt: HostRuntime, path: String) -> SqliteKeeper
-        ensures { result.faults ≡ 0 }
+        ensures faults { result.faults ≡ 0 }
+        ensures calls { result.calls ≡ [] }
     {
         SqliteKeeper {
             rt,
             path,
             store: None,
             faults: 0,
+            calls: CallLog::new(),
         }
     }
 
@@ -44,6 +47,7 @@ impl SqliteKeeper {
     pub fn close(&mut self) -> Kept
         ensures cause { OnKeepFailed result (Rose self.old.faults self.new.faults) }
         ensures counted { self.old.faults ≤ self.new.faults }
+        ensures calls { self.new.calls ≡ self.old.calls }
     {
         let outcome = close_store(&mut self.store);
         kept(&mut self.faults, outcome)
@@ -57,6 +61,8 @@ impl Keeper for SqliteKeeper {
 
     ghost faults = { λ keeper. keeper.faults };
 
+    ghost calls = { λ keeper. keeper.calls };
+
     fn put(&mut self, key: &[u8], bytes: &[u8]) -> Kept {
         let outcome = asked_of(
             &self.rt,
@@ -64,17 +70,19 @@ impl Keeper for SqliteKeeper {
             &mut self.store,
             Asked::Put { key, bytes },
         );
-        kept(&mut self.faults, done(outcome))
+        let answer = kept(&mut self.faults, done(outcome));
+        self.calls.note(Request::Put, answer)
     }
 
     fn remove(&mut self, key: &[u8]) -> Kept {
         let outcome = asked_of(&self.rt, &self.path, &mut self.store, Asked::Remove { key });
-        kept(&mut self.faults, done(outcome))
+        let answer = kept(&mut self.faults, done(outcome));
+        self.calls.note(Request::Remove, answer)
     }
 
     fn load(&mut self) -> Result<Vec<Pair>, KeeperFail> {
         let outcome = asked_of(&self.rt, &self.path, &mut self.store, Asked::Load);
-        loaded(&mut self.faults, outcome)
+        loaded(&mut self.faults, &mut self.calls, outcome)
     }
 }
 

@@ -1,12 +1,13 @@
 //! The keeper of commands that only read.
 
-ghost use Rattle.std.specs.Prelude.{◌≡◌, ◌≤◌, IfOk};
+ghost use Rattle.std.specs.Prelude.{◌≡◌, ◌≤◌, [], IfOk};
+ghost use Rattle.edge_traits.specs.Calls.{noted};
 ghost use Rattle.edge_traits.specs.Faults.{Rose};
 ghost use Rattle.edge_traits.specs.Pairs.{IsAscending};
 
 use crate::copied::Copied;
 use crate::records::{Asked, carry_out, fail_of, loaded};
-use edge_traits::{Keeper, KeeperFail, Kept, Pair};
+use edge_traits::{CallLog, Keeper, KeeperFail, Kept, Pair, Request};
 use sqlite::{Connection, FileStore, Files, Options};
 use std::alloc::Global;
 use std::fs;
@@ -29,33 +30,38 @@ pub struct StoreReader {
     rt: HostRuntime,
     path: String,
     faults: u64,
+    calls: CallLog,
 }
 
 impl StoreReader {
     /// A reader of the file at this path, which isn't read yet.
     pub fn new(rt: HostRuntime, path: String) -> StoreReader
-        ensures { result.faults ≡ 0 }
+        ensures faults { result.faults ≡ 0 }
+        ensures calls { result.calls ≡ [] }
     {
         StoreReader {
             rt,
             path,
             faults: 0,
+            calls: CallLog::new(),
         }
     }
 
     /// The answer to a change, which is a fault.
-    fn refuse(&mut self) -> Kept
+    fn refuse(&mut self, request: Request) -> Kept
         ensures refused { result ≡ Kept.Failed }
         ensures rose { Rose self.old.faults self.new.faults }
         ensures counted { self.old.faults ≤ self.new.faults }
+        ensures noted { self.new.calls ≡ noted self.old.calls request Kept.Failed }
     {
         self.faults = self.faults.saturating_add(1);
-        Kept::Failed
+        self.calls.note(request, Kept::Failed)
     }
 }
 
 impl Keeper for StoreReader {
     ghost use Rattle.std.specs.Prelude.{◌≡◌, ◌≤◌, None};
+    ghost use Rattle.edge_traits.specs.Calls.{noted};
     ghost use Rattle.edge_traits.specs.Faults.{Rose};
     ghost use Rattle.edge_traits.specs.Keeper.{HasPut, HasRemoved, OnKeepFailed};
 
@@ -63,27 +69,31 @@ impl Keeper for StoreReader {
 
     ghost faults = { λ reader. reader.faults };
 
+    ghost calls = { λ reader. reader.calls };
+
     fn put(&mut self, _key: &[u8], _bytes: &[u8]) -> Kept
         ensures put { HasPut None None _key.now _bytes.now result }
         ensures cause { OnKeepFailed result (Rose self.old.faults self.new.faults) }
         ensures counted { self.old.faults ≤ self.new.faults }
+        ensures noted { self.new.calls ≡ noted self.old.calls Request.Put result }
         ensures refused { result ≡ Kept.Failed }
     {
-        self.refuse()
+        self.refuse(Request::Put)
     }
 
     fn remove(&mut self, _key: &[u8]) -> Kept
         ensures removed { HasRemoved None None _key.now result }
         ensures cause { OnKeepFailed result (Rose self.old.faults self.new.faults) }
         ensures counted { self.old.faults ≤ self.new.faults }
+        ensures noted { self.new.calls ≡ noted self.old.calls Request.Remove result }
         ensures refused { result ≡ Kept.Failed }
     {
-        self.refuse()
+        self.refuse(Request::Remove)
     }
 
     fn load(&mut self) -> Result<Vec<Pair>, KeeperFail> {
         let outcome = load_copy(&self.rt, &self.path);
-        loaded(&mut self.faults, outcome)
+        loaded(&mut self.faults, &mut self.calls, outcome)
     }
 }
 

@@ -1,12 +1,14 @@
 -- What an answer says of a table, where that is told.
-use Rattle.std.proofs.Common.{◌≡◌, ℕ, List, IfOk, IfSome, Err, Result, sym, subst}
+use Rattle.std.proofs.Common.{◌≡◌, ℕ, List, IfOk, IfSome, Ok, Err, Result, refl, sym, subst}
 use Rattle.std.specs.declared.option.Option.{Option}
 use Rattle.std.specs.declared.option.Option.TheVariants.{None, Some}
 use Rattle.std.specs.FinMap as map
 use Rattle.edge_traits.specs.Keeper.{AreAllOf}
 use Rattle.edge_traits.specs.Pairs.{IsAscending, Pairs, Records}
 use Rattle.lobby_state.specs.Lobby.{LobbyState}
+use Rattle.edge_traits.specs.declared.keeper.Kept.TheVariants.{Done}
 use Rattle.lobby_load.specs.BadRows.{IsGoodStore}
+use Rattle.lobby_load.specs.Calling.{LoadsAt}
 use Rattle.lobby_load.specs.Filling.{HasRows, NamesKey}
 use Rattle.lobby_load.specs.Loaded.{HasLoaded, HasSizes}
 use Rattle.lobby_load.specs.Refused.{OnBadRecord, OnKeeperFault}
@@ -49,3 +51,10 @@ pub named_no_fault : (A : Type 0) (key : List ℕ) (refusal : LoadRefusal) → N
 named_no_fault A key (BadRecord named) is = tt
 named_no_fault A key KeeperFault is = is
 named_no_fault A key Memory is = tt
+
+-- a load that went well, and what was made of it
+pub made_at : (A : Type 0) (r : Result A LoadRefusal) → OnKeeperFault r ⊥ → LoadsAt r Done
+made_at A (Ok lobby) calm = refl
+made_at A (Err (BadRecord named)) calm = refl
+made_at A (Err KeeperFault) calm = absurd calm
+made_at A (Err Memory) calm = λ bad. cc

@@ -7,6 +7,7 @@ ghost use Rattle.lobby_state.specs.Lobby.{opening};
 ghost use Rattle.lobby_load.specs.BadRows.{IsGoodStore, IsLeastBad};
 ghost use Rattle.lobby_load.specs.Filling.{HasRows, IsLeastBadOf, NamesKey};
 ghost use Rattle.lobby_load.specs.Loaded.{AreSpelled, HasLoaded, HasSizes, IsAtOpening};
+ghost use Rattle.lobby_load.specs.Calling.{LoadsAt, LoadsOnce};
 ghost use Rattle.lobby_load.specs.Refused.{OnBadRecord, OnKeeperFault};
 
 use crate::refusals::LoadRefusal;
@@ -30,6 +31,7 @@ pub fn load<P: Keeper>(alloc: Global, keeper: &mut P) -> Result<Lobby, LoadRefus
     ensures good { IfOk result (λ lobby. IfSome (P.table keeper.old) IsGoodStore) }
     ensures bad { OnBadRecord result (λ key. IfSome (P.table keeper.old) (λ table. IsLeastBad table key)) }
     ensures unchanged { Stays (P.table keeper.old) (P.table keeper.new) }
+    ensures called { LoadsOnce (P.calls keeper.old) (P.calls keeper.new) (LoadsAt result) }
     ensures cause { OnKeeperFault result (Rose (P.faults keeper.old) (P.faults keeper.new)) }
     ensures counted { P.faults keeper.old ≤ P.faults keeper.new }
 {

@@ -3,6 +3,7 @@ ghost use Rattle.std.specs.Prelude.{◌≡◌, ◌≤◌, IfOk, IfSome};
 ghost use Rattle.edge_traits.specs.Faults.{Rose};
 ghost use Rattle.edge_traits.specs.Keeper.{Stays};
 ghost use Rattle.lobby_load.specs.BadRows.{IsGoodStore};
+ghost use Rattle.lobby_load.specs.Calling.{LoadsOnce, OpensAt};
 ghost use Rattle.lobby_load.specs.Loaded.{AreSpelled, HasLoaded, HasSizes, IsAtOpening};
 ghost use Rattle.lobby_load.specs.Refused.{IfWriteFault, OnReadFault, OnWriteFault, UnlessUnwritten, UnlessWriteFault};
 ghost use Rattle.lobby_load.specs.Telling.{Tells, TellsKey, bad_record_line};
@@ -31,6 +32,7 @@ pub fn open_store<P: Keeper, K: Sink>(
     ensures good { IfOk result (λ lobby. IfSome (P.table keeper.old) IsGoodStore) }
     ensures tells { Tells (P.table keeper.old) (K.written sink.old) (K.written sink.new) result }
     ensures unchanged { Stays (P.table keeper.old) (P.table keeper.new) }
+    ensures called { LoadsOnce (P.calls keeper.old) (P.calls keeper.new) (OpensAt result) }
     ensures keeper_cause { OnReadFault result (Rose (P.faults keeper.old) (P.faults keeper.new)) }
     ensures keeper_counted { P.faults keeper.old ≤ P.faults keeper.new }
     ensures write_cause { OnWriteFault result (Rose (K.faults sink.old) (K.faults sink.new)) }

@@ -1,5 +1,5 @@
 -- Orders that are carried out one after another.
-use Rattle.std.proofs.Common.{◌≡◌, ℕ, true, cond, List, [], ◌∷◌, ◌++◌, Option, None, Some, refl, sym, ap, subst, ◌∙◌}
+use Rattle.std.proofs.Common.{◌≡◌, ℕ, true, cond, List, [], ◌∷◌, ◌++◌, Option, None, Some, refl, sym, ap, subst, ◌∙◌, append_assoc}
 use Rattle.std.specs.Prelude.{bytes_eq}
 use Rattle.std.specs.Ordering.{eq_by_cmp, is_eq}
 use Rattle.std.specs.declared.cmp.Ordering.{Ordering}
@@ -9,6 +9,8 @@ use Rattle.std.specs.Cmp.Lexicographic.{nat_list_cmp_total}
 use Rattle.std.specs.FinMap as map
 use Rattle.std.specs.FinMap.{get-insert, get-remove, nat_cmp-IsAntisymmetric, slice_cmp-IsAntisymmetric}
 use Rattle.std.proofs.lemmas.Slice.Eq.{bytes_eq-Decides}
+use Rattle.std.proofs.lemmas.List.{map-append}
+use Rattle.edge_traits.specs.Calls.{Calls, note, noted}
 use Rattle.edge_traits.specs.Keeper.{HasPut, HasRemoved}
 use Rattle.edge_traits.specs.Pairs.{Records, keys_order}
 use Rattle.edge_traits.specs.declared.keeper.Kept.{Kept}
@@ -16,7 +18,7 @@ use Rattle.edge_traits.specs.declared.keeper.Kept.TheVariants.{Done, Failed, Mem
 use Rattle.lobby_shelf.specs.Wanted.{StoreMap, table_with}
 use Rattle.lobby_shelf.specs.declared.order.Order.{Order}
 use Rattle.lobby_shelf.proofs.Leading.{same_table, table_with-append}
-use Rattle.lobby_store.specs.Carrying.{Carries, CarriesOne, held}
+use Rattle.lobby_store.specs.Carrying.{CallsFor, Carries, CarriesOne, asked_with, calls_for, held}
 
 -- no orders, and more of them
 pub carries_none : (table : Option Records) → Carries table table []
@@ -32,6 +34,17 @@ carries_then (Some old) (Some mid) None first rest p q = absurd q
 carries_then (Some old) (Some mid) (Some new) first rest p q = λ key.
     q key ∙ same_table (held mid) (table_with (held old) first) rest key (p key)
     ∙ ap (λ (t : StoreMap). t key) (sym (table_with-append (held old) first rest))
+
+-- the calls for orders, and for one more
+calls_then : (old mid : Calls) (first rest : List Order) → mid ≡ old ++ calls_for first → mid ++ calls_for rest ≡ old ++ calls_for (first ++ rest)
+calls_then old mid first rest is =
+    ap (λ (c : Calls). c ++ calls_for rest) is ∙ append_assoc old (calls_for first) (calls_for rest)
+    ∙ ap (λ (c : Calls). old ++ c) (sym (map-append (λ (order : Order). note (asked_with order.bytes) Done) first rest))
+
+pub called_then : (kept : Kept) (old mid new : Calls) (first rest : List Order) → mid ≡ old ++ calls_for first → CallsFor kept rest mid new → CallsFor kept (first ++ rest) old new
+called_then Done old mid new first rest is p = p ∙ calls_then old mid first rest is
+called_then Failed old mid new first rest is p = (p.0, p.1 ∙ ap (λ (c : Calls). noted c p.0 Failed) (calls_then old mid first rest is))
+called_then Memory old mid new first rest is p = (p.0, p.1 ∙ ap (λ (c : Calls). noted c p.0 Memory) (calls_then old mid first rest is))
 
 -- the two tests of keys say the same
 is_tied : (o : Ordering) → is_eq o ≡ true → o ≡ Equal

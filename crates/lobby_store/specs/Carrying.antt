@@ -1,10 +1,13 @@
--- What carrying out save orders makes of a keeper's table. This server's own.
-use Rattle.std.specs.Prelude.{◌≡◌, ℕ, List, [], ◌∷◌}
+-- What carrying out save orders makes of a keeper's table, and by which calls. This server's own.
+use Rattle.std.specs.Prelude.{◌≡◌, ℕ, List, [], ◌∷◌, ◌++◌, Some, None, map as each}
 use Rattle.std.specs.declared.option.Option.{Option}
 use Rattle.std.specs.FinMap as map
+use Rattle.edge_traits.specs.Calls.{Calls, note, noted}
 use Rattle.edge_traits.specs.Keeper.{Stays}
 use Rattle.edge_traits.specs.Pairs.{Records}
 use Rattle.edge_traits.specs.WhereTold.{WhereTold}
+use Rattle.edge_traits.specs.declared.call_log.Request.{Request}
+use Rattle.edge_traits.specs.declared.call_log.Request.TheVariants.{Put, Remove}
 use Rattle.edge_traits.specs.declared.keeper.Kept.{Kept}
 use Rattle.edge_traits.specs.declared.keeper.Kept.TheVariants.{Done, Failed, Memory}
 use Rattle.lobby_shelf.specs.Wanted.{table_with}
@@ -24,3 +27,19 @@ abbrev pub CarriesOne : Option Records → Option Records → Order → Kept →
 CarriesOne old new order Done = Carries old new (order ∷ [])
 CarriesOne old new order Failed = Stays old new
 CarriesOne old new order Memory = Stays old new
+
+-- what a keeper is asked to do with what an order has: to put the record, or to remove the key where there is none
+abbrev pub asked_with : Option (List ℕ) → Request
+asked_with (Some bytes) = Put
+asked_with None = Remove
+
+-- the calls in which these orders were carried out: one for each, in their order
+abbrev pub calls_for : List Order → Calls
+calls_for orders = each (λ order. note (asked_with order.bytes) Done) orders
+
+-- from the one time to the other a keeper had the calls for these orders, and one more where it failed or ran out of
+-- memory at it
+abbrev pub CallsFor : Kept → List Order → Calls → Calls → Type 0
+CallsFor Done orders old new = new ≡ old ++ calls_for orders
+CallsFor Failed orders old new = (request : Request) × (new ≡ noted (old ++ calls_for orders) request Failed)
+CallsFor Memory orders old new = (request : Request) × (new ≡ noted (old ++ calls_for orders) request Memory)

@@ -1,9 +1,10 @@
 //! Save orders are carried out at a keeper.
 ghost use Rattle.std.specs.Prelude.{◌≡◌, ◌≤◌, length, take};
+ghost use Rattle.edge_traits.specs.Calls.{noted};
 ghost use Rattle.edge_traits.specs.Faults.{Rose};
 ghost use Rattle.edge_traits.specs.Keeper.{OnKeepFailed};
 ghost use Rattle.edge_traits.specs.declared.keeper.Kept.{Kept};
-ghost use Rattle.lobby_store.specs.Carrying.{Carries, CarriesOne};
+ghost use Rattle.lobby_store.specs.Carrying.{CallsFor, Carries, CarriesOne, asked_with};
 
 use edge_traits::{Keeper, Kept};
 use lobby_shelf::Order;
@@ -18,12 +19,14 @@ pub struct Carried {
 }
 
 /// Hands the orders to the keeper, one after another, until one isn't carried out: it puts the record of an order under
-/// the order's key, or removes the key where the order has no record. What was carried out stays so.
+/// the order's key, or removes the key where the order has no record. What was carried out stays so. The keeper has no
+/// other calls.
 pub fn carry_out<P: Keeper>(keeper: &mut P, orders: &[Order]) -> Carried
     ensures few { result.count ≤ length orders.now }
     ensures all { result.end ≡ Kept.Done → result.count ≡ length orders.now }
     ensures only_all { result.count ≡ length orders.now → result.end ≡ Kept.Done }
     ensures carried { Carries (P.table keeper.old) (P.table keeper.new) (take result.count orders.now) }
+    ensures calls { CallsFor result.end (take result.count orders.now) (P.calls keeper.old) (P.calls keeper.new) }
     ensures cause { OnKeepFailed result.end (Rose (P.faults keeper.old) (P.faults keeper.new)) }
     ensures counted { P.faults keeper.old ≤ P.faults keeper.new }
 {
@@ -43,6 +46,7 @@ pub fn carry_out<P: Keeper>(keeper: &mut P, orders: &[Order]) -> Carried
 /// Hands the order to the keeper.
 fn carry_one<P: Keeper>(keeper: &mut P, order: &Order) -> Kept
     ensures carried { CarriesOne (P.table keeper.old) (P.table keeper.new) order.now result }
+    ensures noted { P.calls keeper.new ≡ noted (P.calls keeper.old) (asked_with order.now.bytes) result }
     ensures cause { OnKeepFailed result (Rose (P.faults keeper.old) (P.faults keeper.new)) }
     ensures counted { P.faults keeper.old ≤ P.faults keeper.new }
 {

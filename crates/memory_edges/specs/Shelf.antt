@@ -2,15 +2,17 @@
 use Rattle.std.specs.Prelude.{◌≡◌, ℕ, ◌<◌, ◌≤◌, not, List, length, slice_set, insert, remove, filter}
 use Rattle.std.specs.Ordering.{eq_by_cmp}
 use Rattle.std.specs.FinMap.{put}
+use Rattle.edge_traits.specs.Calls.{Calls}
 use Rattle.edge_traits.specs.Pairs.{Pairs, keys_order}
 use Rattle.memory_edges.specs.Plan.{Plan}
 use Rattle.memory_edges.specs.declared.mem_keeper.KeyPlace.{KeyPlace}
 use Rattle.memory_edges.specs.declared.mem_keeper.KeyPlace.TheVariants.{At, Gap}
 
--- a keeper in memory: its pairs in ascending order of key, and its plan of faults
+-- a keeper in memory: its pairs in ascending order of key, its plan of faults, and the calls that it had
 pub record Shelf : Type 0 where
   pub pairs : Pairs
   pub plan : Plan
+  pub calls : Calls
 
 -- the pairs with another key
 abbrev pub without : List ℕ → Pairs → Pairs

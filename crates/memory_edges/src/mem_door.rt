@@ -7,7 +7,7 @@ ghost use Rattle.memory_edges.specs.MemDoor.{numbered};
 
 use crate::fault_plan::FaultPlan;
 use crate::mem_link::MemLink;
-use edge_traits::{Came, Doorway};
+use edge_traits::{Answered, Came, Doorway};
 use std::marker::Model;
 use std::snapshot::Snapshot;
 
@@ -22,6 +22,7 @@ pub struct MemDoor {
     /// How many are to come, and how many came.
     left: usize,
     came: usize,
+    last: Answered,
     plan: FaultPlan,
 }
 
@@ -37,6 +38,7 @@ impl Model for MemDoor {
         came = told_by (take door.came door.all.value.items);
         back = numbered (drop door.left door.links.items);
         quiets = 0;
+        last = door.last;
       };
       plan = door.plan;
     } };
@@ -57,7 +59,13 @@ impl MemDoor {
     pub fn new(links: Vec<MemLink>, fails: Vec<u64>) -> MemDoor
         requires { AreNew links.items }
         ensures { result ≡ record {
-          tale = record { left = told_by links.items; came = []; back = []; quiets = 0 };
+          tale = record {
+            left = told_by links.items;
+            came = [];
+            back = [];
+            quiets = 0;
+            last = Answered.Nothing;
+          };
           plan = record { fails = fails.items; calls = 0; faults = 0 };
         } }
     {
@@ -65,6 +73,7 @@ impl MemDoor {
             all: Snapshot::of(&links),
             left: links.len(),
             came: 0,
+            last: Answered::Nothing,
             links,
             plan: FaultPlan::new(fails),
         }
@@ -118,11 +127,14 @@ impl Doorway for MemDoor {
         ensures no_quiet { IsQuiet result → ⊥ }
     {
         if self.plan.is_to_fail() {
+            self.last = Answered::Failed;
             return Came::Failed;
         }
         if self.left == 0 {
+            self.last = Answered::Closed;
             return Came::Closed;
         }
+        self.last = Answered::Link;
         self.left -= 1;
         self.came += 1;
         Came::Link(self.links.remove(0))

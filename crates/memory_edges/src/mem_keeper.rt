@@ -6,7 +6,7 @@ ghost use Rattle.edge_traits.specs.Pairs.{IsAscending, keys_order};
 ghost use Rattle.memory_edges.specs.Shelf.{IsPlace, without};
 
 use crate::fault_plan::FaultPlan;
-use edge_traits::{Keeper, KeeperFail, Kept, Pair};
+use edge_traits::{CallLog, Keeper, KeeperFail, Kept, Pair, Request};
 use memory::{Duplicate, NoMemory};
 use std::alloc::Global;
 use std::cmp::Ordering;
@@ -17,6 +17,7 @@ use std::marker::Model;
 pub struct MemKeeper {
     pairs: Vec<Pair>,
     plan: FaultPlan,
+    calls: CallLog,
 }
 
 impl Model for MemKeeper {
@@ -25,7 +26,11 @@ impl Model for MemKeeper {
 
     ghost Value = { Shelf };
 
-    ghost view = { λ keeper. record { pairs = keeper.pairs.items; plan = keeper.plan } };
+    ghost view = { λ keeper. record {
+      pairs = keeper.pairs.items;
+      plan = keeper.plan;
+      calls = keeper.calls;
+    } };
 
     ghost invariant = { λ keeper. IsAscending keeper.pairs.items };
 }
@@ -46,11 +51,16 @@ impl MemKeeper {
 
     /// A keeper with an empty table; `fails` are the numbers of the calls that fail, from 0.
     pub fn new(alloc: Global, fails: Vec<u64>) -> MemKeeper
-        ensures { result ≡ record { pairs = []; plan = record { fails = fails.items; calls = 0; faults = 0 } } }
+        ensures { result ≡ record {
+          pairs = [];
+          plan = record { fails = fails.items; calls = 0; faults = 0 };
+          calls = [];
+        } }
     {
         MemKeeper {
             pairs: Vec::new(alloc),
             plan: FaultPlan::new(fails),
+            calls: CallLog::new(),
         }
     }
 
@@ -66,6 +76,7 @@ impl MemKeeper {
 impl Keeper for MemKeeper {
     ghost use Rattle.std.specs.Prelude.{◌≡◌, ◌≢◌, ◌≤◌, ◌↔◌, Some, IfOk, Err};
     ghost use Rattle.std.specs.FinMap as map;
+    ghost use Rattle.edge_traits.specs.Calls.{load_answer, noted};
     ghost use Rattle.edge_traits.specs.Faults.{Rose};
     ghost use Rattle.memory_edges.specs.Plan.{IsToFail, after_call};
     ghost use Rattle.edge_traits.specs.Pairs.{IsAscending};
@@ -76,21 +87,24 @@ impl Keeper for MemKeeper {
 
     ghost faults = { λ keeper. keeper.plan.faults };
 
+    ghost calls = { λ keeper. keeper.calls };
+
     fn put(&mut self, key: &[u8], bytes: &[u8]) -> Kept
         ensures put { HasPut (Some (map.from_sorted self.old.pairs))
             (Some (map.from_sorted self.new.pairs)) key.now bytes.now result }
         ensures cause { OnKeepFailed result (Rose self.old.plan.faults self.new.plan.faults) }
         ensures counted { self.old.plan.faults ≤ self.new.plan.faults }
+        ensures noted { self.new.calls ≡ noted self.old.calls Request.Put result }
         ensures failed { (result ≡ Kept.Failed) ↔ IsToFail self.old.plan }
         ensures plan { self.new.plan ≡ after_call self.old.plan (keep_failed result) }
     {
         if self.plan.is_to_fail() {
-            return Kept::Failed;
+            return self.calls.note(Request::Put, Kept::Failed);
         }
         let Ok(()) = put_pair(&mut self.pairs, key, bytes) else {
-            return Kept::Memory;
+            return self.calls.note(Request::Put, Kept::Memory);
         };
-        Kept::Done
+        self.calls.note(Request::Put, Kept::Done)
     }
 
     /// Takes no memory.
@@ -99,15 +113,16 @@ impl Keeper for MemKeeper {
             (Some (map.from_sorted self.new.pairs)) key.now result }
         ensures cause { OnKeepFailed result (Rose self.old.plan.faults self.new.plan.faults) }
         ensures counted { self.old.plan.faults ≤ self.new.plan.faults }
+        ensures noted { self.new.calls ≡ noted self.old.calls Request.Remove result }
         ensures failed { (result ≡ Kept.Failed) ↔ IsToFail self.old.plan }
         ensures no_memory { result ≢ Kept.Memory }
         ensures plan { self.new.plan ≡ after_call self.old.plan (keep_failed result) }
     {
         if self.plan.is_to_fail() {
-            return Kept::Failed;
+            return self.calls.note(Request::Remove, Kept::Failed);
         }
         remove_pair(&mut self.pairs, key);
-        Kept::Done
+        self.calls.note(Request::Remove, Kept::Done)
     }
 
     fn load(&mut self) -> Result<Vec<Pair>, KeeperFail>
@@ -116,16 +131,20 @@ impl Keeper for MemKeeper {
         ensures unchanged { Stays (Some (map.from_sorted self.old.pairs)) (Some (map.from_sorted self.new.pairs)) }
         ensures cause { OnLoadFailed result (Rose self.old.plan.faults self.new.plan.faults) }
         ensures counted { self.old.plan.faults ≤ self.new.plan.faults }
+        ensures noted { self.new.calls ≡ noted self.old.calls Request.Load (load_answer result) }
         ensures failed { (result ≡ Err KeeperFail.Failed) ↔ IsToFail self.old.plan }
         ensures plan { self.new.plan ≡ after_call self.old.plan (load_failed result) }
         ensures pairs { self.new.pairs ≡ self.old.pairs }
     {
         if self.plan.is_to_fail() {
+            self.calls.note(Request::Load, Kept::Failed);
             return Err(KeeperFail::Failed);
         }
         let Ok(copies) = copies_of(*self.pairs.allocator(), self.pairs.as_slice()) else {
+            self.calls.note(Request::Load, Kept::Memory);
             return Err(KeeperFail::Memory);
         };
+        self.calls.note(Request::Load, Kept::Done);
         Ok(copies)
     }
 }

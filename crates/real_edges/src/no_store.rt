@@ -1,6 +1,6 @@
 //! The keeper of a program that has no store.
 
-use edge_traits::{Keeper, KeeperFail, Kept, Pair};
+use edge_traits::{CallLog, Keeper, KeeperFail, Kept, Pair, Request};
 use std::alloc::Global;
 
 /// A keeper where nothing is to be kept: each change is answered Done and leaves nothing, there is nothing to load, and
@@ -8,12 +8,16 @@ use std::alloc::Global;
 #[derive(Drop)]
 pub struct NoStore {
     alloc: Global,
+    calls: CallLog,
 }
 
 impl NoStore {
     /// A keeper that was not called yet.
     pub fn new(alloc: Global) -> NoStore {
-        NoStore { alloc }
+        NoStore {
+            alloc,
+            calls: CallLog::new(),
+        }
     }
 }
 
@@ -24,15 +28,18 @@ impl Keeper for NoStore {
 
     ghost faults = { λ _. 0 };
 
+    ghost calls = { λ store. store.calls };
+
     fn put(&mut self, _key: &[u8], _bytes: &[u8]) -> Kept {
-        Kept::Done
+        self.calls.note(Request::Put, Kept::Done)
     }
 
     fn remove(&mut self, _key: &[u8]) -> Kept {
-        Kept::Done
+        self.calls.note(Request::Remove, Kept::Done)
     }
 
     fn load(&mut self) -> Result<Vec<Pair>, KeeperFail> {
+        self.calls.note(Request::Load, Kept::Done);
         Ok(Vec::new(self.alloc))
     }
 }

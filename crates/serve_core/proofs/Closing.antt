@@ -32,7 +32,8 @@ use Rattle.serve_core.specs.Keeping.{Underway}
 use Rattle.serve_core.specs.Sessions.{CameAs, CameBack, HadSession}
 use Rattle.serve_core.specs.Serving.{AgreesIn, EachHadSession, HasOneHistory, HasServedAll, IsUnused, TellsAgreed}
 use Rattle.serve_core.specs.Text.{SaysText}
-use Rattle.serve_core.specs.Outside.{Sheet, Store}
+use Rattle.serve_core.specs.Outside.{Sheet}
+use Rattle.edge_traits.specs.Calls.{Store}
 use Rattle.serve_core.specs.Stewarding.{AreTurns, HasTended, MayEnd}
 use Rattle.serve_core.specs.Tending.{GivesQuiets, Tended, stand}
 use Rattle.serve_core.specs.Turns.{TurnsLast}
@@ -62,7 +63,7 @@ told_agreed parts opening (Some before) (Some after) old new stays whole none wa
 -- the steward that were made, from the opening on
 module _ {C : Type 0} (shows : C → ℕ → Bool) (hall : TableId) (clock : C) (supply : Supply) (opens door : Option DoorTale) (opening : List Part) (pass new : PassState) (old mid after : Store) (last : StewardEnd) (made : Supply)
     (k : Underway shows hall clock supply door pass []) (tended : Tended (stand (first_pass hall opening) Enough opens old) (stand pass supply door mid)) (unused : IfSome opens IsUnused) (whole : IsWhole opening)
-    (t : TurnsLast last made mid.table after.table pass new) (fault : last ≡ steward.KeeperFault → Rose mid.faults after.faults) (counted : mid.faults ≤ after.faults) where
+    (t : TurnsLast last made mid after pass new) (fault : last ≡ steward.KeeperFault → Rose mid.faults after.faults) (counted : mid.faults ≤ after.faults) where
   abbrev start : RunnerState
   start = runs_of (first_pass hall opening)
 
@@ -77,22 +78,22 @@ module _ {C : Type 0} (shows : C → ℕ → Bool) (hall : TableId) (clock : C) 
   everyone m low high = in_joined m (k.numbers m low high)
 
   splits_are : new.splits ≡ pass.splits
-  splits_are = last_splits last made mid.table after.table pass new t
+  splits_are = last_splits last made mid after pass new t
 
   is_first : new.number ≡ 0
-  is_first = last_number last made mid.table after.table pass new t ∙ k.first
+  is_first = last_number last made mid after pass new t ∙ k.first
 
   opening_is : new.opening ≡ opening
-  opening_is = last_opening last made mid.table after.table pass new t ∙ ap (λ (s : RunnerState). s.opening) (tended.grew start_known).same
+  opening_is = last_opening last made mid after pass new t ∙ ap (λ (s : RunnerState). s.opening) (tended.grew start_known).same
 
   opening_was : pass.opening ≡ opening
   opening_was = ap (λ (s : RunnerState). s.opening) (tended.grew start_known).same
 
   joined_are : new.joined ≡ pass.joined
-  joined_are = last_joined last made mid.table after.table pass new t
+  joined_are = last_joined last made mid after pass new t
 
   own_calls : calls_of 0 new.seen ≡ new.made
-  own_calls = own_last last made mid.table after.table pass new t k.first everyone
+  own_calls = own_last last made mid after pass new t k.first everyone
 
   -- up to the look before the last turn
   ready : Tended (stand (first_pass hall opening) Enough opens old) (stand t.first supply door mid)
@@ -102,7 +103,7 @@ module _ {C : Type 0} (shows : C → ℕ → Bool) (hall : TableId) (clock : C) 
   ready_made = (ready.grew start_known).more
 
   made_is : calls_of 0 new.seen ≡ ready.entries ++ t.made.turn.entries
-  made_is = own_calls ∙ last_made last made mid.table after.table pass new t ∙ ap (λ (l : Log). l ++ t.made.turn.entries) ready_made
+  made_is = own_calls ∙ last_made last made mid after pass new t ∙ ap (λ (l : Log). l ++ t.made.turn.entries) ready_made
 
   known_seen : AllByRecursion (IsNoOthers 0) new.seen → NoOthersSave start (runs_of new)
   known_seen none = record { gained = new.seen; is = refl; none = none }
@@ -142,8 +143,8 @@ module _ {C : Type 0} (shows : C → ℕ → Bool) (hall : TableId) (clock : C) 
       none_after = nobody_else;
     }
 
-    turns_before : AreTurns (MayEnd (b ≡ true)) ready.count old.faults mid.faults ready.entries
-    turns_before = turns_as (MayEnd (supply ≡ Short)) (MayEnd (b ≡ true)) (may_end (supply ≡ Short) (b ≡ true) short) ready.count old.faults mid.faults ready.entries ready.turns
+    turns_before : AreTurns (MayEnd (b ≡ true)) ready.count old mid ready.entries
+    turns_before = turns_as (MayEnd (supply ≡ Short)) (MayEnd (b ≡ true)) (may_end (supply ≡ Short) (b ≡ true) short) ready.count old mid ready.entries ready.turns
 
     quiets_then : IfSome door (λ tale. ready.count ≡ tale.quiets)
     quiets_then = told_then opens door (GivesQuiets ready.count) IsUnused (λ tale. ready.count ≡ tale.quiets) (λ a b gives none. omega (arith, gives, none.2)) ready.quiets unused
@@ -165,21 +166,27 @@ module _ {C : Type 0} (shows : C → ℕ → Bool) (hall : TableId) (clock : C) 
       back = told_and door (λ tale. length tale.came ≡ pass.splits) (λ tale. length tale.back + 0 ≡ length tale.came) (λ tale. length tale.back ≡ new.splits) (λ tale n m. omega (arith, n, m, splits_are)) k.came k.out;
     }
 
-    tended_all : HasTended (b ≡ true) last door old.faults after.faults new.opening new.seen
+    tended_all : HasTended (b ≡ true) last door old after new.opening new.seen
     tended_all = record {
       count = ready.count;
       first = ready.entries;
-      mid = mid.faults;
-      turn = last_is last made mid.table after.table pass new t;
+      mid = mid;
+      turn = last_is last made mid after pass new t;
       earlier = t.first.seen;
       turns = turns_before;
       quiets = quiets_then;
       counted = counted;
       ended = refl;
-      ends = record { fault = fault; memory = λ e. short_last (t.made.short e); clearing = λ e. short_last (t.made.short_first e) };
+      ends = record {
+        called = t.made.turn.called;
+        fault = fault;
+        memory = λ e. short_last (t.made.short e);
+        clearing = λ e. short_last (t.made.short_first e);
+        kept = t.made.turn.kept;
+      };
       made_is = made_is;
-      stands_last = last_seen last made mid.table after.table pass new t k.first everyone;
-      orders = last_leaves last made mid.table after.table pass new t k.first everyone (subst IsWhole (sym opening_was) whole);
+      stands_last = last_seen last made mid after pass new t k.first everyone;
+      orders = last_leaves last made mid after pass new t k.first everyone (subst IsWhole (sym opening_was) whole);
     }
 
     pub served_all : (end : ServeEnd) (before later : Sheet) → SaysText end b last door pass.splits before later → HasServedAll (shows clock) opening end door before later old after (noted b new)
@@ -193,11 +200,11 @@ module _ {C : Type 0} (shows : C → ℕ → Bool) (hall : TableId) (clock : C) 
     }
 
   pub still_here : new.home ≡ hall
-  still_here = last_home last made mid.table after.table pass new t ∙ k.here
+  still_here = last_home last made mid after pass new t ∙ k.here
 
 pub all_served : {C : Type 0} (shows : C → ℕ → Bool) (hall : TableId) (clock : C) (supply : Supply) (opens door : Option DoorTale) (opening : List Part) (first pass new : PassState) (old mid after : Store) (last : StewardEnd) (made : Supply)
     → Underway shows hall clock supply door pass [] → first ≡ first_pass hall opening → Tended (stand first Enough opens old) (stand pass supply door mid) → IfSome opens IsUnused → IsWhole first.opening
-    → TurnsLast last made mid.table after.table pass new → (last ≡ steward.KeeperFault → Rose mid.faults after.faults) → mid.faults ≤ after.faults
+    → TurnsLast last made mid after pass new → (last ≡ steward.KeeperFault → Rose mid.faults after.faults) → mid.faults ≤ after.faults
     → (b : Bool) → (supply ≡ Short → b ≡ true) → (made ≡ Short → b ≡ true) → (end : ServeEnd) (before later : Sheet) → SaysText end b last door pass.splits before later
     → HasServedAll (shows clock) first.opening end door before later old after (noted b new)
 all_served shows hall clock supply opens door opening first pass new old mid after last made k is tended unused whole t fault counted b short short_last end before later leaves =

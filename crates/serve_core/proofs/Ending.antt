@@ -14,7 +14,7 @@ use Rattle.serve_core.specs.declared.end.ServeEnd.TheVariants.{Done, DoorFault, 
 use Rattle.serve_core.specs.declared.settle.Supply.{Supply}
 use Rattle.serve_core.specs.declared.settle.Supply.TheVariants.{Enough, Short}
 use Rattle.serve_core.specs.StewardLaws.{IsDone}
-use Rattle.serve_core.specs.Stopping.{IsClean, IsStopped, end_of, is_short}
+use Rattle.serve_core.specs.Stopping.{IsClean, end_of, is_short}
 use Rattle.serve_core.specs.Text.{Says, SaysText, closed_text, ready_text}
 use Rattle.serve_core.specs.Outside.{Sheet}
 use Rattle.serve_core.specs.Keeping.{Stopped}
@@ -130,17 +130,12 @@ text_short end short last door count before after (inr p) is = told_short short 
 
 -- ---- the text, and why no further link was taken
 
-is_stopped : (why : DoorEnd) (door : Option DoorTale) (splits before now : ℕ) → Stopped why splits door before now → IsStopped why splits door
-is_stopped door_end.Closed door splits before now p = p
-is_stopped door_end.Failed door splits before now p = p.1
-is_stopped door_end.Spent door splits before now p = p
-
 -- `ready` was written, links were taken, and then `closed` was to be written
 pub closes_by : (why : DoorEnd) (s : Sent) (last : StewardEnd) (supply : Supply) (door : Option DoorTale) (splits before now : ℕ) (first mid after : Sheet) → Stopped why splits door before now
     → Says ready_text sent.All first mid → Says closed_text s mid after → SaysText (end_of why s last supply) (is_short supply s) last door splits first after
 closes_by why s last supply door splits before now first mid after p ready closed = inr (record {
   why = why;
-  stopped = is_stopped why door splits before now p;
+  stopped = p.0;
   mid = mid;
   ready = ready;
   said = s;

@@ -17,7 +17,9 @@ use Rattle.hall_core.specs.Passes.{IsJoined, PassState, divided, first_pass}
 use Rattle.link_core.specs.declared.link_end.LinkEnd.{LinkEnd}
 use Rattle.link_core.specs.declared.link_end.LinkEnd.TheVariants as link_end
 use Rattle.link_core.specs.ServedInPart.{WasServed}
-use Rattle.edge_traits.specs.Pairs.{Records}
+use Rattle.edge_traits.specs.Calls.{Store}
+use Rattle.edge_traits.specs.declared.doorway.Answered.{Answered}
+use Rattle.edge_traits.specs.declared.doorway.Answered.TheVariants as answered
 use Rattle.steward_core.specs.declared.turn.StewardEnd.{StewardEnd}
 use Rattle.serve_core.specs.declared.settle.Supply.{Supply}
 use Rattle.serve_core.specs.declared.settle.Supply.TheVariants.{Enough, Short}
@@ -131,10 +133,10 @@ module _ {C : Type 0} (shows : C → ℕ → Bool) (hall : TableId) (clock : C) 
     }
 
   -- a Quiet, and a turn of the steward
-  pub kept_quiet : (supply : Supply) (end : StewardEnd) (made : Supply) (before after : Option Records) (door door' : Option DoorTale) (pass new : PassState) (waiting : List (Due C)) → Underway shows hall clock supply door pass waiting
-      → WhereTold door door' (λ before after. after ≡ record before { quiets = before.quiets + 1 }) → MadeTurn end made before after pass new → Underway shows hall clock (supply_then made supply) door' new waiting
+  pub kept_quiet : (supply : Supply) (end : StewardEnd) (made : Supply) (before after : Store) (door door' : Option DoorTale) (pass new : PassState) (waiting : List (Due C)) → Underway shows hall clock supply door pass waiting
+      → WhereTold door door' (λ before after. after ≡ record before { quiets = before.quiets + 1; last = answered.Quiet }) → MadeTurn end made before after pass new → Underway shows hall clock (supply_then made supply) door' new waiting
   kept_quiet supply end made before after door door' pass new waiting k goes turn =
-      let R : DoorTale → DoorTale → Type 0 = λ before after. after ≡ record before { quiets = before.quiets + 1 } in
+      let R : DoorTale → DoorTale → Type 0 = λ before after. after ≡ record before { quiets = before.quiets + 1; last = answered.Quiet } in
       let joined : new.joined ≡ pass.joined = ap (λ p. p.joined) turn.shared in
       let splits = turn_splits end made before after pass new turn in
       let came : (m : ℕ) (link : Option Tale) (a b : DoorTale) → R a b → CameAs m link a → CameAs m link b = λ m link a b e p. subst (λ (xs : List (Option Tale)). CameAs m link (record a { came = xs })) (sym (ap (λ (t : DoorTale). t.came) e)) p in
@@ -148,6 +150,26 @@ module _ {C : Type 0} (shows : C → ℕ → Bool) (hall : TableId) (clock : C) 
         served = λ j p. served_then (shows clock) j.number j.calls (supply ≡ Short) (supply_then made supply ≡ Short) door door' R goes came back (then_short made supply) (k.served j (subst (λ (xs : List (Joined Timed Reply)). In j xs) joined p));
         numbers = λ m low high. subst (λ (xs : List (Joined Timed Reply)). In m (map joined_number xs) ⊎ In m (map due_number waiting)) (sym joined) (k.numbers m low (omega (arith, high, splits)));
         came = told_then door door' R (λ tale. length tale.came ≡ pass.splits) (λ tale. length tale.came ≡ new.splits) (λ a b e n. ap (λ (t : DoorTale). length t.came) e ∙ n ∙ sym splits) goes k.came;
+        out = told_then door door' R (λ tale. length tale.back + length waiting ≡ length tale.came) (λ tale. length tale.back + length waiting ≡ length tale.came)
+            (λ a b e n. ap (λ (t : DoorTale). length t.back + length waiting) e ∙ n ∙ sym (ap (λ (t : DoorTale). length t.came) e)) goes k.out;
+      }
+
+  -- an answer of the door that gives nothing
+  pub kept_answered : (supply : Supply) (answer : Answered) (door door' : Option DoorTale) (pass : PassState) (waiting : List (Due C)) → Underway shows hall clock supply door pass waiting
+      → WhereTold door door' (λ before after. after ≡ record before { last = answer }) → Underway shows hall clock supply door' pass waiting
+  kept_answered supply answer door door' pass waiting k goes =
+      let R : DoorTale → DoorTale → Type 0 = λ before after. after ≡ record before { last = answer } in
+      let came : (m : ℕ) (link : Option Tale) (a b : DoorTale) → R a b → CameAs m link a → CameAs m link b = λ m link a b e p. subst (λ (xs : List (Option Tale)). CameAs m link (record a { came = xs })) (sym (ap (λ (t : DoorTale). t.came) e)) p in
+      let back : (m : ℕ) (link : Handed) (a b : DoorTale) → R a b → CameBack m link a → CameBack m link b = λ m link a b e p. subst (λ (xs : List (ℕ × Handed)). CameBack m link (record a { back = xs })) (sym (ap (λ (t : DoorTale). t.back) e)) p in
+      record {
+        here = k.here;
+        first = k.first;
+        owed = λ due p.
+            let o = k.owed due p in
+            record { home = o.home; number = o.number; same = o.same; fresh = o.fresh; came = told_then door door' R (CameAs due.pass.number due.link) (CameAs due.pass.number due.link) (came due.pass.number due.link) goes o.came };
+        served = λ j p. served_then (shows clock) j.number j.calls (supply ≡ Short) (supply ≡ Short) door door' R goes came back (λ e. e) (k.served j p);
+        numbers = k.numbers;
+        came = told_then door door' R (λ tale. length tale.came ≡ pass.splits) (λ tale. length tale.came ≡ pass.splits) (λ a b e n. ap (λ (t : DoorTale). length t.came) e ∙ n) goes k.came;
         out = told_then door door' R (λ tale. length tale.back + length waiting ≡ length tale.came) (λ tale. length tale.back + length waiting ≡ length tale.came)
             (λ a b e n. ap (λ (t : DoorTale). length t.back + length waiting) e ∙ n ∙ sym (ap (λ (t : DoorTale). length t.came) e)) goes k.out;
       }

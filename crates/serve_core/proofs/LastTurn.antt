@@ -2,9 +2,8 @@
 use Rattle.std.proofs.Common.{◌≡◌, ◌≢◌, ℕ, zero, suc, ◌<◌, Bool, true, false, cond, List, [], ◌∷◌, ◌++◌, refl, sym, ap, subst, ◌∙◌, append-nil, arith, eq-eqb, ne_eqb}
 use Rattle.std.specs.Prelude.{nat_lt}
 use Rattle.std.proofs.lemmas.Bool.{ltb-false, ltb-true}
-use Rattle.std.specs.declared.option.Option.{Option}
 use Rattle.std.proofs.lemmas.List.{append_cancel_left}
-use Rattle.edge_traits.specs.Pairs.{Records}
+use Rattle.edge_traits.specs.Calls.{Store}
 use Rattle.histories.specs.declared.entry.Entry.{Entry}
 use Rattle.histories.specs.History.{IsPrefix, Legal, calls_of, state}
 use Rattle.histories.proofs.Histories.{calls-append, prefix_trans, stays_whole, state-append, legal_back}
@@ -57,7 +56,7 @@ all_own (e ∷ es) none =
 
 -- ---- the last turn
 
-module _ (end : StewardEnd) (supply : Supply) (before after : Option Records) (old new : PassState) (t : TurnsLast end supply before after old new) where
+module _ (end : StewardEnd) (supply : Supply) (before after : Store) (old new : PassState) (t : TurnsLast end supply before after old new) where
   pub first_home : t.first.home ≡ old.home
   first_home = ap (λ (p : PassState). p.home) t.looked.same
 

@@ -6,6 +6,7 @@ pub mod Tending
 pub mod OrdersOver
 pub mod LastTurn
 pub mod Settling
+pub mod Stopping
 pub mod Ending
 pub mod StewardLaws
 pub mod Closing

@@ -1,11 +1,16 @@
 -- A hall that opened with what was loaded, and what was promised of it from the load on.
-use Rattle.std.proofs.Common.{◌≡◌, ℕ, ◌≤◌, inl, inr, Bool, List, [], take, refl, sym, ap, subst, ◌∙◌}
+use Rattle.std.proofs.Common.{◌≡◌, ℕ, inl, inr, Bool, List, [], take, refl, sym, ap, subst, ◌∙◌}
 use Rattle.std.specs.Prelude.{IfSome, slice_get}
 use Rattle.std.specs.declared.option.Option.{Option}
 use Rattle.std.specs.declared.option.Option.TheVariants.{None, Some}
 use Rattle.std.specs.Io.KnownBytes.{Appends}
 use Rattle.std.proofs.KnownBytes.{Appends-trans}
 use Rattle.edge_traits.specs.Door.{DoorTale}
+use Rattle.edge_traits.specs.Calls.{Calls, noted}
+use Rattle.edge_traits.specs.declared.call_log.Request.TheVariants.{Load}
+use Rattle.edge_traits.specs.declared.keeper.Kept.{Kept}
+use Rattle.edge_traits.specs.declared.keeper.Kept.TheVariants.{Done}
+use Rattle.lobby_load.specs.Calling.{LoadsOnce}
 use Rattle.edge_traits.specs.Faults.{Rose}
 use Rattle.edge_traits.specs.Keeper.{Stays}
 use Rattle.edge_traits.specs.Pairs.{Records}
@@ -28,10 +33,10 @@ use Rattle.steward_core.proofs.StatesLead.{one_lobby}
 use Rattle.serve_core.specs.declared.end.ServeEnd.{ServeEnd}
 use Rattle.steward_core.specs.declared.turn.StewardEnd.{StewardEnd}
 use Rattle.serve_core.specs.Opening.{IsLoaded}
-use Rattle.serve_core.specs.Serving.{AgreesIn, HasServedAll, RanShort, TellsAgreed}
+use Rattle.serve_core.specs.Serving.{AgreesIn, HasServedAll, TellsAgreed}
 use Rattle.serve_core.specs.Text.{Says, SaysText, ready_text}
-use Rattle.serve_core.specs.Outside.{Sheet, Store}
-use Rattle.serve_core.proofs.StewardLaws.{tended_since}
+use Rattle.serve_core.specs.Outside.{Sheet}
+use Rattle.edge_traits.specs.Calls.{Store}
 
 -- ---- nothing was written at the load
 
@@ -77,15 +82,15 @@ agrees_from (Some table) None now opening parts stays p = absurd stays
 agrees_from (Some table) (Some table') now opening parts stays p = subst (λ (t : Records). AgreesIn t opening → TellsAgreed now parts) stays p
 
 -- what was promised once the hall was open is promised from before the load on
-pub served_from : (shows : ℕ → Bool) (opening : List Part) (end : ServeEnd) (door : Option DoorTale) (before mid later : Sheet) (old loaded new : Store) (pass : PassState) → Appends before.written mid.written [] → mid.faults ≡ before.faults
-    → Stays old.table loaded.table → old.faults ≤ loaded.faults → HasServedAll shows opening end door mid later loaded new pass → HasServedAll shows opening end door before later old new pass
-served_from shows opening end door before mid later old loaded new pass none same stays counted p =
+pub served_from : (shows : ℕ → Bool) (opening : List Part) (end : ServeEnd) (door : Option DoorTale) (before mid later : Sheet) (loaded new : Store) (pass : PassState) → Appends before.written mid.written [] → mid.faults ≡ before.faults
+    → HasServedAll shows opening end door mid later loaded new pass → HasServedAll shows opening end door before later loaded new pass
+served_from shows opening end door before mid later loaded new pass none same p =
     record {
       last = p.last;
       hall = p.hall;
       links = p.links;
-      steward = tended_since (RanShort pass) p.last door loaded.faults new.faults pass.opening pass.seen p.steward old.faults counted;
-      store = agrees_from old.table loaded.table new.table pass.opening (state house pass.opening pass.seen) stays p.store;
+      steward = p.steward;
+      store = p.store;
       text = text_from end p.last before mid later none same pass.short pass.splits door p.text;
     }
 
@@ -103,17 +108,24 @@ loaded_agrees table lobby at loads other there key =
     ∙ sym (loads key)
     ∙ ap (λ (l : LobbyState). wanted_by l key) (sym same)
 
-agreed_by : (told now : Option Records) (lobby : LobbyState) (opening parts : List Part) → IsLoaded told lobby → opening ≡ opened lobby → IfSome told (λ table. AgreesIn table opening → TellsAgreed now parts) → IfSome told (λ table. TellsAgreed now parts)
-agreed_by None now lobby opening parts loaded is p = tt
-agreed_by (Some table) now lobby opening parts loaded is p = p (subst (AgreesIn table) (sym is) (loaded_agrees table lobby loaded.opening loaded.holds))
+agreed_by : (told now : Option Records) (lobby : LobbyState) (opening parts : List Part) → IsAtOpening lobby → IfSome told (λ table. HasLoaded table lobby) → opening ≡ opened lobby → IfSome told (λ table. AgreesIn table opening → TellsAgreed now parts) → IfSome told (λ table. TellsAgreed now parts)
+agreed_by None now lobby opening parts at loads is p = tt
+agreed_by (Some table) now lobby opening parts at loads is p = p (subst (AgreesIn table) (sym is) (loaded_agrees table lobby at loads))
 
 -- the table that is told agrees at the end
-pub table_agrees : (shows : ℕ → Bool) (lobby : LobbyState) (end : ServeEnd) (door : Option DoorTale) (before later : Sheet) (old new : Store) (pass : PassState) → IsLoaded old.table lobby
-    → HasServedAll shows (opened lobby) end door before later old new pass → IfSome old.table (λ table. TellsAgreed new.table (state house pass.opening pass.seen))
-table_agrees shows lobby end door before later old new pass loaded p = agreed_by old.table new.table lobby pass.opening (state house pass.opening pass.seen) loaded p.hall.opens p.store
+pub table_agrees : (shows : ℕ → Bool) (lobby : LobbyState) (end : ServeEnd) (door : Option DoorTale) (before later : Sheet) (old loaded new : Store) (pass : PassState) → IsLoaded old loaded lobby
+    → HasServedAll shows (opened lobby) end door before later loaded new pass → IfSome old.table (λ table. TellsAgreed new.table (state house pass.opening pass.seen))
+table_agrees shows lobby end door before later old loaded new pass loads p =
+    let parts = state house pass.opening pass.seen in
+    agreed_by old.table new.table lobby pass.opening parts loads.opening loads.holds p.hall.opens
+    (agrees_from old.table loaded.table new.table pass.opening parts loads.stays p.store)
 
 -- ---- a hall, if there is one
 
 pub some_as : {H : Type 0} (o : Option H) (P Q : H → Type 0) → ((h : H) → P h → Q h) → IfSome o P → IfSome o Q
 some_as None P Q f p = tt
 some_as (Some h) P Q f p = f h p
+
+-- the load of a store that was opened
+pub load_done : (old new : Calls) → LoadsOnce old new (λ answer. answer ≡ Done) → new ≡ noted old Load Done
+load_done old new p = subst (λ (answer : Kept). new ≡ noted old Load answer) p.2 p.1

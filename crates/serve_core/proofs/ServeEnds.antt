@@ -22,7 +22,8 @@ use Rattle.lobby_state.specs.Lobby.{LobbyState}
 use Rattle.lobby_load.specs.Refused.{unopened_status}
 use Rattle.serve_core.specs.ServeEnds.{EndsCall, Counts, OneRose}
 use Rattle.serve_core.specs.Opening.{StaysUnopened}
-use Rattle.serve_core.specs.Outside.{Store, Sheet}
+use Rattle.serve_core.specs.Outside.{Sheet}
+use Rattle.edge_traits.specs.Calls.{Store}
 use Rattle.serve_core.specs.declared.end.ServeEnd.{ServeEnd}
 use Rattle.serve_core.specs.declared.end.ServeEnd.TheVariants.{Done, DoorFault, WriteFault, KeeperFault, Memory, Spent}
 use Rattle.serve_core.specs.Stopping.{IsClean, status_of}

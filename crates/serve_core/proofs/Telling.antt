@@ -99,8 +99,11 @@ back_out number link count more old new e m n =
 
 -- ---- the links that came and those that are left
 
+links_same : (old new : DoorTale) → new.left ≡ old.left → new.came ≡ old.came → KeepsLinks old new
+links_same old new left came = ap (λ (xs : List (Option Tale)). xs ++ old.left) (sym came) ∙ ap (λ (xs : List (Option Tale)). new.came ++ xs) (sym left)
+
 pub keeps_links : (old new : DoorTale) → KeepsLeft old new → KeepsLinks old new
-keeps_links old new e = ap (λ (xs : List (Option Tale)). xs ++ old.left) (sym e.1) ∙ ap (λ (xs : List (Option Tale)). new.came ++ xs) (sym e.0)
+keeps_links old new e = links_same old new e.0 e.1
 
 -- an answer of the door
 gives_links : {L : Type 0} (tells : L → Option Tale) (came : Came L) (old new : DoorTale) → Gives tells came old new → KeepsLinks old new
@@ -108,9 +111,9 @@ gives_links tells (Link link) old new p =
     ap (λ (xs : List (Option Tale)). old.came ++ xs) p.0
     ∙ sym (append_assoc old.came (tells link ∷ []) new.left)
     ∙ ap (λ (xs : List (Option Tale)). xs ++ new.left) (sym (ap (λ (t : DoorTale). t.came) p.1))
-gives_links tells Quiet old new p = keeps_links old new (ap (λ (t : DoorTale). t.left) p, ap (λ (t : DoorTale). t.came) p)
-gives_links tells Closed old new p = keeps_links old new (ap (λ (t : DoorTale). t.left) p.1, ap (λ (t : DoorTale). t.came) p.1)
-gives_links tells Failed old new p = keeps_links old new (ap (λ (t : DoorTale). t.left) p, ap (λ (t : DoorTale). t.came) p)
+gives_links tells Quiet old new p = links_same old new (ap (λ (t : DoorTale). t.left) p) (ap (λ (t : DoorTale). t.came) p)
+gives_links tells Closed old new p = links_same old new (ap (λ (t : DoorTale). t.left) p.1) (ap (λ (t : DoorTale). t.came) p.1)
+gives_links tells Failed old new p = links_same old new (ap (λ (t : DoorTale). t.left) p) (ap (λ (t : DoorTale). t.came) p)
 
 pub links_stay : (one two three : Option DoorTale) → WhereTold one two KeepsLinks → WhereTold two three KeepsLeft → WhereTold one three KeepsLinks
 links_stay one two three p q = where_then one two three KeepsLinks KeepsLeft KeepsLinks (λ a b c e f. e ∙ keeps_links b c f) p q
@@ -123,7 +126,7 @@ pub links_came : {L : Type 0} (tells : L → Option Tale) (came : Came L) (one t
 links_came tells came one two three p q = where_then one two three KeepsLeft (Gives tells came) KeepsLinks (λ a b c e f. keeps_links a b e ∙ gives_links tells came b c f) p q
 
 pub left_stays : (one two three : Option DoorTale) → WhereTold one two KeepsLeft → WhereTold two three KeepsLeft → WhereTold one three KeepsLeft
-left_stays one two three p q = where_then one two three KeepsLeft KeepsLeft KeepsLeft (λ a b c e f. (f.0 ∙ e.0, f.1 ∙ e.1)) p q
+left_stays one two three p q = where_then one two three KeepsLeft KeepsLeft KeepsLeft (λ a b c e f. (f.0 ∙ e.0, f.1 ∙ e.1, f.2 ∙ e.2)) p q
 
 pub left_back : (number : ℕ) (link : Handed) (one two : Option DoorTale) → WhereTold one two (TakesBack number link) → WhereTold one two KeepsLeft
-left_back number link one two p = where_as one two (TakesBack number link) KeepsLeft (λ a b e. (ap (λ (t : DoorTale). t.left) e, ap (λ (t : DoorTale). t.came) e)) p
+left_back number link one two p = where_as one two (TakesBack number link) KeepsLeft (λ a b e. (ap (λ (t : DoorTale). t.left) e, ap (λ (t : DoorTale). t.came) e, ap (λ (t : DoorTale). t.last) e)) p

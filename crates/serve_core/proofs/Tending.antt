@@ -20,7 +20,7 @@ use Rattle.serve_core.specs.declared.settle.Supply.TheVariants.{Short}
 use Rattle.serve_core.specs.Keeping.{supply_after}
 use Rattle.serve_core.specs.Stewarding.{AreTurns, MayEnd}
 use Rattle.serve_core.specs.Tending.{GivesQuiets, Stand, Tended, stand}
-use Rattle.serve_core.specs.Outside.{Store}
+use Rattle.edge_traits.specs.Calls.{Store}
 use Rattle.serve_core.specs.Turns.{MadeTurn, supply_then}
 use Rattle.serve_core.proofs.Keeping.{stays_short, then_short}
 use Rattle.serve_core.proofs.Telling.{where_as, where_same, where_then}
@@ -33,12 +33,12 @@ quiets_then n m a b c p q = omega (arith, p, q)
 
 pub tended_then : (one two three : Stand) → Tended one two → Tended two three → Tended one three
 tended_then one two three p q =
-    let first : AreTurns (MayEnd (three.supply ≡ Short)) p.count one.store.faults two.store.faults p.entries =
-    turns_as (MayEnd (two.supply ≡ Short)) (MayEnd (three.supply ≡ Short)) (may_end (two.supply ≡ Short) (three.supply ≡ Short) q.short) p.count one.store.faults two.store.faults p.entries p.turns in
+    let first : AreTurns (MayEnd (three.supply ≡ Short)) p.count one.store two.store p.entries =
+    turns_as (MayEnd (two.supply ≡ Short)) (MayEnd (three.supply ≡ Short)) (may_end (two.supply ≡ Short) (three.supply ≡ Short) q.short) p.count one.store two.store p.entries p.turns in
     record {
       count = p.count + q.count;
       entries = p.entries ++ q.entries;
-      turns = turns_append (three.supply ≡ Short) p.count q.count one.store.faults two.store.faults three.store.faults p.entries q.entries first q.turns;
+      turns = turns_append (three.supply ≡ Short) p.count q.count one.store two.store three.store p.entries q.entries first q.turns;
       grew = λ known.
           let grew = p.grew known in
           made_then (runs_of one.pass) (runs_of two.pass) (runs_of three.pass) p.entries q.entries grew (q.grew grew.known);
@@ -56,7 +56,7 @@ module _ (pass pass' : PassState) (supply supply' : Supply) (door door' : Option
   tended_none grew quiets short = record {
     count = 0;
     entries = [];
-    turns = (omega arith, refl);
+    turns = (refl, refl);
     grew = grew;
     quiets = quiets;
     short = short;
@@ -153,21 +153,27 @@ tended_looked pass new supply door store looks = tended_none pass new supply sup
 short_then : (made supply : Supply) → made ≡ Short → supply_then made supply ≡ Short
 short_then made supply e = subst (λ (m : Supply). supply_then m supply ≡ Short) (sym e) refl
 
-pub tended_turn : (end : StewardEnd) (made : Supply) (pass new : PassState) (supply : Supply) (door door' : Option DoorTale) (store store' : Store) → MadeTurn end made store.table store'.table pass new
+pub tended_turn : (end : StewardEnd) (made : Supply) (pass new : PassState) (supply : Supply) (door door' : Option DoorTale) (store store' : Store) → MadeTurn end made store store' pass new
     → WhereTold door door' (GivesQuiets 1) → (end ≡ steward.KeeperFault → Rose store.faults store'.faults) → store.faults ≤ store'.faults
     → Tended (stand pass supply door store) (stand new (supply_then made supply) door' store')
 tended_turn end made pass new supply door door' store store' turn quiets fault counted =
-    let last = turn_is end made store.table store'.table pass new turn in
+    let last = turn_is end made store store' pass new turn in
     record {
       count = 1;
       entries = turn.turn.entries;
       turns = (
         [],
-        store.faults,
+        store,
         last,
-        (omega arith, refl),
+        (refl, refl),
         counted,
-        record { fault = fault; memory = λ e. short_then made supply (turn.short e); clearing = λ e. short_then made supply (turn.short_first e) },
+        record {
+          called = turn.turn.called;
+          fault = fault;
+          memory = λ e. short_then made supply (turn.short e);
+          clearing = λ e. short_then made supply (turn.short_first e);
+          kept = turn.turn.kept;
+        },
         refl,
       );
       grew = λ known. turn.turn.grew;

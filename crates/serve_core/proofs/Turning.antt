@@ -3,7 +3,7 @@ use Rattle.std.proofs.Common.{◌≡◌, ℕ, zero, suc, ◌+◌, ◌≤◌, ◌
 use Rattle.std.specs.declared.option.Option.{Option}
 use Rattle.std.specs.declared.option.Option.TheVariants.{None, Some}
 use Rattle.edge_traits.specs.Faults.{Rose}
-use Rattle.edge_traits.specs.Pairs.{Records}
+use Rattle.edge_traits.specs.Calls.{Store}
 use Rattle.lobby_shelf.specs.declared.order.Order.{Order}
 use Rattle.lobby_state.specs.declared.desk_in_use.DeskInUse.{DeskInUse}
 use Rattle.one_server.specs.declared.act.Timed.{Timed}
@@ -150,12 +150,8 @@ turn_asks t done =
 
 -- ---- how turns may have ended
 
-pub may_end : (lack lack' : Type 0) → (lack → lack') → (before now : ℕ) (turn : StewardTurn) → MayEnd lack before now turn → MayEnd lack' before now turn
-may_end lack lack' f before now turn p = record { fault = p.fault; memory = λ e. f (p.memory e); clearing = λ e. f (p.clearing e) }
-
--- a count that rose rose also by what it is afterwards
-may_end_since : (lack : Type 0) (before now after : ℕ) (turn : StewardTurn) → now ≤ after → MayEnd lack before now turn → MayEnd lack before after turn
-may_end_since lack before now after turn more p = record { fault = λ e. let rose = p.fault e in omega (arith, more, rose); memory = p.memory; clearing = p.clearing }
+pub may_end : (lack lack' : Type 0) → (lack → lack') → (before now : Store) (turn : StewardTurn) → MayEnd lack before now turn → MayEnd lack' before now turn
+may_end lack lack' f before now turn p = record { called = p.called; fault = p.fault; memory = λ e. f (p.memory e); clearing = λ e. f (p.clearing e); kept = p.kept }
 
 is_done : (end : StewardEnd) → (end ≡ KeeperFault → ⊥) → (end ≡ Memory → ⊥) → IsDone end
 is_done (Done count) f g = tt
@@ -163,62 +159,52 @@ is_done KeeperFault f g = f refl
 is_done Memory f g = g refl
 
 -- nothing ran short and no count rose
-all_done : (lack : Type 0) → (lack → ⊥) → (before now first last : ℕ) → first ≤ before → now ≤ last → (Rose first last → ⊥) → (turn : StewardTurn) → MayEnd lack before now turn → IsDone turn.end
+all_done : (lack : Type 0) → (lack → ⊥) → (before now : Store) (first last : ℕ) → first ≤ before.faults → now.faults ≤ last → (Rose first last → ⊥) → (turn : StewardTurn) → MayEnd lack before now turn → IsDone turn.end
 all_done lack f before now first last low high calm turn p = is_done turn.end (λ e. let rose = p.fault e in calm (omega (arith, low, high, rose))) (λ e. f (p.memory e))
 
-module _ (Ends : ℕ → ℕ → StewardTurn → Type 0) where
-  pub turns_counted : (n before now : ℕ) (made : Log) → AreTurns Ends n before now made → before ≤ now
-  turns_counted zero before now made p = p.0
+module _ (Ends : Store → Store → StewardTurn → Type 0) where
+  pub turns_counted : (n : ℕ) (before now : Store) (made : Log) → AreTurns Ends n before now made → before.faults ≤ now.faults
+  turns_counted zero before now made p = subst (λ (s : Store). before.faults ≤ s.faults) (sym p.0) (omega arith)
   turns_counted (suc n) before now made (first, mid, last, turns, more, ends, is) = le_trans (turns_counted n before mid first turns) more
 
-  pub turns_stewards : (n before now : ℕ) (made : Log) → AreTurns Ends n before now made → AreStewards made
+  pub turns_stewards : (n : ℕ) (before now : Store) (made : Log) → AreTurns Ends n before now made → AreStewards made
   turns_stewards zero before now made p = subst AreStewards (sym p.1) tt
   turns_stewards (suc n) before now made (first, mid, last, turns, more, ends, is) =
       subst AreStewards (sym is) (stewards_append first last.entries (turns_stewards n before mid first turns) (turn_stewards last))
 
-  pub turns_asked : ((before now : ℕ) (turn : StewardTurn) → Ends before now turn → IsDone turn.end) → (n before now : ℕ) (made : Log) → AreTurns Ends n before now made → times_asked made ≡ n
+  pub turns_asked : ((before now : Store) (turn : StewardTurn) → Ends before now turn → IsDone turn.end) → (n : ℕ) (before now : Store) (made : Log) → AreTurns Ends n before now made → times_asked made ≡ n
   turns_asked done zero before now made p = ap times_asked p.1
   turns_asked done (suc n) before now made (first, mid, last, turns, more, ends, is) =
       let so_far = turns_asked done n before mid first turns in
       let one = turn_asks last (done mid now last ends) in
       omega (arith, ap times_asked is, asked_append first last.entries, so_far, one)
 
-  -- the keeper had counted fewer before
-  pub turns_since : (n earlier before now : ℕ) (made : Log) → earlier ≤ before → AreTurns Ends n before now made → AreTurns Ends n earlier now made
-  turns_since zero earlier before now made low p = (le_trans low p.0, p.1)
-  turns_since (suc n) earlier before now made low (first, mid, last, turns, more, ends, is) = (first, mid, last, turns_since n earlier before mid first low turns, more, ends, is)
-
-pub turns_as : (Ends Ends' : ℕ → ℕ → StewardTurn → Type 0) → ((before now : ℕ) (turn : StewardTurn) → Ends before now turn → Ends' before now turn) → (n before now : ℕ) (made : Log)
+pub turns_as : (Ends Ends' : Store → Store → StewardTurn → Type 0) → ((before now : Store) (turn : StewardTurn) → Ends before now turn → Ends' before now turn) → (n : ℕ) (before now : Store) (made : Log)
     → AreTurns Ends n before now made → AreTurns Ends' n before now made
 turns_as Ends Ends' h zero before now made p = p
 turns_as Ends Ends' h (suc n) before now made (first, mid, last, turns, more, ends, is) = (first, mid, last, turns_as Ends Ends' h n before mid first turns, more, h mid now last ends, is)
 
 module _ (lack : Type 0) where
-  -- and it counted more afterwards
-  turns_until : (n before now after : ℕ) (made : Log) → now ≤ after → AreTurns (MayEnd lack) n before now made → AreTurns (MayEnd lack) n before after made
-  turns_until zero before now after made high p = (le_trans p.0 high, p.1)
-  turns_until (suc n) before now after made high (first, mid, last, turns, more, ends, is) = (first, mid, last, turns, le_trans more high, may_end_since lack mid now after last high ends, is)
-
-  pub turns_append : (n m before mid now : ℕ) (one two : Log) → AreTurns (MayEnd lack) n before mid one → AreTurns (MayEnd lack) m mid now two → AreTurns (MayEnd lack) (n + m) before now (one ++ two)
+  pub turns_append : (n m : ℕ) (before mid now : Store) (one two : Log) → AreTurns (MayEnd lack) n before mid one → AreTurns (MayEnd lack) m mid now two → AreTurns (MayEnd lack) (n + m) before now (one ++ two)
   turns_append n zero before mid now one two p q =
       let none : one ≡ one ++ two = sym (append-nil one) ∙ ap (λ (l : Log). one ++ l) (sym q.1) in
       let count : n ≡ n + 0 = omega arith in
-      subst (λ (l : Log). AreTurns (MayEnd lack) (n + 0) before now l) none (subst (λ k. AreTurns (MayEnd lack) k before now one) count (turns_until n before mid now one q.0 p))
+      subst (λ (l : Log). AreTurns (MayEnd lack) (n + 0) before now l) none (subst (λ k. AreTurns (MayEnd lack) k before now one) count (subst (λ (s : Store). AreTurns (MayEnd lack) n before s one) (sym q.0) p))
   turns_append n (suc m) before mid now one two p (first, there, last, turns, more, ends, is) =
       let count : suc (n + m) ≡ n + suc m = omega arith in
       subst (λ k. AreTurns (MayEnd lack) k before now (one ++ two)) count
       (one ++ first, there, last, turns_append n m before mid there one first p turns, more, ends, ap (λ (l : Log). one ++ l) is ∙ sym (append_assoc one first last.entries))
 
   -- where memory was enough and the keeper counted no fault each turn was done
-  pub turns_done : (lack → ⊥) → (n before now after : ℕ) (made : Log) → now ≤ after → (Rose before after → ⊥) → AreTurns (MayEnd lack) n before now made → AreTurns (λ mid later turn. IsDone turn.end) n before now made
+  pub turns_done : (lack → ⊥) → (n : ℕ) (before now : Store) (after : ℕ) (made : Log) → now.faults ≤ after → (Rose before.faults after → ⊥) → AreTurns (MayEnd lack) n before now made → AreTurns (λ mid later turn. IsDone turn.end) n before now made
   turns_done ample zero before now after made high calm p = p
   turns_done ample (suc n) before now after made high calm (first, mid, last, turns, more, ends, is) =
       let low = turns_counted (MayEnd lack) n before mid first turns in
-      (first, mid, last, turns_done ample n before mid after first (le_trans more high) calm turns, more, all_done lack ample mid now before after low high calm last ends, is)
+      (first, mid, last, turns_done ample n before mid after first (le_trans more high) calm turns, more, all_done lack ample mid now before.faults after low high calm last ends, is)
 
 -- ---- a turn that the first pass made
 
-module _ (end : StewardEnd) (supply : Supply) (before after : Option Records) (old new : PassState) (turn : MadeTurn end supply before after old new) where
+module _ (end : StewardEnd) (supply : Supply) (before after : Store) (old new : PassState) (turn : MadeTurn end supply before after old new) where
   pub turn_home : new.home ≡ old.home
   turn_home = ap (λ (p : Fixed). p.hall) turn.shared
 
@@ -246,8 +232,8 @@ short_end clearing.Done end e = subst (λ (x : StewardEnd). supply_in clearing.D
 short_clearing : (cleared : ClearingEnd) (end : StewardEnd) → cleared ≡ clearing.Memory → supply_in cleared end ≡ Short
 short_clearing cleared end e = subst (λ (x : ClearingEnd). supply_in x end ≡ Short) (sym e) refl
 
-pub made_halves : (moment : ℕ) (cleared : ClearingEnd) (end : StewardEnd) (before after : Option Records) (old new : PassState) → fixed_of new ≡ fixed_of old → (t : TakesTurn moment end before after (runs_of old) (runs_of new))
-    → t.turn.cleared ≡ cleared → StaysAgreed before after (runs_of old) (runs_of new) → MadeTurn end (supply_in cleared end) before after old new
+pub made_halves : (moment : ℕ) (cleared : ClearingEnd) (end : StewardEnd) (before after : Store) (old new : PassState) → fixed_of new ≡ fixed_of old → (t : TakesTurn moment end before after (runs_of old) (runs_of new))
+    → t.turn.cleared ≡ cleared → StaysAgreed before.table after.table (runs_of old) (runs_of new) → MadeTurn end (supply_in cleared end) before after old new
 made_halves moment cleared end before after old new shared t is agrees = record {
   moment = moment;
   shared = shared;

@@ -1,16 +1,24 @@
 -- A hall that wasn't opened for want of memory, behind a load that went well.
-use Rattle.std.proofs.Common.{◌≡◌, ℕ, ◌⊎◌, inl, inr, List, [], sym, ap, subst, ◌∙◌}
+use Rattle.std.proofs.Common.{◌≡◌, ℕ, ◌⊎◌, inl, inr, List, [], Err, refl, sym, ap, subst, ◌∙◌}
 use Rattle.std.specs.Prelude.{IfNone}
 use Rattle.std.specs.declared.option.Option.{Option}
 use Rattle.std.specs.declared.option.Option.TheVariants.{None, Some}
 use Rattle.std.specs.Io.KnownBytes.{Appends, Keeps}
+use Rattle.std.proofs.KnownBytes.{Appends-nil}
+use Rattle.edge_traits.specs.Faults.{Rose}
 use Rattle.edge_traits.specs.Keeper.{Stays}
 use Rattle.edge_traits.specs.Pairs.{Records}
-use Rattle.lobby_load.specs.Refused.{unopened_status}
+use Rattle.edge_traits.specs.declared.keeper.Kept.{Kept}
+use Rattle.edge_traits.specs.declared.keeper.Kept.TheVariants.{Done, Failed}
+use Rattle.lobby_load.specs.Calling.{FailsAt, LoadsOnce}
+use Rattle.lobby_load.specs.Refused.{OnReadFault, OnWriteFault, UnlessWriteFault, unopened_status}
+use Rattle.lobby_load.specs.Telling.{Tells}
 use Rattle.lobby_load.specs.declared.refusals.StoreFault.{StoreFault}
 use Rattle.lobby_load.specs.declared.refusals.StoreFault.TheVariants as unopened
-use Rattle.serve_core.specs.Opening.{StaysUnopened}
-use Rattle.serve_core.specs.Outside.{Sheet, Store}
+use Rattle.serve_core.specs.Opening.{CallsUnopened, StaysUnopened}
+use Rattle.lobby_state.specs.Lobby.{LobbyState}
+use Rattle.serve_core.specs.Outside.{Sheet}
+use Rattle.edge_traits.specs.Calls.{Calls, Store}
 use Rattle.serve_core.specs.Stopping.{status_of}
 use Rattle.serve_core.specs.declared.end.ServeEnd.{ServeEnd}
 use Rattle.serve_core.specs.declared.end.ServeEnd.TheVariants.{DoorFault, Memory, WriteFault}
@@ -34,13 +42,17 @@ no_fault end before mid later is same (inl e) = e ∙ same
 no_fault end before mid later is same (inr (inl e)) = (let bad : Memory ≡ WriteFault = sym is ∙ e in cc)
 no_fault end before mid later is same (inr (inr e)) = (let bad : Memory ≡ DoorFault = sym is ∙ e in cc)
 
+no_failure : (answer : Kept) → answer ≡ Done → answer ≡ Failed → ⊥
+no_failure answer done failed = (let bad : Done ≡ Failed = sym done ∙ failed in cc)
+
 -- what was promised of no hall is promised from before the load on
 pub none_opened : {H : Type 0} (hall : Option H) (end : ServeEnd) (status : ℕ) (old loaded new : Store) (before mid later : Sheet)
     → status ≡ status_of end → Appends before.written mid.written [] → mid.faults ≡ before.faults → Stays old.table loaded.table
-    → IfNone hall ((end ≡ Memory) × Keeps mid.written later.written) → IfNone hall (new.table ≡ loaded.table)
+    → LoadsOnce old.calls loaded.calls (λ answer. answer ≡ Done)
+    → IfNone hall ((end ≡ Memory) × Keeps mid.written later.written) → IfNone hall (new ≡ loaded)
     → (later.faults ≡ mid.faults) ⊎ ((end ≡ WriteFault) ⊎ (end ≡ DoorFault))
     → IfNone hall ((fault : StoreFault) × (status ≡ unopened_status fault) × StaysUnopened fault old new before later)
-none_opened None end status old loaded new before mid later ends none same stays p kept told = (
+none_opened None end status old loaded new before mid later ends none same stays called p kept told = (
   unopened.Memory,
   ends ∙ ap status_of p.0,
   record {
@@ -48,7 +60,42 @@ none_opened None end status old loaded new before mid later ends none same stays
     keeper_fault = λ e. cc;
     write_fault = λ e. cc;
     write_calm = no_fault end before.faults mid.faults later.faults p.0 same told;
-    table = stays_so old.table loaded.table new.table stays kept;
+    table = stays_so old.table loaded.table new.table stays (ap (λ (s : Store). s.table) kept);
+    called = inr (called.0, ap (λ (s : Store). s.calls) kept ∙ called.1, no_failure called.0 called.2);
   },
 )
-none_opened (Some h) end status old loaded new before mid later ends none same stays p kept told = tt
+none_opened (Some h) end status old loaded new before mid later ends none same stays called p kept told = tt
+
+-- a store that wasn't opened
+calls_unopened : (fault : StoreFault) (old new : Calls) → LoadsOnce old new (FailsAt fault) → CallsUnopened fault old new
+calls_unopened unopened.BadRecord old new p = p
+calls_unopened unopened.KeeperFault old new p = p
+calls_unopened unopened.WriteFault old new p = p
+calls_unopened unopened.Memory old new p = inr p
+
+pub unopened_by : (fault : StoreFault) (old new : Store) (before after : Sheet) → Tells {A = LobbyState} old.table before.written after.written (Err fault) → OnReadFault {A = LobbyState} (Err fault) (Rose old.faults new.faults)
+    → OnWriteFault {A = LobbyState} (Err fault) (Rose before.faults after.faults) → UnlessWriteFault {A = LobbyState} (Err fault) (after.faults ≡ before.faults) → Stays old.table new.table
+    → LoadsOnce old.calls new.calls (FailsAt fault) → StaysUnopened fault old new before after
+unopened_by fault old new before after wrote read write calm stays called = record {
+  wrote = wrote;
+  keeper_fault = λ e. subst (λ (f : StoreFault). OnReadFault {A = LobbyState} (Err f) (Rose old.faults new.faults)) e read;
+  write_fault = λ e. subst (λ (f : StoreFault). OnWriteFault {A = LobbyState} (Err f) (Rose before.faults after.faults)) e write;
+  write_calm = calm;
+  table = stays;
+  called = calls_unopened fault old.calls new.calls called;
+}
+
+-- memory ran out before the keeper was called
+stays_same : (table : Option Records) → Stays table table
+stays_same None = tt
+stays_same (Some table) = refl
+
+pub unasked : (store : Store) (sheet : Sheet) → StaysUnopened unopened.Memory store store sheet sheet
+unasked store sheet = record {
+  wrote = inl (Appends-nil sheet.written);
+  keeper_fault = λ e. cc;
+  write_fault = λ e. cc;
+  write_calm = refl;
+  table = stays_same store.table;
+  called = inl refl;
+}

@@ -18,7 +18,8 @@ use Rattle.steward_core.specs.declared.turn.StewardEnd.TheVariants as steward
 use Rattle.steward_core.specs.Saving.{most_answers}
 use Rattle.serve_core.specs.declared.end.ServeEnd.{ServeEnd}
 use Rattle.serve_core.specs.declared.end.ServeEnd.TheVariants.{Memory}
-use Rattle.serve_core.specs.Outside.{Sheet, Store}
+use Rattle.serve_core.specs.Outside.{Sheet}
+use Rattle.edge_traits.specs.Calls.{Store}
 use Rattle.serve_core.specs.Serving.{AgreesIn, HasServedAll, RanShort}
 use Rattle.serve_core.specs.Stopping.{IsClean}
 

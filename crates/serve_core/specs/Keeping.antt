@@ -1,10 +1,11 @@
 -- What holds while the door's thread takes links and joins workers.
-use Rattle.std.specs.Prelude.{◌≡◌, ◌≢◌, ℕ, ◌+◌, ◌^◌, ◌<◌, ◌≤◌, ◌⊎◌, Bool, List, [], ◌∷◌, ◌++◌, length, map, IfSome}
+use Rattle.std.specs.Prelude.{◌≡◌, ◌≢◌, ℕ, ◌+◌, ◌<◌, ◌≤◌, ◌⊎◌, Bool, List, [], ◌∷◌, ◌++◌, length, map, IfSome}
 use Rattle.std.specs.declared.option.Option.{Option}
 use Rattle.atomic_table.specs.Seated.{TableId}
 use Rattle.edge_traits.specs.Faults.{Rose}
 use Rattle.edge_traits.specs.Link.{IsFresh, Tale}
 use Rattle.edge_traits.specs.Door.{DoorTale}
+use Rattle.edge_traits.specs.declared.doorway.Answered.TheVariants as answered
 use Rattle.turn_table.specs.declared.view.Joined.{Joined}
 use Rattle.turn_table.specs.Views.{In, joined_number}
 use Rattle.one_server.specs.declared.act.Timed.{Timed}
@@ -17,6 +18,7 @@ use Rattle.serve_core.specs.declared.end.DoorEnd.TheVariants as door_end
 use Rattle.serve_core.specs.declared.settle.Supply.{Supply}
 use Rattle.serve_core.specs.declared.settle.Supply.TheVariants.{Short}
 use Rattle.serve_core.specs.Sessions.{CameAs, HadSession}
+use Rattle.serve_core.specs.Stopping.{IsStopped}
 use Rattle.serve_core.specs.Working.{Due}
 
 -- whether memory ran out somewhere, once a link was served that ended like this
@@ -56,17 +58,14 @@ module _ {C : Type 0} (shows : C → ℕ → Bool) (hall : TableId) (clock : C) 
 abbrev pub SameHall : PassState → PassState → Type 0
 SameHall old new = (new.splits ≡ old.splits) × (new.opening ≡ old.opening)
 
--- no link came: the door has those left that it had, and those came that had come
+-- the door wasn't asked: it has those links left that it had, those came that had come, and its last answer is the same
 abbrev pub KeepsLeft : DoorTale → DoorTale → Type 0
-KeepsLeft old new = (new.left ≡ old.left) × (new.came ≡ old.came)
+KeepsLeft old new = (new.left ≡ old.left) × (new.came ≡ old.came) × (new.last ≡ old.last)
 
 -- one more link came, which tells this
 abbrev pub Comes : Option Tale → DoorTale → DoorTale → Type 0
-Comes link old new = new ≡ record old { left = new.left; came = old.came ++ link ∷ [] }
+Comes link old new = new ≡ record old { left = new.left; came = old.came ++ link ∷ []; last = answered.Link }
 
--- why no further link is taken, of so many: the door is closed and has none left, where it tells; or it counted a
--- fault; or 2^31 came
+-- no further link is taken for that reason, after so many; and where the door failed, it counted that
 abbrev pub Stopped : DoorEnd → ℕ → Option DoorTale → ℕ → ℕ → Type 0
-Stopped door_end.Closed count door before now = IfSome door (λ tale. tale.left ≡ []) × (count < 2 ^ 31)
-Stopped door_end.Failed count door before now = Rose before now × (count < 2 ^ 31)
-Stopped door_end.Spent count door before now = count ≡ 2 ^ 31
+Stopped why count door before now = IsStopped why count door × (why ≡ door_end.Failed → Rose before now)

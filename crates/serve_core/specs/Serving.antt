@@ -15,7 +15,8 @@ use Rattle.one_server.specs.Whole.{IsWhole}
 use Rattle.hall_core.specs.Pass.{EveryoneJoined, PassState}
 use Rattle.steward_core.specs.declared.turn.StewardEnd.{StewardEnd}
 use Rattle.serve_core.specs.declared.end.ServeEnd.{ServeEnd}
-use Rattle.serve_core.specs.Outside.{Sheet, Store}
+use Rattle.serve_core.specs.Outside.{Sheet}
+use Rattle.edge_traits.specs.Calls.{Store}
 use Rattle.serve_core.specs.Sessions.{HadSession}
 use Rattle.serve_core.specs.Stewarding.{HasTended}
 use Rattle.serve_core.specs.Text.{SaysText}
@@ -71,6 +72,6 @@ pub record HasServedAll (shows : ℕ → Bool) (opening : List Part) (end : Serv
   -- such that
   pub hall : HasOneHistory opening pass
   pub links : EachHadSession shows door pass
-  pub steward : HasTended (RanShort pass) last door old.faults new.faults pass.opening pass.seen
+  pub steward : HasTended (RanShort pass) last door old new pass.opening pass.seen
   pub store : KeepsAgreed old.table new.table pass
   pub text : SaysText end pass.short last door pass.splits before after

@@ -1,6 +1,7 @@
 -- What follows of the acts of session 0, where it tended the server.
 use Rattle.std.specs.Prelude.{◌≡◌, ℕ, ◌+◌, ⊤, Bool, true, false, List, [], ◌∷◌, IfSome}
 use Rattle.std.specs.declared.option.Option.{Option}
+use Rattle.edge_traits.specs.Calls.{Store}
 use Rattle.edge_traits.specs.Door.{DoorTale}
 use Rattle.edge_traits.specs.Faults.{Rose}
 use Rattle.histories.specs.History.{calls_of}
@@ -45,20 +46,20 @@ IsDone KeeperFault = ⊥
 IsDone Memory = ⊥
 
 -- all entries are those of such turns, of which there is one for each Quiet of the door, and one more
-abbrev pub HasTurns : (ℕ → ℕ → StewardTurn → Type 0) → Option DoorTale → ℕ → ℕ → Log → Type 0
+abbrev pub HasTurns : (Store → Store → StewardTurn → Type 0) → Option DoorTale → Store → Store → Log → Type 0
 HasTurns Ends door before now made =
     (n : ℕ) × AreTurns Ends n before now made × IfSome door (λ tale. n ≡ tale.quiets + 1)
 
 -- all that session 0 makes are acts of a steward
 abbrev pub MakesStewardsActs : Type 0
 MakesStewardsActs =
-    (short : Bool) (last : StewardEnd) (door : Option DoorTale) (before now : ℕ) (opening : List Part) (seen : Log)
+    (short : Bool) (last : StewardEnd) (door : Option DoorTale) (before now : Store) (opening : List Part) (seen : Log)
     → HasTended (short ≡ true) last door before now opening seen → AreStewards (calls_of 0 seen)
 
 -- and all of it is turns, the last one among them
 abbrev pub MakesTurns : Type 0
 MakesTurns =
-    (short : Bool) (last : StewardEnd) (door : Option DoorTale) (before now : ℕ) (opening : List Part) (seen : Log)
+    (short : Bool) (last : StewardEnd) (door : Option DoorTale) (before now : Store) (opening : List Part) (seen : Log)
     → HasTended (short ≡ true) last door before now opening seen
     → HasTurns (MayEnd (short ≡ true)) door before now (calls_of 0 seen)
 
@@ -66,7 +67,7 @@ MakesTurns =
 -- are in use
 abbrev pub MakesEachTurn : Type 0
 MakesEachTurn =
-    (short : Bool) (last : StewardEnd) (door : Option DoorTale) (before now : ℕ) (opening : List Part) (seen : Log)
-    → HasTended (short ≡ true) last door before now opening seen → short ≡ false → ¬ Rose before now
+    (short : Bool) (last : StewardEnd) (door : Option DoorTale) (before now : Store) (opening : List Part) (seen : Log)
+    → HasTended (short ≡ true) last door before now opening seen → short ≡ false → ¬ Rose before.faults now.faults
     → HasTurns (λ mid later turn. IsDone turn.end) door before now (calls_of 0 seen)
     × IfSome door (λ tale. times_asked (calls_of 0 seen) ≡ tale.quiets + 1)

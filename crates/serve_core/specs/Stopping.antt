@@ -2,6 +2,7 @@
 use Rattle.std.specs.Prelude.{◌≡◌, ℕ, ◌^◌, ◌<◌, ⊤, Bool, true, false, [], IfSome}
 use Rattle.std.specs.declared.option.Option.{Option}
 use Rattle.edge_traits.specs.Door.{DoorTale}
+use Rattle.edge_traits.specs.declared.doorway.Answered.TheVariants as answered
 use Rattle.edge_traits.specs.declared.sink.Sent.{Sent}
 use Rattle.edge_traits.specs.declared.sink.Sent.TheVariants as sent
 use Rattle.steward_core.specs.declared.turn.StewardEnd.{StewardEnd}
@@ -13,12 +14,23 @@ use Rattle.serve_core.specs.declared.end.ServeEnd.TheVariants.{Done, DoorFault, 
 use Rattle.serve_core.specs.declared.settle.Supply.{Supply}
 use Rattle.serve_core.specs.declared.settle.Supply.TheVariants.{Enough, Short}
 
--- why no further link is taken, of so many: the door is closed and has none left, where it tells; or it failed; or 2^31
--- came
+-- what the door tells where no further link is taken for that reason: what it answered last, and where this was that it
+-- is closed, that it has no link left
+abbrev pub StopsAt : DoorEnd → DoorTale → Type 0
+StopsAt door_end.Closed tale = (tale.last ≡ answered.Closed) × (tale.left ≡ [])
+StopsAt door_end.Failed tale = tale.last ≡ answered.Failed
+StopsAt door_end.Spent tale = tale.last ≡ answered.Link
+
+-- how many links came by then: 2^31, or fewer
+abbrev pub StopsAfter : DoorEnd → ℕ → Type 0
+StopsAfter door_end.Closed count = count < 2 ^ 31
+StopsAfter door_end.Failed count = count < 2 ^ 31
+StopsAfter door_end.Spent count = count ≡ 2 ^ 31
+
+-- why no further link is taken, of so many: the last answer of the door, where it tells, was that it is closed, or a
+-- fault, or the last of 2^31 links
 abbrev pub IsStopped : DoorEnd → ℕ → Option DoorTale → Type 0
-IsStopped door_end.Closed count door = IfSome door (λ tale. tale.left ≡ []) × (count < 2 ^ 31)
-IsStopped door_end.Failed count door = count < 2 ^ 31
-IsStopped door_end.Spent count door = count ≡ 2 ^ 31
+IsStopped why count door = IfSome door (StopsAt why) × StopsAfter why count
 
 -- how serving ends: by why no further link is taken, what became of the last write, how the last turn of the steward
 -- ended, and whether memory ran out before that write. A fault of the door comes first, then one of the sink, then one of the

@@ -6,7 +6,7 @@ use Rattle.edge_traits.specs.WhereTold.{WhereTold}
 use Rattle.one_server.specs.Running.{IsKnown, Log, Made}
 use Rattle.hall_core.specs.Passes.{PassState, runs_of}
 use Rattle.steward_core.specs.Agreement.{StaysAgreed}
-use Rattle.serve_core.specs.Outside.{Store}
+use Rattle.edge_traits.specs.Calls.{Store}
 use Rattle.serve_core.specs.Stewarding.{AreTurns, MayEnd}
 use Rattle.serve_core.specs.declared.settle.Supply.{Supply}
 use Rattle.serve_core.specs.declared.settle.Supply.TheVariants.{Short}
@@ -26,12 +26,12 @@ abbrev pub GivesQuiets : ℕ → DoorTale → DoorTale → Type 0
 GivesQuiets n old new = new.quiets ≡ old.quiets + n
 
 -- From one time to another the pass made no entries but those of turns of the steward, as many as the door gave Quiets.
--- None of them ended with a keeper fault unless the keeper's count rose in it, and none for want of memory unless it is
--- known that memory ran out. A table that agreed still agrees
+-- None of them ended with a keeper fault unless its own last call of the keeper failed, and none for want of memory
+-- unless it is known that memory ran out. The keeper had no other calls, and a table that agreed still agrees
 pub record Tended (old new : Stand) : Type 0 where
   pub count : ℕ
   pub entries : Log
-  pub turns : AreTurns (MayEnd (new.supply ≡ Short)) count old.store.faults new.store.faults entries
+  pub turns : AreTurns (MayEnd (new.supply ≡ Short)) count old.store new.store entries
   pub grew : IsKnown (runs_of old.pass) → Made (runs_of old.pass) entries (runs_of new.pass)
   pub quiets : WhereTold old.door new.door (GivesQuiets count)
   pub short : old.supply ≡ Short → new.supply ≡ Short

@@ -1,7 +1,6 @@
 -- The turns of the steward that the door's thread makes, one by one.
 use Rattle.std.specs.Prelude.{◌≡◌, ℕ}
-use Rattle.std.specs.declared.option.Option.{Option}
-use Rattle.edge_traits.specs.Pairs.{Records}
+use Rattle.edge_traits.specs.Calls.{Store}
 use Rattle.hall_core.specs.Passes.{HasLooked, PassState, fixed_of, runs_of}
 use Rattle.steward_core.specs.Agreement.{StaysAgreed}
 use Rattle.steward_core.specs.Turn.{TakesTurn}
@@ -12,16 +11,14 @@ use Rattle.steward_core.specs.declared.turn.StewardEnd.TheVariants.{Done, Keeper
 use Rattle.serve_core.specs.declared.settle.Supply.{Supply}
 use Rattle.serve_core.specs.declared.settle.Supply.TheVariants.{Enough, Short}
 
--- the first pass made a turn of the steward, at some moment, over a keeper that told this table before and that one
--- after; and it is known whether memory ran out in it
-pub record MadeTurn (end : StewardEnd) (supply : Supply) (before after : Option Records) (old new : PassState) : Type 0
-  where
-    pub moment : ℕ
-    pub shared : fixed_of new ≡ fixed_of old
-    pub turn : TakesTurn moment end before after (runs_of old) (runs_of new)
-    pub agrees : StaysAgreed before after (runs_of old) (runs_of new)
-    pub short : end ≡ Memory → supply ≡ Short
-    pub short_first : turn.turn.cleared ≡ clearing.Memory → supply ≡ Short
+-- the first pass made a turn of the steward, at some moment, over a keeper that stood so before it and after; and it is known whether memory ran out in it
+pub record MadeTurn (end : StewardEnd) (supply : Supply) (before after : Store) (old new : PassState) : Type 0 where
+  pub moment : ℕ
+  pub shared : fixed_of new ≡ fixed_of old
+  pub turn : TakesTurn moment end before after (runs_of old) (runs_of new)
+  pub agrees : StaysAgreed before.table after.table (runs_of old) (runs_of new)
+  pub short : end ≡ Memory → supply ≡ Short
+  pub short_first : turn.turn.cleared ≡ clearing.Memory → supply ≡ Short
 
 -- whether memory ran out in a turn whose first half ended like this, and the whole of it like that. A keeper fault is no
 -- want of memory
@@ -37,10 +34,9 @@ supply_then Short before = Short
 supply_then Enough before = before
 
 -- the last turn: the pass looked at the history, made a turn, and looked again
-pub record TurnsLast (end : StewardEnd) (supply : Supply) (before after : Option Records) (old new : PassState) : Type 0
-  where
-    pub first : PassState
-    pub mid : PassState
-    pub looked : HasLooked old first
-    pub made : MadeTurn end supply before after first mid
-    pub looked_again : HasLooked mid new
+pub record TurnsLast (end : StewardEnd) (supply : Supply) (before after : Store) (old new : PassState) : Type 0 where
+  pub first : PassState
+  pub mid : PassState
+  pub looked : HasLooked old first
+  pub made : MadeTurn end supply before after first mid
+  pub looked_again : HasLooked mid new

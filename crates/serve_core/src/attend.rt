@@ -5,7 +5,7 @@ ghost use Rattle.std.specs.declared.option.Option.{Option};
 ghost use Rattle.edge_traits.specs.Door.{DoorTale, IsNew};
 ghost use Rattle.edge_traits.specs.WhereTold.{WhereTold};
 ghost use Rattle.serve_core.specs.Keeping.{Comes, KeepsLeft, Underway};
-ghost use Rattle.serve_core.specs.Outside.{Store};
+ghost use Rattle.edge_traits.specs.Calls.{Store};
 ghost use Rattle.serve_core.specs.Tending.{Tended, stand};
 
 use crate::settle::Host;

@@ -4,7 +4,7 @@ ghost use Rattle.std.specs.Prelude.{◌≡◌, ◌≤◌, []};
 ghost use Rattle.edge_traits.specs.Door.{KeepsLinks};
 ghost use Rattle.edge_traits.specs.WhereTold.{WhereTold};
 ghost use Rattle.serve_core.specs.Keeping.{KeepsLeft, SameHall, Underway, Stopped};
-ghost use Rattle.serve_core.specs.Outside.{Store};
+ghost use Rattle.edge_traits.specs.Calls.{Store, store_of};
 ghost use Rattle.serve_core.specs.Tending.{Tended, stand};
 ghost use Rattle.serve_core.specs.declared.settle.Supply.TheVariants.{Enough};
 
@@ -46,9 +46,9 @@ where
         result.pass [] }
     ensures tended { Tended
         (stand pass Enough (D.tale door.old)
-        (record { table = P.table keeper.old; faults = P.faults keeper.old }))
+        (store_of P.table P.faults P.calls keeper.old))
         (stand result.pass result.supply (D.tale door.new)
-        (record { table = P.table keeper.new; faults = P.faults keeper.new })) }
+        (store_of P.table P.faults P.calls keeper.new)) }
     ensures opening { result.pass.opening ≡ pass.opening }
     ensures links { WhereTold (D.tale door.old) (D.tale door.new) KeepsLinks }
     ensures stopped { Stopped result.end result.pass.splits (D.tale door.new) (D.faults door.old) (D.faults door.new) }
@@ -66,9 +66,9 @@ where
                 (D.tale result.1.now) result.0.pass [] }
             ensures tended { Tended
                 (stand pass Enough (D.tale door.entry.now)
-                (record { table = P.table keeper.entry.now; faults = P.faults keeper.entry.now }))
+                (store_of P.table P.faults P.calls keeper.entry.now))
                 (stand result.0.pass result.0.supply (D.tale result.1.now)
-                (record { table = P.table result.2.now; faults = P.faults result.2.now })) }
+                (store_of P.table P.faults P.calls result.2.now)) }
             ensures opening { result.0.pass.opening ≡ pass.opening }
             ensures links { WhereTold (D.tale door.entry.now) (D.tale result.1.now) KeepsLinks }
             ensures stopped { Stopped result.0.end result.0.pass.splits (D.tale result.1.now)
@@ -105,9 +105,9 @@ where
         result.pass [] }
     ensures tended { Tended
         (stand pass Enough (D.tale door.old)
-        (record { table = P.table keeper.old; faults = P.faults keeper.old }))
+        (store_of P.table P.faults P.calls keeper.old))
         (stand result.pass result.supply (D.tale door.new)
-        (record { table = P.table keeper.new; faults = P.faults keeper.new })) }
+        (store_of P.table P.faults P.calls keeper.new)) }
     ensures opening { result.pass.opening ≡ pass.opening }
     ensures links { WhereTold (D.tale door.old) (D.tale door.new) KeepsLinks }
     ensures stopped { Stopped result.end result.pass.splits (D.tale door.new) (D.faults door.old) (D.faults door.new) }

@@ -1,6 +1,7 @@
 //! One answer of the door, and what is done by it.
 
 ghost use Rattle.std.specs.Prelude.{◌≡◌, ◌≤◌, ◌<◌, ◌^◌, MatchOption};
+ghost use Rattle.edge_traits.specs.Calls.{store_of};
 ghost use Rattle.edge_traits.specs.Door.{KeepsLinks};
 ghost use Rattle.edge_traits.specs.WhereTold.{WhereTold};
 ghost use Rattle.edge_traits.specs.Faults.{Rose};
@@ -52,9 +53,9 @@ where
         result.0.pass result.0.waiting.items }
     ensures tended { Tended
         (stand host.pass host.supply (D.tale door.old)
-        (record { table = P.table keeper.old; faults = P.faults keeper.old }))
+        (store_of P.table P.faults P.calls keeper.old))
         (stand result.0.pass result.0.supply (D.tale door.new)
-        (record { table = P.table keeper.new; faults = P.faults keeper.new })) }
+        (store_of P.table P.faults P.calls keeper.new)) }
     ensures opening { result.0.pass.opening ≡ host.pass.opening }
     ensures links { WhereTold (D.tale door.old) (D.tale door.new) KeepsLinks }
     ensures counted { D.faults door.old ≤ D.faults door.new }
@@ -84,7 +85,8 @@ fn at_quiet<T: Threads + Wait, C: Clock, G: Gate, L: Link + Drop, P: Keeper>(
 ) -> Host<L, C>
     requires here { host.pass.home ≡ shared.now.hall.now }
     ensures turn { (end : StewardEnd) × (made : Supply)
-        × MadeTurn end made (P.table keeper.old) (P.table keeper.new) host.pass result.pass
+        × MadeTurn end made (store_of P.table P.faults P.calls keeper.old)
+        (store_of P.table P.faults P.calls keeper.new) host.pass result.pass
         × (result.supply ≡ supply_then made host.supply)
         × (end ≡ KeeperFault → Rose (P.faults keeper.old) (P.faults keeper.new)) }
     ensures waiting { result.waiting ≡ host.waiting }

@@ -2,6 +2,7 @@
 
 ghost use Rattle.std.specs.Prelude.{◌≡◌, ◌≤◌, ◌⊎◌, ◌∷◌, [], ℕ, List, IfSome, IfNone, IfErr, OnOk, Contains};
 ghost use Rattle.std.specs.Io.KnownBytes.{Appends};
+ghost use Rattle.edge_traits.specs.Calls.{Store, store_of};
 ghost use Rattle.edge_traits.specs.Door.{KeepsLinks};
 ghost use Rattle.edge_traits.specs.WhereTold.{WhereTold};
 ghost use Rattle.edge_traits.specs.Faults.{Rose};
@@ -63,20 +64,20 @@ where
     requires door { IfSome (D.tale door.old) IsUnused }
     ensures hall { IfSome result.1 (λ h. h.1.home ≡ h.0) }
     ensures served { IfSome result.1 (λ h. AsksToServe words.now × (lobby : LobbyState)
-        × IsLoaded (P.table keeper.old) lobby × (end : ServeEnd) × (result.0 ≡ status_of end)
+        × (loaded : Store) × IsLoaded (store_of P.table P.faults P.calls keeper.old) loaded lobby
+        × (end : ServeEnd) × (result.0 ≡ status_of end)
         × HasServedAll (C.shows clock.now) (opened lobby) end (D.tale door.new)
         (record { written = K.written sink.old; faults = K.faults sink.old })
         (record { written = K.written sink.new; faults = K.faults sink.new })
-        (record { table = P.table keeper.old; faults = P.faults keeper.old })
-        (record { table = P.table keeper.new; faults = P.faults keeper.new }) h.1) }
+        loaded (store_of P.table P.faults P.calls keeper.new) h.1) }
     ensures table { IfSome result.1 (λ h. IfSome (P.table keeper.old)
         (λ _. TellsAgreed (P.table keeper.new) (state house h.1.opening h.1.seen))) }
     ensures links { WhereTold (D.tale door.old) (D.tale door.new) KeepsLinks }
     ensures untouched { IfNone result.1 (D.tale door.new ≡ D.tale door.old) }
     ensures no_hall { IfNone result.1 (AsksToServe words.now → (fault : StoreFault)
         × (result.0 ≡ unopened_status fault) × StaysUnopened fault
-        (record { table = P.table keeper.old; faults = P.faults keeper.old })
-        (record { table = P.table keeper.new; faults = P.faults keeper.new })
+        (store_of P.table P.faults P.calls keeper.old)
+        (store_of P.table P.faults P.calls keeper.new)
         (record { written = K.written sink.old; faults = K.faults sink.old })
         (record { written = K.written sink.new; faults = K.faults sink.new })) }
     ensures usage { result.0 ≡ 1 → ¬ (AsksToServe words.now)
@@ -139,25 +140,25 @@ where
     requires door { IfSome (D.tale door.old) IsUnused }
     ensures hall { IfSome result.1 (λ h. h.1.home ≡ h.0) }
     ensures served { IfSome result.1 (λ h. (lobby : LobbyState)
-        × IsLoaded (P.table keeper.old) lobby × (end : ServeEnd) × (result.0 ≡ status_of end)
+        × (loaded : Store) × IsLoaded (store_of P.table P.faults P.calls keeper.old) loaded lobby
+        × (end : ServeEnd) × (result.0 ≡ status_of end)
         × HasServedAll (C.shows clock.now) (opened lobby) end (D.tale door.new)
         (record { written = K.written sink.old; faults = K.faults sink.old })
         (record { written = K.written sink.new; faults = K.faults sink.new })
-        (record { table = P.table keeper.old; faults = P.faults keeper.old })
-        (record { table = P.table keeper.new; faults = P.faults keeper.new }) h.1) }
+        loaded (store_of P.table P.faults P.calls keeper.new) h.1) }
     ensures table { IfSome result.1 (λ h. IfSome (P.table keeper.old)
         (λ _. TellsAgreed (P.table keeper.new) (state house h.1.opening h.1.seen))) }
     ensures links { WhereTold (D.tale door.old) (D.tale door.new) KeepsLinks }
     ensures untouched { IfNone result.1 (D.tale door.new ≡ D.tale door.old) }
     ensures no_hall { IfNone result.1 ((fault : StoreFault) × (result.0 ≡ unopened_status fault)
         × StaysUnopened fault
-        (record { table = P.table keeper.old; faults = P.faults keeper.old })
-        (record { table = P.table keeper.new; faults = P.faults keeper.new })
+        (store_of P.table P.faults P.calls keeper.old)
+        (store_of P.table P.faults P.calls keeper.new)
         (record { written = K.written sink.old; faults = K.faults sink.old })
         (record { written = K.written sink.new; faults = K.faults sink.new })) }
     ensures ends { EndsCall result.0
-        (record { table = P.table keeper.old; faults = P.faults keeper.old })
-        (record { table = P.table keeper.new; faults = P.faults keeper.new })
+        (store_of P.table P.faults P.calls keeper.old)
+        (store_of P.table P.faults P.calls keeper.new)
         (record { written = K.written sink.old; faults = K.faults sink.old })
         (record { written = K.written sink.new; faults = K.faults sink.new })
         (record { door = D.faults door.old; sink = K.faults sink.old; keeper = P.faults keeper.old })

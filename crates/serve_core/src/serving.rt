@@ -2,6 +2,7 @@
 
 ghost use Rattle.std.specs.Prelude.{◌≡◌, ◌≤◌, ◌⊎◌, ℕ, IfSome, IfNone, List, take};
 ghost use Rattle.std.specs.Io.KnownBytes.{Appends, Keeps};
+ghost use Rattle.edge_traits.specs.Calls.{store_of};
 ghost use Rattle.edge_traits.specs.Door.{KeepsLinks};
 ghost use Rattle.edge_traits.specs.WhereTold.{WhereTold};
 ghost use Rattle.edge_traits.specs.Faults.{Rose};
@@ -64,8 +65,8 @@ where
     ensures served { IfSome result.1 (λ h. HasServedAll (C.shows clock.now) (opened lobby) result.0 (D.tale door.new)
         (record { written = K.written sink.old; faults = K.faults sink.old })
         (record { written = K.written sink.new; faults = K.faults sink.new })
-        (record { table = P.table keeper.old; faults = P.faults keeper.old })
-        (record { table = P.table keeper.new; faults = P.faults keeper.new }) h.1) }
+        (store_of P.table P.faults P.calls keeper.old)
+        (store_of P.table P.faults P.calls keeper.new) h.1) }
     ensures links { WhereTold (D.tale door.old) (D.tale door.new) KeepsLinks }
     ensures no_hall { IfNone result.1 ((result.0 ≡ ServeEnd.Memory) × Keeps (K.written sink.old) (K.written sink.new)) }
     ensures untouched { IfNone result.1 (D.tale door.new ≡ D.tale door.old) }
@@ -120,8 +121,8 @@ where
     ensures served { HasServedAll (C.shows shared.now.clock.now) pass.opening result.1 (D.tale door.new)
         (record { written = K.written sink.old; faults = K.faults sink.old })
         (record { written = K.written sink.new; faults = K.faults sink.new })
-        (record { table = P.table keeper.old; faults = P.faults keeper.old })
-        (record { table = P.table keeper.new; faults = P.faults keeper.new }) result.0 }
+        (store_of P.table P.faults P.calls keeper.old)
+        (store_of P.table P.faults P.calls keeper.new) result.0 }
     ensures links { WhereTold (D.tale door.old) (D.tale door.new) KeepsLinks }
     ensures door_fault { result.1 ≡ ServeEnd.DoorFault → Rose (D.faults door.old) (D.faults door.new) }
     ensures write_fault { result.1 ≡ ServeEnd.WriteFault → Rose (K.faults sink.old) (K.faults sink.new) }
@@ -181,7 +182,8 @@ fn last_turn<T: Threads + Wait, C: Clock, G: Gate, P: Keeper>(
     keeper: &mut P,
 ) -> (HallPass, StewardEnd, Supply)
     requires here { pass.home ≡ shared.now.hall.now }
-    ensures turn { TurnsLast result.1 result.2 (P.table keeper.old) (P.table keeper.new) pass result.0 }
+    ensures turn { TurnsLast result.1 result.2 (store_of P.table P.faults P.calls keeper.old)
+        (store_of P.table P.faults P.calls keeper.new) pass result.0 }
     ensures fault { result.1 ≡ StewardEnd.KeeperFault → Rose (P.faults keeper.old) (P.faults keeper.new) }
     ensures counted { P.faults keeper.old ≤ P.faults keeper.new }
 {

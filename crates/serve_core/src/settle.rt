@@ -5,7 +5,7 @@ ghost use Rattle.edge_traits.specs.Door.{IsOut, TakesBack};
 ghost use Rattle.edge_traits.specs.WhereTold.{WhereTold};
 ghost use Rattle.hall_core.specs.Passes.{IsJoined};
 ghost use Rattle.serve_core.specs.Keeping.{KeepsLeft, SameHall, Underway, supply_after};
-ghost use Rattle.serve_core.specs.Outside.{Store};
+ghost use Rattle.edge_traits.specs.Calls.{Store};
 ghost use Rattle.serve_core.specs.Tending.{Tended, stand};
 
 use crate::shared::Shared;

@@ -1,6 +1,7 @@
 //! A turn of the steward, with the hall's first pass.
 
 ghost use Rattle.std.specs.Prelude.{◌≡◌, ◌≤◌};
+ghost use Rattle.edge_traits.specs.Calls.{store_of};
 ghost use Rattle.edge_traits.specs.Faults.{Rose};
 ghost use Rattle.serve_core.specs.Turns.{MadeTurn, supply_in};
 
@@ -21,7 +22,8 @@ pub fn turn<T: Threads + Wait, C: Clock, G: Gate, P: Keeper>(
     keeper: &mut P,
 ) -> (HallPass, StewardEnd, Supply)
     requires here { pass.home ≡ shared.now.hall.now }
-    ensures turn { MadeTurn result.1 result.2 (P.table keeper.old) (P.table keeper.new) pass result.0 }
+    ensures turn { MadeTurn result.1 result.2 (store_of P.table P.faults P.calls keeper.old)
+        (store_of P.table P.faults P.calls keeper.new) pass result.0 }
     ensures fault { result.1 ≡ StewardEnd.KeeperFault → Rose (P.faults keeper.old) (P.faults keeper.new) }
     ensures counted { P.faults keeper.old ≤ P.faults keeper.new }
 {

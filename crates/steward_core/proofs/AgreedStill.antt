@@ -1,9 +1,10 @@
 -- A table that agrees with what a session has seen still agrees once the session has made acts.
-use Rattle.std.proofs.Common.{◌≡◌, ℕ, ◌+◌, ◌<◌, ◌≤◌, ◌==◌, true, false, cond, List, [], ◌∷◌, ◌++◌, Option, None, Some, filter, map, inl, inr, set, slice_get, refl, sym, ap, subst, ◌∙◌, append_assoc, arith}
+use Rattle.std.proofs.Common.{◌≡◌, ℕ, ◌<◌, ◌≤◌, ◌==◌, true, false, cond, List, [], ◌∷◌, ◌++◌, Option, None, Some, filter, map, inl, inr, set, slice_get, refl, sym, ap, subst, ◌∙◌, append_assoc, arith}
 use Rattle.std.specs.Prelude.{nat_lt}
 use Rattle.std.specs.List.{AllByRecursion}
 use Rattle.std.proofs.lemmas.Bool.{eqb-false, lt-ltb, le-ltb}
 use Rattle.std.proofs.lemmas.List.{append_cancel_left}
+use Rattle.edge_traits.specs.Calls.{Calls, Store}
 use Rattle.edge_traits.specs.Pairs.{Records}
 use Rattle.fics_words.proofs.Each.{each-back, each-front}
 use Rattle.lobby_shelf.specs.Facts.{IsShelf, OrdersRise}
@@ -227,12 +228,18 @@ module _ (moment : ℕ) (orders carried left : List Order) (before after_all : R
   agreed_tells (Some upto) told.Memory last t none = agrees_gained after_all old new [] whole known t tt none agreed_put
 
 -- orders that were told are carried out and told as saved
-pub told_agrees : (moment : ℕ) (end : SaveRound) (orders : List Order) (before after_all : Option Records) (old new : RunnerState) → IsKnown old
-    → SavesTold moment end orders before after_all old new → StandFirst orders (state_seen old) → StaysAgreed before after_all old new
-told_agrees moment end orders None after_all old new known s first = tt
-told_agrees moment end orders (Some before) None old new known s first = absurd s.table
-told_agrees moment end orders (Some before) (Some after_all) old new known s first = λ whole none agreed.
+told_agrees_at : (moment : ℕ) (end : SaveRound) (orders : List Order) (before after_all : Option Records) (faults faults' : ℕ) (calls calls' : Calls) (old new : RunnerState) → IsKnown old
+    → SavesTold moment end orders (record { table = before; faults = faults; calls = calls }) (record { table = after_all; faults = faults'; calls = calls' }) old new
+    → StandFirst orders (state_seen old) → StaysAgreed before after_all old new
+told_agrees_at moment end orders None after_all faults faults' calls calls' old new known s first = tt
+told_agrees_at moment end orders (Some before) None faults faults' calls calls' old new known s first = absurd s.table
+told_agrees_at moment end orders (Some before) (Some after_all) faults faults' calls calls' old new known s first = λ whole none agreed.
     agreed_tells moment orders s.carried s.left before after_all old new known whole s.all first s.table agreed (last_number s.carried) s.said refl s.tells none
+
+pub told_agrees : (moment : ℕ) (end : SaveRound) (orders : List Order) (before after_all : Store) (old new : RunnerState) → IsKnown old
+    → SavesTold moment end orders before after_all old new → StandFirst orders (state_seen old) → StaysAgreed before.table after_all.table old new
+told_agrees moment end orders before after_all old new known s first =
+    told_agrees_at moment end orders before.table after_all.table before.faults after_all.faults before.calls after_all.calls old new known s first
 
 -- nothing at all
 pub agreed_still : (table : Option Records) (it : RunnerState) → StaysAgreed table table it it

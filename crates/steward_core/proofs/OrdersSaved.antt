@@ -1,19 +1,19 @@
 -- Rounds of save orders, one after another.
 use Rattle.std.proofs.Common.{◌≡◌, ℕ, ◌+◌, ◌*◌, ◌<◌, ◌≤◌, suc, inl, inr, Bool, true, false, cond, List, [], ◌∷◌, ◌++◌, Option, None, Some, length, refl, sym, ap, subst, ◌∙◌, append-nil, length-append, arith, ◌⊎◌, ◌==◌, ◌^◌, ◌-◌}
 use Rattle.std.proofs.lemmas.Bool.{eqb-true, eqb-false}
-use Rattle.edge_traits.specs.Pairs.{Records}
+use Rattle.edge_traits.specs.Calls.{Store}
 use Rattle.edge_traits.specs.declared.keeper.Kept.{Kept}
 use Rattle.edge_traits.specs.declared.keeper.Kept.TheVariants as kept
 use Rattle.lobby_shelf.specs.declared.order.Order.{Order}
 use Rattle.histories.specs.declared.entry.Entry.{Entry}
 use Rattle.histories.specs.History.{entry}
-use Rattle.lobby_store.specs.Carrying.{Carries}
-use Rattle.lobby_store.proofs.OrdersOut.{carries_none, carries_then}
+use Rattle.lobby_store.specs.Carrying.{CallsFor, Carries}
+use Rattle.lobby_store.proofs.OrdersOut.{called_then, carries_none, carries_then}
 use Rattle.one_server.specs.declared.act.Timed.{Timed}
 use Rattle.one_server.specs.declared.reply.Reply.{Reply}
 use Rattle.one_server.specs.Running.{IsKnown, Log, Made, Ran, RunnerState}
 use Rattle.steward_core.specs.Clearing.{acts_of}
-use Rattle.steward_core.specs.Saving.{AreFullRounds, EndsRound, EndsSaving, IsCutShort, IsSaveRound, LeavesOne, RunsRound, SavesTold, TakesSaving, TellsUpTo, asks_orders, last_number, orders_in, round_of, says_saved, tells_upto}
+use Rattle.steward_core.specs.Saving.{AreFullRounds, EndsRound, EndsSaving, HasCalled, IsCutShort, IsSaveRound, LeavesOne, RoundAt, RunsRound, SavesTold, TakesSaving, TellsUpTo, asks_orders, last_number, orders_in, round_of, says_saved, tells_upto}
 use Rattle.steward_core.specs.declared.saving.SaveRound.{SaveRound}
 use Rattle.steward_core.specs.declared.saving.SaveRound.TheVariants as round
 use Rattle.steward_core.specs.declared.saving.SavedTold.{SavedTold}
@@ -23,22 +23,33 @@ use Rattle.steward_core.specs.declared.turn.StewardEnd.TheVariants.{Done, Keeper
 use Rattle.one_server.proofs.Made.{made_none, made_then}
 
 -- so many full rounds were run
-pub record HasSaved (moment rounds : ℕ) (before after : Option Records) (old new : RunnerState) : Type 0 where
+pub record HasSaved (moment rounds : ℕ) (before after : Store) (old new : RunnerState) : Type 0 where
   pub entries : Log
   pub carried : List Order
   pub grew : Made old entries new
   pub full : AreFullRounds moment rounds entries carried
-  pub kept : Carries before after carried
+  pub called : CallsFor kept.Done carried before.calls after.calls
+  pub kept : Carries before.table after.table carried
 
-pub none_saved : (moment : ℕ) (table : Option Records) (old : RunnerState) → IsKnown old → HasSaved moment 0 table table old old
-none_saved moment table old known = record { entries = []; carried = []; grew = made_none old known; full = (refl, refl); kept = carries_none table }
+pub none_saved : (moment : ℕ) (store : Store) (old : RunnerState) → IsKnown old → HasSaved moment 0 store store old old
+none_saved moment store old known = record {
+  entries = [];
+  carried = [];
+  grew = made_none old known;
+  full = (refl, refl);
+  kept = carries_none store.table;
+  called = sym (append-nil store.calls);
+}
 
-module _ (moment rounds : ℕ) (before mid after : Option Records) (old between new : RunnerState) (so_far : HasSaved moment rounds before mid old between) where
+module _ (moment rounds : ℕ) (before mid after : Store) (old between new : RunnerState) (so_far : HasSaved moment rounds before mid old between) where
   grown : (entries : Log) → Made between entries new → Made old (so_far.entries ++ entries) new
   grown entries grew = made_then old between new so_far.entries entries so_far.grew grew
 
-  carried_on : (carried : List Order) → Carries mid after carried → Carries before after (so_far.carried ++ carried)
-  carried_on carried kept = carries_then before mid after so_far.carried carried so_far.kept kept
+  carried_on : (carried : List Order) → Carries mid.table after.table carried → Carries before.table after.table (so_far.carried ++ carried)
+  carried_on carried kept = carries_then before.table mid.table after.table so_far.carried carried so_far.kept kept
+
+  called_on : (answer : Kept) (carried : List Order) → CallsFor answer carried mid.calls after.calls → CallsFor answer (so_far.carried ++ carried) before.calls after.calls
+  called_on answer carried called = called_then answer before.calls mid.calls after.calls so_far.carried carried so_far.called called
 
   -- one more full round
   pub saved_next : RunsRound moment round.Full mid after between new → HasSaved moment (suc rounds) before after old new
@@ -48,31 +59,33 @@ module _ (moment rounds : ℕ) (before mid after : Option Records) (old between 
     grew = grown r.entries r.grew;
     full = (so_far.entries, r.entries, so_far.carried, r.carried, so_far.full, r.ends.0, r.ends.1, refl, refl);
     kept = carried_on r.carried r.kept;
+    called = called_on kept.Done r.carried (subst (λ (answer : Kept). CallsFor answer r.carried mid.calls after.calls) r.called.1 r.called.2);
   }
 
   -- a round that is the last one
   ended : (end : StewardEnd) (entries : Log) (carried : List Order) → Made between entries new → EndsSaving moment end rounds entries carried
-      → LeavesOne end entries carried → Carries mid after carried → TakesSaving moment end before after old new
-  ended end entries carried grew ends left kept = record {
+      → LeavesOne end entries carried → Carries mid.table after.table carried → HasCalled end carried mid.calls after.calls → TakesSaving moment end before after old new
+  ended end entries carried grew ends left kept called = record {
     entries = so_far.entries ++ entries;
     carried = so_far.carried ++ carried;
     grew = grown entries grew;
     saving = record { rounds = rounds; full = so_far.entries; first = so_far.carried; rest = entries; last = carried; are_full = so_far.full; ends = ends; left = left; all = refl; orders = refl };
     kept = carried_on carried kept;
+    called = (called.0, called.1, called_on called.0 carried called.2);
   }
 
   pub ended_last : (few : ℕ) → RunsRound moment (round.Last few) mid after between new → TakesSaving moment (Done (rounds * 16 + few)) before after old new
   ended_last few r = ended (Done (rounds * 16 + few)) r.entries r.carried r.grew
-      (inl (r.ends.0, r.ends.1, ap (λ n. rounds * 16 + n) r.ends.2)) tt r.kept
+      (inl (r.ends.0, r.ends.1, ap (λ n. rounds * 16 + n) r.ends.2)) tt r.kept r.called
 
   pub ended_fault : RunsRound moment round.KeeperFault mid after between new → TakesSaving moment KeeperFault before after old new
-  ended_fault r = ended KeeperFault r.entries r.carried r.grew r.ends.0 r.ends.1 r.kept
+  ended_fault r = ended KeeperFault r.entries r.carried r.grew r.ends.0 r.ends.1 r.kept r.called
 
   pub ended_short : RunsRound moment round.Memory mid after between new → TakesSaving moment Memory before after old new
-  ended_short r = ended Memory r.entries r.carried r.grew r.ends tt r.kept
+  ended_short r = ended Memory r.entries r.carried r.grew r.ends tt r.kept r.called
 
 -- the most rounds
-pub ended_most : (moment rounds : ℕ) (before after : Option Records) (old new : RunnerState) → rounds ≡ 2 ^ 28 - 1 → HasSaved moment rounds before after old new
+pub ended_most : (moment rounds : ℕ) (before after : Store) (old new : RunnerState) → rounds ≡ 2 ^ 28 - 1 → HasSaved moment rounds before after old new
     → TakesSaving moment (Done (rounds * 16)) before after old new
 ended_most moment rounds before after old new most s = record {
   entries = s.entries;
@@ -80,9 +93,21 @@ ended_most moment rounds before after old new most s = record {
   grew = s.grew;
   saving = record { rounds = rounds; full = s.entries; first = s.carried; rest = []; last = []; are_full = s.full; ends = inr (most, refl, refl, refl); left = tt; all = sym (append-nil s.entries); orders = sym (append-nil s.carried) };
   kept = s.kept;
+  called = (kept.Done, refl, s.called);
 }
 
 -- ---- one round
+
+-- memory ran out at the question for orders
+pub round_unasked : (moment : ℕ) (store : Store) (old new : RunnerState) → Made old [] new → RunsRound moment round.Memory store store old new
+round_unasked moment store old new grew = record {
+  entries = [];
+  carried = [];
+  grew = grew;
+  ends = inr (refl, refl);
+  kept = carries_none store.table;
+  called = (kept.Done, λ bad. cc, sym (append-nil store.calls));
+}
 
 -- what telling made, and whether it was made
 abbrev pub Said : ℕ → Option ℕ → SavedTold → RunnerState → RunnerState → Type 0
@@ -93,7 +118,7 @@ said_made moment None said old new known t = ([], subst (λ (s : RunnerState). M
 said_made moment (Some upto) told.Done old new known t = (entry old.number (says_saved moment upto) t.0 ∷ [], t.1.grew, (λ _. refl, λ bad. cc))
 said_made moment (Some upto) told.Memory old new known t = ([], t, (λ bad. cc, λ _. refl))
 
-module _ (moment : ℕ) (orders : List Order) (before after : Option Records) (answer : Reply) (old mid new : RunnerState) (known : IsKnown mid)
+module _ (moment : ℕ) (orders : List Order) (before after : Store) (answer : Reply) (old mid new : RunnerState) (known : IsKnown mid)
     (ran : Ran old (asks_orders moment) answer mid) (tells : orders_in answer ≡ orders) (few : length orders ≤ 16) where
   asked : Entry Timed Reply
   asked = entry old.number (asks_orders moment) answer
@@ -142,6 +167,16 @@ module _ (moment : ℕ) (orders : List Order) (before after : Option Records) (a
   ends_by kept.Done told.Memory carried left entries all whole only acts none = inl (cut_round carried left entries all (inr (none refl)))
   ends_by kept.Done told.Done carried left entries all whole only acts none = ends_whole carried left entries all (whole refl) (acts refl) (length orders == 16) refl
 
+  answered_whole : (is_full : Bool) (count : ℕ) → RoundAt (cond is_full round.Full (round.Last count)) kept.Done
+  answered_whole true count = refl
+  answered_whole false count = refl
+
+  answered : (outcome : Kept) (said : SavedTold) (count : ℕ) → RoundAt (round_of outcome said count) outcome
+  answered kept.Failed said count = refl
+  answered kept.Memory said count = λ bad. cc
+  answered kept.Done told.Memory count = λ bad. cc
+  answered kept.Done told.Done count = answered_whole (count == 16) count
+
   pub round_run : (end : SaveRound) → SavesTold moment end orders before after mid new → RunsRound moment end before after old new
   round_run end s =
       let said = said_made moment (last_number s.carried) s.said mid new known s.tells in
@@ -152,4 +187,5 @@ module _ (moment : ℕ) (orders : List Order) (before after : Option Records) (a
         ends = subst (λ (r : SaveRound). EndsRound moment r (asked ∷ said.0) s.carried) (sym s.ends)
             (ends_by s.outcome s.said s.carried s.left said.0 s.all s.whole s.only_whole said.2.0 said.2.1);
         kept = s.table;
+        called = (s.outcome, subst (λ (r : SaveRound). RoundAt r s.outcome) (sym s.ends) (answered s.outcome s.said (length orders)), s.called);
       }

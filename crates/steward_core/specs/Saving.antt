@@ -1,6 +1,6 @@
--- The acts by which a steward has save orders carried out. This server's own.
-use Rattle.std.specs.Prelude.{◌≡◌, ℕ, ◌+◌, ◌-◌, ◌*◌, ◌<◌, ◌^◌, ◌==◌, ◌⊎◌, if◌then◌else◌, List, [], ◌∷◌, ◌++◌, Option, None, Some, length, zero, suc}
-use Rattle.edge_traits.specs.Pairs.{Records}
+-- The acts by which a steward has save orders carried out, and the calls of the keeper. This server's own.
+use Rattle.std.specs.Prelude.{◌≡◌, ◌≢◌, ℕ, ◌+◌, ◌-◌, ◌*◌, ◌<◌, ◌^◌, ◌==◌, ◌⊎◌, if◌then◌else◌, List, [], ◌∷◌, ◌++◌, Option, None, Some, length, zero, suc}
+use Rattle.edge_traits.specs.Calls.{Calls, Store}
 use Rattle.edge_traits.specs.declared.keeper.Kept.{Kept}
 use Rattle.edge_traits.specs.declared.keeper.Kept.TheVariants as kept
 use Rattle.lobby_shelf.specs.declared.order.Order.{Order}
@@ -8,7 +8,7 @@ use Rattle.histories.specs.declared.entry.Entry.{Entry}
 use Rattle.lobby_shelf.specs.Shelf.{orders_at_once}
 use Rattle.lobby_state.specs.declared.acts.LobbyAct.TheVariants.{Orders as AskOrders, Saved}
 use Rattle.lobby_state.specs.declared.acts.LobbyReply.TheVariants.{Orders}
-use Rattle.lobby_store.specs.Carrying.{Carries}
+use Rattle.lobby_store.specs.Carrying.{CallsFor, Carries}
 use Rattle.one_server.specs.declared.act.Act.TheVariants.{Lobby}
 use Rattle.one_server.specs.declared.act.Timed.{Timed}
 use Rattle.one_server.specs.declared.reply.Reply.{Reply}
@@ -113,14 +113,25 @@ pub record IsSaving (moment : ℕ) (end : StewardEnd) (entries : Log) (carried :
   pub all : entries ≡ full ++ rest
   pub orders : carried ≡ first ++ last
 
+-- what the keeper answered last where saving ended like this: it failed exactly where its fault is told
+abbrev pub SavesAt : StewardEnd → Kept → Type 0
+SavesAt (Done count) answer = answer ≡ kept.Done
+SavesAt KeeperFault answer = answer ≡ kept.Failed
+SavesAt Memory answer = answer ≢ kept.Failed
+
+-- where saving ended like this, the keeper had a call for each order that was carried out, and one more where it failed
+-- or ran out of memory, and no others
+abbrev pub HasCalled : StewardEnd → List Order → Calls → Calls → Type 0
+HasCalled end carried old new = (answer : Kept) × SavesAt end answer × CallsFor answer carried old new
+
 -- a session had save orders carried out, and a keeper carried them out
-pub record TakesSaving (moment : ℕ) (end : StewardEnd) (before after : Option Records) (old new : RunnerState) : Type 0
-  where
-    pub entries : Log
-    pub carried : List Order
-    pub grew : Made old entries new
-    pub saving : IsSaving moment end entries carried
-    pub kept : Carries before after carried
+pub record TakesSaving (moment : ℕ) (end : StewardEnd) (before after : Store) (old new : RunnerState) : Type 0 where
+  pub entries : Log
+  pub carried : List Order
+  pub grew : Made old entries new
+  pub saving : IsSaving moment end entries carried
+  pub kept : Carries before.table after.table carried
+  pub called : HasCalled end carried before.calls after.calls
 
 -- orders were told as saved, up to a number, where there is one
 abbrev pub TellsUpTo : ℕ → Option ℕ → SavedTold → RunnerState → RunnerState → Type 0
@@ -141,7 +152,7 @@ round_of kept.Done told.Done count = if count == orders_at_once then round.Full 
 
 -- the orders that were told were handed to a keeper: some were carried out, from the first one on, all exactly where
 -- that ended well, and then told as saved
-pub record SavesTold (moment : ℕ) (end : SaveRound) (orders : List Order) (before after : Option Records)
+pub record SavesTold (moment : ℕ) (end : SaveRound) (orders : List Order) (before after : Store)
     (old new : RunnerState) : Type 0 where
   pub carried : List Order
   pub left : List Order
@@ -150,7 +161,8 @@ pub record SavesTold (moment : ℕ) (end : SaveRound) (orders : List Order) (bef
   pub all : orders ≡ carried ++ left
   pub whole : outcome ≡ kept.Done → left ≡ []
   pub only_whole : left ≡ [] → outcome ≡ kept.Done
-  pub table : Carries before after carried
+  pub table : Carries before.table after.table carried
+  pub called : CallsFor outcome carried before.calls after.calls
   pub tells : Tells moment carried said old new
   pub ends : end ≡ round_of outcome said (length orders)
 
@@ -163,11 +175,18 @@ EndsRound moment round.KeeperFault entries orders =
     IsCutShort moment entries orders × (length orders < length (orders_told entries))
 EndsRound moment round.Memory entries orders = IsCutShort moment entries orders ⊎ ((entries ≡ []) × (orders ≡ []))
 
+-- what the keeper answered last in a round that ended like this
+abbrev pub RoundAt : SaveRound → Kept → Type 0
+RoundAt round.Full answer = answer ≡ kept.Done
+RoundAt (round.Last count) answer = answer ≡ kept.Done
+RoundAt round.KeeperFault answer = answer ≡ kept.Failed
+RoundAt round.Memory answer = answer ≢ kept.Failed
+
 -- a session ran a round, in which a keeper carried orders out
-pub record RunsRound (moment : ℕ) (end : SaveRound) (before after : Option Records)
-    (old new : RunnerState) : Type 0 where
+pub record RunsRound (moment : ℕ) (end : SaveRound) (before after : Store) (old new : RunnerState) : Type 0 where
   pub entries : Log
   pub carried : List Order
   pub grew : Made old entries new
   pub ends : EndsRound moment end entries carried
-  pub kept : Carries before after carried
+  pub kept : Carries before.table after.table carried
+  pub called : (answer : Kept) × RoundAt end answer × CallsFor answer carried before.calls after.calls

@@ -1,12 +1,11 @@
 -- The acts of a turn of the steward. This server's own.
 use Rattle.std.specs.Prelude.{◌≡◌, ℕ, List, ◌++◌}
-use Rattle.std.specs.declared.option.Option.{Option}
-use Rattle.edge_traits.specs.Pairs.{Records}
+use Rattle.edge_traits.specs.Calls.{Store}
 use Rattle.lobby_shelf.specs.declared.order.Order.{Order}
 use Rattle.lobby_store.specs.Carrying.{Carries}
 use Rattle.one_server.specs.Running.{Log, Made, RunnerState}
 use Rattle.steward_core.specs.Clearing.{IsClearing}
-use Rattle.steward_core.specs.Saving.{IsSaving}
+use Rattle.steward_core.specs.Saving.{HasCalled, IsSaving}
 use Rattle.steward_core.specs.declared.clearing.ClearingEnd.{ClearingEnd}
 use Rattle.steward_core.specs.declared.clearing.ClearingEnd.TheVariants as clearing
 use Rattle.steward_core.specs.declared.turn.StewardEnd.{StewardEnd}
@@ -29,10 +28,10 @@ pub record IsStewardTurn (moment : ℕ) (end : StewardEnd) (entries : Log) (carr
   pub ends : end ≡ end_of_turn cleared saved
 
 -- a session made a turn, in which a keeper carried these orders out
-pub record TakesTurn (moment : ℕ) (end : StewardEnd) (before after : Option Records) (old new : RunnerState) : Type 0
-  where
-    pub entries : Log
-    pub carried : List Order
-    pub grew : Made old entries new
-    pub turn : IsStewardTurn moment end entries carried
-    pub kept : Carries before after carried
+pub record TakesTurn (moment : ℕ) (end : StewardEnd) (before after : Store) (old new : RunnerState) : Type 0 where
+  pub entries : Log
+  pub carried : List Order
+  pub grew : Made old entries new
+  pub turn : IsStewardTurn moment end entries carried
+  pub kept : Carries before.table after.table carried
+  pub called : HasCalled turn.saved carried before.calls after.calls

@@ -1,5 +1,6 @@
 //! The second half of a turn of the steward: save orders are carried out and told as saved.
 ghost use Rattle.std.specs.Prelude.{◌≡◌, ◌≤◌, length};
+ghost use Rattle.edge_traits.specs.Calls.{store_of};
 ghost use Rattle.edge_traits.specs.Faults.{Rose};
 ghost use Rattle.one_server.specs.Running.{IsKnown};
 ghost use Rattle.steward_core.specs.Agreement.{StaysAgreed};
@@ -50,8 +51,8 @@ pub(crate) fn save_orders<R: Runner, P: Keeper>(
     moment: Moment,
 ) -> StewardEnd
     ensures home { R.home runner.new ≡ R.home runner.old }
-    ensures saving { TakesSaving moment result (P.table keeper.old) (P.table keeper.new) (R.state runner.old)
-        (R.state runner.new) }
+    ensures saving { TakesSaving moment result (store_of P.table P.faults P.calls keeper.old)
+        (store_of P.table P.faults P.calls keeper.new) (R.state runner.old) (R.state runner.new) }
     ensures agrees { StaysAgreed (P.table keeper.old) (P.table keeper.new) (R.state runner.old) (R.state runner.new) }
     ensures fault { result ≡ StewardEnd.KeeperFault → Rose (P.faults keeper.old) (P.faults keeper.new) }
     ensures counted { P.faults keeper.old ≤ P.faults keeper.new }
@@ -79,8 +80,8 @@ fn save_round<R: Runner, P: Keeper>(
 ) -> SaveRound
     requires known { IsKnown (R.state runner.old) }
     ensures home { R.home runner.new ≡ R.home runner.old }
-    ensures round { RunsRound moment result (P.table keeper.old) (P.table keeper.new) (R.state runner.old)
-        (R.state runner.new) }
+    ensures round { RunsRound moment result (store_of P.table P.faults P.calls keeper.old)
+        (store_of P.table P.faults P.calls keeper.new) (R.state runner.old) (R.state runner.new) }
     ensures agrees { StaysAgreed (P.table keeper.old) (P.table keeper.new) (R.state runner.old) (R.state runner.new) }
     ensures fault { result ≡ SaveRound.KeeperFault → Rose (P.faults keeper.old) (P.faults keeper.new) }
     ensures counted { P.faults keeper.old ≤ P.faults keeper.new }
@@ -114,8 +115,8 @@ fn save_told<R: Runner, P: Keeper>(
     requires known { IsKnown (R.state runner.old) }
     requires few { length orders.now ≤ 16 }
     ensures home { R.home runner.new ≡ R.home runner.old }
-    ensures saves { SavesTold moment result orders.now (P.table keeper.old) (P.table keeper.new) (R.state runner.old)
-        (R.state runner.new) }
+    ensures saves { SavesTold moment result orders.now (store_of P.table P.faults P.calls keeper.old)
+        (store_of P.table P.faults P.calls keeper.new) (R.state runner.old) (R.state runner.new) }
     ensures fault { result ≡ SaveRound.KeeperFault → Rose (P.faults keeper.old) (P.faults keeper.new) }
     ensures counted { P.faults keeper.old ≤ P.faults keeper.new }
 {

@@ -1,5 +1,6 @@
 //! A whole turn of the steward.
 ghost use Rattle.std.specs.Prelude.{◌≡◌, ◌≤◌};
+ghost use Rattle.edge_traits.specs.Calls.{store_of};
 ghost use Rattle.edge_traits.specs.Faults.{Rose};
 ghost use Rattle.steward_core.specs.Agreement.{StaysAgreed};
 ghost use Rattle.steward_core.specs.Turn.{TakesTurn, end_of_turn};
@@ -35,8 +36,8 @@ pub fn steward_turn<R: Runner, P: Keeper>(
     moment: Moment,
 ) -> StewardEnd
     ensures home { R.home runner.new ≡ R.home runner.old }
-    ensures turn { TakesTurn moment result (P.table keeper.old) (P.table keeper.new) (R.state runner.old)
-        (R.state runner.new) }
+    ensures turn { TakesTurn moment result (store_of P.table P.faults P.calls keeper.old)
+        (store_of P.table P.faults P.calls keeper.new) (R.state runner.old) (R.state runner.new) }
     ensures agrees { StaysAgreed (P.table keeper.old) (P.table keeper.new) (R.state runner.old) (R.state runner.new) }
     ensures fault { result ≡ StewardEnd.KeeperFault → Rose (P.faults keeper.old) (P.faults keeper.new) }
     ensures counted { P.faults keeper.old ≤ P.faults keeper.new }
@@ -54,7 +55,8 @@ pub fn turn_by_halves<R: Runner, P: Keeper>(
     moment: Moment,
 ) -> (ClearingEnd, StewardEnd)
     ensures home { R.home runner.new ≡ R.home runner.old }
-    ensures turn { (turn : TakesTurn moment (end_of_turn result.0 result.1) (P.table keeper.old) (P.table keeper.new)
+    ensures turn { (turn : TakesTurn moment (end_of_turn result.0 result.1)
+        (store_of P.table P.faults P.calls keeper.old) (store_of P.table P.faults P.calls keeper.new)
         (R.state runner.old) (R.state runner.new)) × (turn.turn.cleared ≡ result.0) }
     ensures agrees { StaysAgreed (P.table keeper.old) (P.table keeper.new) (R.state runner.old) (R.state runner.new) }
     ensures fault { result.1 ≡ StewardEnd.KeeperFault → Rose (P.faults keeper.old) (P.faults keeper.new) }

@@ -5,7 +5,8 @@ ghost use Rattle.std.specs.Prelude.{None};
 use crate::held_stage::say;
 use crate::words::words_of;
 use edge_traits::{
-    Came, Doorway, Heard, Keeper, KeeperFail, Kept, Link, OpenGate, Pair, Sent, StillClock,
+    CallLog, Came, Doorway, Heard, Keeper, KeeperFail, Kept, Link, OpenGate, Pair, Request, Sent,
+    StillClock,
 };
 use memory_edges::MemSink;
 use serve_core::serve;
@@ -102,6 +103,7 @@ impl Doorway for Patient<'_> {
 struct Noting<'a> {
     alloc: Global,
     seen: &'a Seen,
+    calls: CallLog,
 }
 
 impl Keeper for Noting<'_> {
@@ -111,16 +113,19 @@ impl Keeper for Noting<'_> {
 
     ghost faults = { λ _. 0 };
 
+    ghost calls = { λ keeper. keeper.calls };
+
     fn put(&mut self, _key: &[u8], _bytes: &[u8]) -> Kept {
         self.seen.kept.store(true, Ordering::SeqCst);
-        Kept::Done
+        self.calls.note(Request::Put, Kept::Done)
     }
 
     fn remove(&mut self, _key: &[u8]) -> Kept {
-        Kept::Done
+        self.calls.note(Request::Remove, Kept::Done)
     }
 
     fn load(&mut self) -> Result<Vec<Pair>, KeeperFail> {
+        self.calls.note(Request::Load, Kept::Done);
         Ok(Vec::new(self.alloc))
     }
 }
@@ -137,7 +142,11 @@ fn nothing_is_put_off_until_the_door_closes(rt: HostRuntime) -> Result<(), Fail>
         seen: &seen,
         quiets: 0,
     };
-    let mut keeper = Noting { alloc, seen: &seen };
+    let mut keeper = Noting {
+        alloc,
+        seen: &seen,
+        calls: CallLog::new(),
+    };
     let mut sink = MemSink::new(alloc, Vec::new(alloc));
     let clock = StillClock::new(0);
     let gate = OpenGate::new();

@@ -1,9 +1,9 @@
-use Rattle.std.proofs.Common.{◌≡◌, arith, sym, ◌∙◌}
+use Rattle.std.proofs.Common.{◌≡◌, ap, arith, sym, ◌∙◌}
 use Rattle.cmd_lines.specs.declared.end.End.TheVariants.{Done, ReadFault, WriteFault, Memory, BadLine, Spent}
 use Rattle.cmd_store.specs.declared.outcome.Outcome.TheVariants.{Read, BadRecord, KeeperFault, NoGame}
 use Rattle.cmd_run.specs.Words.{IsOverStore, ReadsInput}
 use Rattle.cmd_run.proofs.Named.{is_command, refused}
-use Rattle.cmd_run.proofs.RunEnds.{Stays-same, complete_at, does_at, keeper_fault_at, listed_as, memory_at_once, not_usage, read_fault_at, stays_unless, unread_at, usage_listed, usage_part, write_fault_at, writes_at}
+use Rattle.cmd_run.proofs.RunEnds.{Stays-same, complete_at, does_at, failed_at, keeper_fault_at, listed_as, loads_at, memory_at_once, not_usage, read_fault_at, stays_unless, unread_at, usage_listed, usage_part, write_fault_at, writes_at}
 use Rattle.cmd_run.proofs.running.run.Goals as goal
 
 -- ---- a command was run
@@ -66,6 +66,15 @@ returns-in-Ok-clause-unread g c = unread_at c.run_command.result _ _ c.status_of
 
 pub returns-in-Ok-clause-keeper_stays : goal.returns-in-Ok-clause-keeper_stays
 returns-in-Ok-clause-keeper_stays g c = stays_unless _ c.in-Ok.command IsOverStore _ c.in-Ok.ensures.command c.run_command.ensures.keeper_stays
+
+pub returns-in-Ok-clause-loads : goal.returns-in-Ok-clause-loads
+returns-in-Ok-clause-loads g c =
+    loads_at (g.P.Keeper.calls c.args.keeper.now) (g.P.Keeper.calls c.run_command.new.keeper) c.in-Ok.command c.run_command.result _ c.status_of_outcome.ensures c.run_command.ensures.called
+    (λ other. ap g.P.Keeper.calls (c.run_command.ensures.keeper_stays other))
+
+pub returns-in-Ok-clause-failed_load : goal.returns-in-Ok-clause-failed_load
+returns-in-Ok-clause-failed_load g c =
+    failed_at (g.P.Keeper.calls c.args.keeper.now) (g.P.Keeper.calls c.run_command.new.keeper) c.in-Ok.command _ _ _ _ _ c.run_command.result c.run_command.ensures.ends _ c.status_of_outcome.ensures c.run_command.ensures.called
 
 -- ---- the words name no command
 

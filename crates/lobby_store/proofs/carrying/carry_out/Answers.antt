@@ -1,9 +1,11 @@
-use Rattle.std.proofs.Common.{take, sym, subst, ◌+◌, ◌++◌, ◌∙◌, ◌∷◌, [], ap, arith}
+use Rattle.std.proofs.Common.{◌≡◌, List, take, sym, subst, ◌+◌, ◌++◌, ◌∙◌, ◌∷◌, [], ap, arith}
 use Rattle.std.proofs.lemmas.List.{take_more}
 use Rattle.lobby_shelf.specs.declared.order.Order.{Order}
+use Rattle.edge_traits.specs.Calls.{noted}
 use Rattle.edge_traits.specs.declared.keeper.Kept.{Kept}
-use Rattle.lobby_store.specs.Carrying.{Carries, CarriesOne}
-use Rattle.lobby_store.proofs.OrdersOut.{carries_then}
+use Rattle.edge_traits.specs.declared.keeper.Kept.TheVariants.{Done}
+use Rattle.lobby_store.specs.Carrying.{CallsFor, Carries, CarriesOne, asked_with}
+use Rattle.lobby_store.proofs.OrdersOut.{called_then, carries_then}
 use Rattle.lobby_store.proofs.carrying.carry_out.Goals as goal
 
 pub loop-order-preserved : goal.loop-order-preserved
@@ -13,12 +15,20 @@ loop-order-preserved g c =
     let new = g.P.Keeper.table c.carry_one.new.keeper in
     let i = c.loop-order.order-index in
     let one = subst (λ (kept : Kept). CarriesOne mid new c.order-item.result kept) c.in-Done.is c.carry_one.ensures.carried in
+    let more_orders : take (i + 1) c.args.orders.now ≡ take i c.args.orders.now ++ c.order-item.result ∷ [] =
+    take_more c.args.orders.now i c.order-item.result c.loop-order-test.true
+    ∙ ap (λ (o : Order). take i c.args.orders.now ++ o ∷ []) (sym c.order-item.is) in
+    let was = g.P.Keeper.calls c.args.keeper.now in
+    let here = g.P.Keeper.calls c.loop-order.keeper in
+    let there = g.P.Keeper.calls c.carry_one.new.keeper in
     let counted = c.loop-order.invariant.counted in
     let more = c.carry_one.ensures.counted in
     record {
       count = ap (λ n. n + 1) c.loop-order.invariant.count;
-      carried = subst (Carries old new) (sym (take_more c.args.orders.now i c.order-item.result c.loop-order-test.true
-          ∙ ap (λ (o : Order). take i c.args.orders.now ++ o ∷ []) (sym c.order-item.is)))
+      carried = subst (Carries old new) (sym more_orders)
           (carries_then old mid new (take i c.args.orders.now) (c.order-item.result ∷ []) c.loop-order.invariant.carried one);
+      calls = subst (λ (l : List Order). CallsFor Done l was there) (sym more_orders)
+          (called_then Done was here there (take i c.args.orders.now) (c.order-item.result ∷ []) c.loop-order.invariant.calls
+          (subst (λ (kept : Kept). there ≡ noted here (asked_with c.order-item.result.bytes) kept) c.in-Done.is c.carry_one.ensures.noted));
       counted = omega (arith, counted, more);
     }

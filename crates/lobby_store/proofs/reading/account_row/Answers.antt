@@ -1,4 +1,4 @@
-use Rattle.std.proofs.Common.{List, ℕ, true, sym, ap, ◌∙◌, ◌≡◌}
+use Rattle.std.proofs.Common.{List, ℕ, sym, ap, ◌∙◌, ◌≡◌}
 use Rattle.std.specs.Prelude.{bytes_eq}
 use Rattle.game_records.specs.Keys.{account_key}
 use Rattle.std.proofs.lemmas.Slice.Eq.{bytes_eq-Decides}

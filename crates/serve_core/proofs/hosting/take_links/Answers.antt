@@ -1,8 +1,9 @@
 use Rattle.std.proofs.Common.{◌∙◌, arith, refl, rules}
 use Rattle.edge_traits.specs.Door.{KeepsLinks}
 use Rattle.serve_core.specs.Tending.{Stand, stand}
-use Rattle.serve_core.specs.Outside.{Store}
+use Rattle.edge_traits.specs.Calls.{Store, store_of}
 use Rattle.serve_core.specs.declared.settle.Supply.TheVariants.{Enough}
+use Rattle.serve_core.proofs.Stopping.{some_stops, stopped_on}
 use Rattle.serve_core.proofs.Telling.{where_same, links_then}
 use Rattle.serve_core.proofs.Tending.{tended_same, tended_then}
 use Rattle.serve_core.proofs.hosting.take_links.Goals as goal
@@ -10,7 +11,7 @@ use Rattle.serve_core.proofs.hosting.take_links.Goals as goal
 pub loop-init : goal.loop-init
 loop-init g c =
     let door = g.D.Doorway.tale c.args.door.now in
-    let store : Store = record { table = g.P.Keeper.table c.args.keeper.now; faults = g.P.Keeper.faults c.args.keeper.now } in
+    let store : Store = store_of g.P.Keeper.table g.P.Keeper.faults g.P.Keeper.calls c.args.keeper.now in
     record {
       forever = search rules;
       count = c.requires.none;
@@ -26,9 +27,9 @@ pub returns-in-Some-end-clause-tended : goal.returns-in-Some-end-clause-tended
 returns-in-Some-end-clause-tended g c =
     let l = c.loop in
     let r = c.round-after.result.0 in
-    let old : Store = record { table = g.P.Keeper.table c.args.keeper.now; faults = g.P.Keeper.faults c.args.keeper.now } in
-    let mid : Store = record { table = g.P.Keeper.table l.keeper; faults = g.P.Keeper.faults l.keeper } in
-    let new : Store = record { table = g.P.Keeper.table c.round-after.new.keeper; faults = g.P.Keeper.faults c.round-after.new.keeper } in
+    let old : Store = store_of g.P.Keeper.table g.P.Keeper.faults g.P.Keeper.calls c.args.keeper.now in
+    let mid : Store = store_of g.P.Keeper.table g.P.Keeper.faults g.P.Keeper.calls l.keeper in
+    let new : Store = store_of g.P.Keeper.table g.P.Keeper.faults g.P.Keeper.calls c.round-after.new.keeper in
     let first : Stand = stand c.args.pass Enough (g.D.Doorway.tale c.args.door.now) old in
     let before : Stand = stand l.host.pass l.host.supply (g.D.Doorway.tale l.door) mid in
     let after : Stand = stand r.pass r.supply (g.D.Doorway.tale c.round-after.new.door) new in
@@ -42,9 +43,9 @@ loop-preserved g c =
     let start = g.D.Doorway.tale c.args.door.now in
     let door = g.D.Doorway.tale l.door in
     let door' = g.D.Doorway.tale c.round-after.new.door in
-    let old : Store = record { table = g.P.Keeper.table c.args.keeper.now; faults = g.P.Keeper.faults c.args.keeper.now } in
-    let mid : Store = record { table = g.P.Keeper.table l.keeper; faults = g.P.Keeper.faults l.keeper } in
-    let new : Store = record { table = g.P.Keeper.table c.round-after.new.keeper; faults = g.P.Keeper.faults c.round-after.new.keeper } in
+    let old : Store = store_of g.P.Keeper.table g.P.Keeper.faults g.P.Keeper.calls c.args.keeper.now in
+    let mid : Store = store_of g.P.Keeper.table g.P.Keeper.faults g.P.Keeper.calls l.keeper in
+    let new : Store = store_of g.P.Keeper.table g.P.Keeper.faults g.P.Keeper.calls c.round-after.new.keeper in
     record {
       forever = search rules;
       count = c.round-after.ensures.count;
@@ -55,3 +56,12 @@ loop-preserved g c =
       links = links_then start door door' l.invariant.links c.round-after.ensures.links;
       counted = omega (arith, l.invariant.counted, c.round-after.ensures.counted);
     }
+
+pub returns-in-Some-end-clause-stopped : goal.returns-in-Some-end-clause-stopped
+returns-in-Some-end-clause-stopped g c =
+    let l = c.loop in
+    let r = c.round-after in
+    stopped_on c.in-Some-end.end c.at_end.result.end r.result.1 c.at_end.result.pass.splits (g.D.Doorway.tale r.new.door) (g.D.Doorway.tale c.at_end.new.door)
+    (g.D.Doorway.faults c.args.door.now) (g.D.Doorway.faults l.door) (g.D.Doorway.faults r.new.door) (g.D.Doorway.faults c.at_end.new.door)
+    (some_stops r.result.2 c.in-Some-end.end r.result.1 (g.D.Doorway.tale r.new.door) (g.D.Doorway.faults l.door) (g.D.Doorway.faults r.new.door) c.in-Some-end.is r.ensures.ends) c.at_end.ensures.end
+    (c.at_end.ensures.same.0 ∙ r.ensures.count) c.at_end.ensures.left l.invariant.counted c.at_end.ensures.faults

@@ -1,12 +1,16 @@
-use Rattle.std.proofs.Common.{ap, sym, subst}
+use Rattle.std.proofs.Common.{◌≡◌, ap, sym, subst}
+use Rattle.edge_traits.specs.Faults.{Rose}
+use Rattle.edge_traits.specs.Door.{Gives}
+use Rattle.edge_traits.specs.declared.doorway.Answered.TheVariants as answered
 use Rattle.edge_traits.specs.declared.doorway.Came.TheVariants as came
 use Rattle.serve_core.specs.declared.settle.Supply.{Supply}
 use Rattle.serve_core.specs.Keeping.{Underway}
 use Rattle.serve_core.specs.Tending.{Stand, Tended, stand}
-use Rattle.serve_core.specs.Outside.{Store}
+use Rattle.edge_traits.specs.Calls.{Store, store_of}
 use Rattle.serve_core.specs.Turns.{supply_then}
-use Rattle.serve_core.proofs.Keeping.{kept_quiet}
-use Rattle.serve_core.proofs.Telling.{links_came, links_stay}
+use Rattle.serve_core.proofs.Keeping.{kept_answered, kept_quiet}
+use Rattle.serve_core.proofs.Stopping.{stops_closed, stops_failed, stops_spent}
+use Rattle.serve_core.proofs.Telling.{links_came, links_stay, where_as}
 use Rattle.serve_core.proofs.Tending.{door_then, one_quiet, same_then, tended_then, tended_turn}
 use Rattle.serve_core.proofs.round.round.Goals as goal
 
@@ -18,7 +22,7 @@ returns-in-Quiet-clause-kept g c =
     let turn = c.at_quiet.ensures.turn in
     let k : Underway g.C.Clock.shows c.args.shared.now.hall.now c.args.shared.now.clock.now host.supply door host.pass host.waiting.items = rw (room.supply, room.pass, room.waiting) c.settle_ended.ensures.kept in
     rw (turn.3, ap (λ w. w.items) c.at_quiet.ensures.waiting)
-    (kept_quiet g.C.Clock.shows c.args.shared.now.hall.now c.args.shared.now.clock.now host.supply turn.0 turn.1 (g.P.Keeper.table c.args.keeper.now) (g.P.Keeper.table c.at_quiet.new.keeper) door (g.D.Doorway.tale c.next.new.self) host.pass c.at_quiet.result.pass host.waiting.items k c.in-Quiet.ensures.gives turn.2)
+    (kept_quiet g.C.Clock.shows c.args.shared.now.hall.now c.args.shared.now.clock.now host.supply turn.0 turn.1 (store_of g.P.Keeper.table g.P.Keeper.faults g.P.Keeper.calls c.args.keeper.now) (store_of g.P.Keeper.table g.P.Keeper.faults g.P.Keeper.calls c.at_quiet.new.keeper) door (g.D.Doorway.tale c.next.new.self) host.pass c.at_quiet.result.pass host.waiting.items k c.in-Quiet.ensures.gives turn.2)
 
 pub returns-in-Quiet-clause-tended : goal.returns-in-Quiet-clause-tended
 returns-in-Quiet-clause-tended g c =
@@ -27,8 +31,8 @@ returns-in-Quiet-clause-tended g c =
     let settled = g.D.Doorway.tale c.settle_ended.new.door in
     let door = g.D.Doorway.tale c.next.new.self in
     let turn = c.at_quiet.ensures.turn in
-    let old : Store = record { table = g.P.Keeper.table c.args.keeper.now; faults = g.P.Keeper.faults c.args.keeper.now } in
-    let new : Store = record { table = g.P.Keeper.table c.at_quiet.new.keeper; faults = g.P.Keeper.faults c.at_quiet.new.keeper } in
+    let old : Store = store_of g.P.Keeper.table g.P.Keeper.faults g.P.Keeper.calls c.args.keeper.now in
+    let new : Store = store_of g.P.Keeper.table g.P.Keeper.faults g.P.Keeper.calls c.at_quiet.new.keeper in
     let start : Stand = stand c.args.host.pass c.args.host.supply (g.D.Doorway.tale c.args.door.now) old in
     let so_far = same_then start c.settle_ended.new.self.pass host.pass c.settle_ended.new.self.supply host.supply settled old (c.settle_ended.ensures.tended old) room.pass room.supply in
     subst (λ (s : Supply). Tended start (stand c.at_quiet.result.pass s door new)) (sym turn.3)
@@ -48,7 +52,7 @@ returns-in-Link-clause-tended g c =
     let room = c.room_ahead-ended.ensures in
     let settled = g.D.Doorway.tale c.settle_ended.new.door in
     let door = g.D.Doorway.tale c.next.new.self in
-    let old : Store = record { table = g.P.Keeper.table c.args.keeper.now; faults = g.P.Keeper.faults c.args.keeper.now } in
+    let old : Store = store_of g.P.Keeper.table g.P.Keeper.faults g.P.Keeper.calls c.args.keeper.now in
     let start : Stand = stand c.args.host.pass c.args.host.supply (g.D.Doorway.tale c.args.door.now) old in
     let so_far = same_then start c.settle_ended.new.self.pass host.pass c.settle_ended.new.self.supply host.supply settled old (c.settle_ended.ensures.tended old) room.pass room.supply in
     tended_then start (stand host.pass host.supply door old) (stand c.attend.new.host.pass c.attend.new.host.supply (g.D.Doorway.tale c.attend.new.door) old)
@@ -59,7 +63,7 @@ returns-in-Closed-clause-tended g c =
     let host = c.room_ahead-ended.new.self in
     let room = c.room_ahead-ended.ensures in
     let settled = g.D.Doorway.tale c.settle_ended.new.door in
-    let old : Store = record { table = g.P.Keeper.table c.args.keeper.now; faults = g.P.Keeper.faults c.args.keeper.now } in
+    let old : Store = store_of g.P.Keeper.table g.P.Keeper.faults g.P.Keeper.calls c.args.keeper.now in
     let start : Stand = stand c.args.host.pass c.args.host.supply (g.D.Doorway.tale c.args.door.now) old in
     let so_far = same_then start c.settle_ended.new.self.pass host.pass c.settle_ended.new.self.supply host.supply settled old (c.settle_ended.ensures.tended old) room.pass room.supply in
     door_then g.D.Link.Link.tale came.Closed start host.pass host.supply settled (g.D.Doorway.tale c.next.new.self) old (λ none. none) so_far c.in-Closed.ensures.gives
@@ -69,7 +73,39 @@ returns-in-Failed-clause-tended g c =
     let host = c.room_ahead-ended.new.self in
     let room = c.room_ahead-ended.ensures in
     let settled = g.D.Doorway.tale c.settle_ended.new.door in
-    let old : Store = record { table = g.P.Keeper.table c.args.keeper.now; faults = g.P.Keeper.faults c.args.keeper.now } in
+    let old : Store = store_of g.P.Keeper.table g.P.Keeper.faults g.P.Keeper.calls c.args.keeper.now in
     let start : Stand = stand c.args.host.pass c.args.host.supply (g.D.Doorway.tale c.args.door.now) old in
     let so_far = same_then start c.settle_ended.new.self.pass host.pass c.settle_ended.new.self.supply host.supply settled old (c.settle_ended.ensures.tended old) room.pass room.supply in
     door_then g.D.Link.Link.tale came.Failed start host.pass host.supply settled (g.D.Doorway.tale c.next.new.self) old (λ none. none) so_far c.in-Failed.ensures.gives
+
+pub returns-in-Link-clause-ends : goal.returns-in-Link-clause-ends
+returns-in-Link-clause-ends g c =
+    stops_spent g.D.Link.Link.tale c.in-Link.link (g.D.Doorway.tale c.settle_ended.new.door) (g.D.Doorway.tale c.next.new.self) (g.D.Doorway.tale c.attend.new.door) _ _ _ c.spent.result c.in-Link.ensures.gives c.attend.ensures.left c.spent.ensures
+
+pub returns-in-Closed-clause-ends : goal.returns-in-Closed-clause-ends
+returns-in-Closed-clause-ends g c =
+    ((stops_closed g.D.Link.Link.tale (g.D.Doorway.tale c.settle_ended.new.door) (g.D.Doorway.tale c.next.new.self) c.in-Closed.ensures.gives, c.requires.few), λ bad. cc)
+
+pub returns-in-Failed-clause-ends : goal.returns-in-Failed-clause-ends
+returns-in-Failed-clause-ends g c =
+    ((stops_failed g.D.Link.Link.tale (g.D.Doorway.tale c.settle_ended.new.door) (g.D.Doorway.tale c.next.new.self) c.in-Failed.ensures.gives, c.requires.few), λ is. subst (λ n. Rose n (g.D.Doorway.faults c.next.new.self)) c.settle_ended.ensures.faults c.in-Failed.ensures.cause)
+
+pub returns-in-Closed-clause-kept : goal.returns-in-Closed-clause-kept
+returns-in-Closed-clause-kept g c =
+    let host = c.room_ahead-ended.new.self in
+    let room = c.room_ahead-ended.ensures in
+    let settled = g.D.Doorway.tale c.settle_ended.new.door in
+    let there = g.D.Doorway.tale c.next.new.self in
+    let k : Underway g.C.Clock.shows c.args.shared.now.hall.now c.args.shared.now.clock.now host.supply settled host.pass host.waiting.items = rw (room.supply, room.pass, room.waiting) c.settle_ended.ensures.kept in
+    kept_answered g.C.Clock.shows c.args.shared.now.hall.now c.args.shared.now.clock.now host.supply answered.Closed settled there host.pass host.waiting.items k
+    (where_as settled there (Gives g.D.Link.Link.tale came.Closed) (λ a b. b ≡ record a { last = answered.Closed }) (λ a b e. e.1) c.in-Closed.ensures.gives)
+
+pub returns-in-Failed-clause-kept : goal.returns-in-Failed-clause-kept
+returns-in-Failed-clause-kept g c =
+    let host = c.room_ahead-ended.new.self in
+    let room = c.room_ahead-ended.ensures in
+    let settled = g.D.Doorway.tale c.settle_ended.new.door in
+    let there = g.D.Doorway.tale c.next.new.self in
+    let k : Underway g.C.Clock.shows c.args.shared.now.hall.now c.args.shared.now.clock.now host.supply settled host.pass host.waiting.items = rw (room.supply, room.pass, room.waiting) c.settle_ended.ensures.kept in
+    kept_answered g.C.Clock.shows c.args.shared.now.hall.now c.args.shared.now.clock.now host.supply answered.Failed settled there host.pass host.waiting.items k
+    (c.in-Failed.ensures.gives)

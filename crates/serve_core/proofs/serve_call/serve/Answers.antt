@@ -1,13 +1,16 @@
 use Rattle.std.proofs.Common.{[], ◌∷◌, arith, inl, inr, refl, subst, sym}
 use Rattle.std.specs.Prelude.{Contains}
-use Rattle.serve_core.specs.Outside.{Sheet, Store}
+use Rattle.serve_core.specs.Outside.{Sheet}
+use Rattle.edge_traits.specs.Calls.{Store, store_of}
+use Rattle.lobby_load.specs.declared.refusals.StoreFault.TheVariants as unopened
+use Rattle.serve_core.proofs.Unopened.{unasked}
 use Rattle.serve_core.proofs.ServeEnds.{call_bad, call_calm, call_door, call_good, call_keeper, call_listed, call_text, call_told, call_usage, call_write, one_rose, usage_else, usage_front, usage_listed, usage_told}
 use Rattle.serve_core.proofs.serve_call.serve.Goals as goal
 
 pub returns-in-Ok-clause-usage : goal.returns-in-Ok-clause-usage
 returns-in-Ok-clause-usage g c = λ e.
-    let old : Store = record { table = g.P.Keeper.table c.args.keeper.now; faults = g.P.Keeper.faults c.args.keeper.now } in
-    let new : Store = record { table = g.P.Keeper.table c.serve_players.new.keeper; faults = g.P.Keeper.faults c.serve_players.new.keeper } in
+    let old : Store = store_of g.P.Keeper.table g.P.Keeper.faults g.P.Keeper.calls c.args.keeper.now in
+    let new : Store = store_of g.P.Keeper.table g.P.Keeper.faults g.P.Keeper.calls c.serve_players.new.keeper in
     let before : Sheet = record { written = g.K.Sink.written c.args.sink.now; faults = g.K.Sink.faults c.args.sink.now } in
     let after : Sheet = record { written = g.K.Sink.written c.serve_players.new.sink; faults = g.K.Sink.faults c.serve_players.new.sink } in
     let door = g.D.Doorway.faults c.args.door.now in
@@ -17,8 +20,8 @@ returns-in-Ok-clause-usage g c = λ e.
 
 pub returns-in-Ok-clause-write_fault : goal.returns-in-Ok-clause-write_fault
 returns-in-Ok-clause-write_fault g c = λ e.
-    let old : Store = record { table = g.P.Keeper.table c.args.keeper.now; faults = g.P.Keeper.faults c.args.keeper.now } in
-    let new : Store = record { table = g.P.Keeper.table c.serve_players.new.keeper; faults = g.P.Keeper.faults c.serve_players.new.keeper } in
+    let old : Store = store_of g.P.Keeper.table g.P.Keeper.faults g.P.Keeper.calls c.args.keeper.now in
+    let new : Store = store_of g.P.Keeper.table g.P.Keeper.faults g.P.Keeper.calls c.serve_players.new.keeper in
     let before : Sheet = record { written = g.K.Sink.written c.args.sink.now; faults = g.K.Sink.faults c.args.sink.now } in
     let after : Sheet = record { written = g.K.Sink.written c.serve_players.new.sink; faults = g.K.Sink.faults c.serve_players.new.sink } in
     let door = g.D.Doorway.faults c.args.door.now in
@@ -28,8 +31,8 @@ returns-in-Ok-clause-write_fault g c = λ e.
 
 pub returns-in-Ok-clause-door_fault : goal.returns-in-Ok-clause-door_fault
 returns-in-Ok-clause-door_fault g c = λ e.
-    let old : Store = record { table = g.P.Keeper.table c.args.keeper.now; faults = g.P.Keeper.faults c.args.keeper.now } in
-    let new : Store = record { table = g.P.Keeper.table c.serve_players.new.keeper; faults = g.P.Keeper.faults c.serve_players.new.keeper } in
+    let old : Store = store_of g.P.Keeper.table g.P.Keeper.faults g.P.Keeper.calls c.args.keeper.now in
+    let new : Store = store_of g.P.Keeper.table g.P.Keeper.faults g.P.Keeper.calls c.serve_players.new.keeper in
     let before : Sheet = record { written = g.K.Sink.written c.args.sink.now; faults = g.K.Sink.faults c.args.sink.now } in
     let after : Sheet = record { written = g.K.Sink.written c.serve_players.new.sink; faults = g.K.Sink.faults c.serve_players.new.sink } in
     let door = g.D.Doorway.faults c.args.door.now in
@@ -39,8 +42,8 @@ returns-in-Ok-clause-door_fault g c = λ e.
 
 pub returns-in-Ok-clause-keeper_fault : goal.returns-in-Ok-clause-keeper_fault
 returns-in-Ok-clause-keeper_fault g c = λ e.
-    let old : Store = record { table = g.P.Keeper.table c.args.keeper.now; faults = g.P.Keeper.faults c.args.keeper.now } in
-    let new : Store = record { table = g.P.Keeper.table c.serve_players.new.keeper; faults = g.P.Keeper.faults c.serve_players.new.keeper } in
+    let old : Store = store_of g.P.Keeper.table g.P.Keeper.faults g.P.Keeper.calls c.args.keeper.now in
+    let new : Store = store_of g.P.Keeper.table g.P.Keeper.faults g.P.Keeper.calls c.serve_players.new.keeper in
     let before : Sheet = record { written = g.K.Sink.written c.args.sink.now; faults = g.K.Sink.faults c.args.sink.now } in
     let after : Sheet = record { written = g.K.Sink.written c.serve_players.new.sink; faults = g.K.Sink.faults c.serve_players.new.sink } in
     let door = g.D.Doorway.faults c.args.door.now in
@@ -50,8 +53,8 @@ returns-in-Ok-clause-keeper_fault g c = λ e.
 
 pub returns-in-Ok-clause-bad_record : goal.returns-in-Ok-clause-bad_record
 returns-in-Ok-clause-bad_record g c = λ e.
-    let old : Store = record { table = g.P.Keeper.table c.args.keeper.now; faults = g.P.Keeper.faults c.args.keeper.now } in
-    let new : Store = record { table = g.P.Keeper.table c.serve_players.new.keeper; faults = g.P.Keeper.faults c.serve_players.new.keeper } in
+    let old : Store = store_of g.P.Keeper.table g.P.Keeper.faults g.P.Keeper.calls c.args.keeper.now in
+    let new : Store = store_of g.P.Keeper.table g.P.Keeper.faults g.P.Keeper.calls c.serve_players.new.keeper in
     let before : Sheet = record { written = g.K.Sink.written c.args.sink.now; faults = g.K.Sink.faults c.args.sink.now } in
     let after : Sheet = record { written = g.K.Sink.written c.serve_players.new.sink; faults = g.K.Sink.faults c.serve_players.new.sink } in
     let door = g.D.Doorway.faults c.args.door.now in
@@ -61,8 +64,8 @@ returns-in-Ok-clause-bad_record g c = λ e.
 
 pub returns-in-Ok-clause-good_store : goal.returns-in-Ok-clause-good_store
 returns-in-Ok-clause-good_store g c = λ e.
-    let old : Store = record { table = g.P.Keeper.table c.args.keeper.now; faults = g.P.Keeper.faults c.args.keeper.now } in
-    let new : Store = record { table = g.P.Keeper.table c.serve_players.new.keeper; faults = g.P.Keeper.faults c.serve_players.new.keeper } in
+    let old : Store = store_of g.P.Keeper.table g.P.Keeper.faults g.P.Keeper.calls c.args.keeper.now in
+    let new : Store = store_of g.P.Keeper.table g.P.Keeper.faults g.P.Keeper.calls c.serve_players.new.keeper in
     let before : Sheet = record { written = g.K.Sink.written c.args.sink.now; faults = g.K.Sink.faults c.args.sink.now } in
     let after : Sheet = record { written = g.K.Sink.written c.serve_players.new.sink; faults = g.K.Sink.faults c.serve_players.new.sink } in
     let door = g.D.Doorway.faults c.args.door.now in
@@ -72,8 +75,8 @@ returns-in-Ok-clause-good_store g c = λ e.
 
 pub returns-in-Ok-clause-text : goal.returns-in-Ok-clause-text
 returns-in-Ok-clause-text g c = λ e.
-    let old : Store = record { table = g.P.Keeper.table c.args.keeper.now; faults = g.P.Keeper.faults c.args.keeper.now } in
-    let new : Store = record { table = g.P.Keeper.table c.serve_players.new.keeper; faults = g.P.Keeper.faults c.serve_players.new.keeper } in
+    let old : Store = store_of g.P.Keeper.table g.P.Keeper.faults g.P.Keeper.calls c.args.keeper.now in
+    let new : Store = store_of g.P.Keeper.table g.P.Keeper.faults g.P.Keeper.calls c.serve_players.new.keeper in
     let before : Sheet = record { written = g.K.Sink.written c.args.sink.now; faults = g.K.Sink.faults c.args.sink.now } in
     let after : Sheet = record { written = g.K.Sink.written c.serve_players.new.sink; faults = g.K.Sink.faults c.serve_players.new.sink } in
     let door = g.D.Doorway.faults c.args.door.now in
@@ -83,8 +86,8 @@ returns-in-Ok-clause-text g c = λ e.
 
 pub returns-in-Ok-clause-complete : goal.returns-in-Ok-clause-complete
 returns-in-Ok-clause-complete g c = λ asks no_door no_sink no_keeper.
-    let old : Store = record { table = g.P.Keeper.table c.args.keeper.now; faults = g.P.Keeper.faults c.args.keeper.now } in
-    let new : Store = record { table = g.P.Keeper.table c.serve_players.new.keeper; faults = g.P.Keeper.faults c.serve_players.new.keeper } in
+    let old : Store = store_of g.P.Keeper.table g.P.Keeper.faults g.P.Keeper.calls c.args.keeper.now in
+    let new : Store = store_of g.P.Keeper.table g.P.Keeper.faults g.P.Keeper.calls c.serve_players.new.keeper in
     let before : Sheet = record { written = g.K.Sink.written c.args.sink.now; faults = g.K.Sink.faults c.args.sink.now } in
     let after : Sheet = record { written = g.K.Sink.written c.serve_players.new.sink; faults = g.K.Sink.faults c.serve_players.new.sink } in
     let door = g.D.Doorway.faults c.args.door.now in
@@ -94,8 +97,8 @@ returns-in-Ok-clause-complete g c = λ asks no_door no_sink no_keeper.
 
 pub returns-in-Ok-clause-statuses : goal.returns-in-Ok-clause-statuses
 returns-in-Ok-clause-statuses g c =
-    let old : Store = record { table = g.P.Keeper.table c.args.keeper.now; faults = g.P.Keeper.faults c.args.keeper.now } in
-    let new : Store = record { table = g.P.Keeper.table c.serve_players.new.keeper; faults = g.P.Keeper.faults c.serve_players.new.keeper } in
+    let old : Store = store_of g.P.Keeper.table g.P.Keeper.faults g.P.Keeper.calls c.args.keeper.now in
+    let new : Store = store_of g.P.Keeper.table g.P.Keeper.faults g.P.Keeper.calls c.serve_players.new.keeper in
     let before : Sheet = record { written = g.K.Sink.written c.args.sink.now; faults = g.K.Sink.faults c.args.sink.now } in
     let after : Sheet = record { written = g.K.Sink.written c.serve_players.new.sink; faults = g.K.Sink.faults c.serve_players.new.sink } in
     let door = g.D.Doorway.faults c.args.door.now in
@@ -105,8 +108,8 @@ returns-in-Ok-clause-statuses g c =
 
 pub returns-in-Ok-clause-write_told : goal.returns-in-Ok-clause-write_told
 returns-in-Ok-clause-write_told g c =
-    let old : Store = record { table = g.P.Keeper.table c.args.keeper.now; faults = g.P.Keeper.faults c.args.keeper.now } in
-    let new : Store = record { table = g.P.Keeper.table c.serve_players.new.keeper; faults = g.P.Keeper.faults c.serve_players.new.keeper } in
+    let old : Store = store_of g.P.Keeper.table g.P.Keeper.faults g.P.Keeper.calls c.args.keeper.now in
+    let new : Store = store_of g.P.Keeper.table g.P.Keeper.faults g.P.Keeper.calls c.serve_players.new.keeper in
     let before : Sheet = record { written = g.K.Sink.written c.args.sink.now; faults = g.K.Sink.faults c.args.sink.now } in
     let after : Sheet = record { written = g.K.Sink.written c.serve_players.new.sink; faults = g.K.Sink.faults c.serve_players.new.sink } in
     let door = g.D.Doorway.faults c.args.door.now in
@@ -134,3 +137,9 @@ returns-in-Err-Memory-clause-complete g c = λ asks no_door no_sink no_keeper. s
 
 pub returns-in-Err-Usage-clause-write_told : goal.returns-in-Err-Usage-clause-write_told
 returns-in-Err-Usage-clause-write_told g c = usage_told c.tell_usage.ensures.calm
+
+pub returns-in-Err-Memory-clause-no_hall : goal.returns-in-Err-Memory-clause-no_hall
+returns-in-Err-Memory-clause-no_hall g c = λ asks.
+    let store : Store = store_of g.P.Keeper.table g.P.Keeper.faults g.P.Keeper.calls c.args.keeper.now in
+    let sheet : Sheet = record { written = g.K.Sink.written c.args.sink.now; faults = g.K.Sink.faults c.args.sink.now } in
+    (unopened.Memory, c.status.ensures, unasked store sheet)

@@ -1,11 +1,12 @@
 use Rattle.std.proofs.Common.{inl, inr, ap}
 use Rattle.one_server.specs.Whole.{opened}
 use Rattle.serve_core.specs.Opening.{IsLoaded}
-use Rattle.serve_core.specs.Outside.{Sheet, Store}
+use Rattle.serve_core.specs.Outside.{Sheet}
+use Rattle.edge_traits.specs.Calls.{Store, store_of}
 use Rattle.serve_core.specs.Text.{whole_text}
-use Rattle.serve_core.proofs.Opening.{appends_from, front_from, served_from, some_as, table_agrees}
+use Rattle.serve_core.proofs.Opening.{appends_from, front_from, load_done, served_from, some_as, table_agrees}
 use Rattle.serve_core.proofs.ServeEnds.{told_from}
-use Rattle.serve_core.proofs.Unopened.{none_as, none_opened}
+use Rattle.serve_core.proofs.Unopened.{none_as, none_opened, unopened_by}
 use Rattle.serve_core.proofs.serve_call.serve_players.Goals as goal
 use Rattle.cmd_lines.proofs.Rounds.{Rose-since}
 
@@ -18,13 +19,21 @@ returns-in-Ok-clause-served g c =
     let before : Sheet = record { written = g.K.Sink.written c.args.sink.now; faults = g.K.Sink.faults c.args.sink.now } in
     let mid : Sheet = record { written = g.K.Sink.written c.open_store.new.sink; faults = g.K.Sink.faults c.open_store.new.sink } in
     let later : Sheet = record { written = g.K.Sink.written s.new.sink; faults = g.K.Sink.faults s.new.sink } in
-    let old : Store = record { table = g.P.Keeper.table c.args.keeper.now; faults = g.P.Keeper.faults c.args.keeper.now } in
-    let loaded : Store = record { table = g.P.Keeper.table c.open_store.new.keeper; faults = g.P.Keeper.faults c.open_store.new.keeper } in
-    let new : Store = record { table = g.P.Keeper.table s.new.keeper; faults = g.P.Keeper.faults s.new.keeper } in
+    let old : Store = store_of g.P.Keeper.table g.P.Keeper.faults g.P.Keeper.calls c.args.keeper.now in
+    let loaded : Store = store_of g.P.Keeper.table g.P.Keeper.faults g.P.Keeper.calls c.open_store.new.keeper in
+    let new : Store = store_of g.P.Keeper.table g.P.Keeper.faults g.P.Keeper.calls s.new.keeper in
     let store = c.open_store.ensures in
     let none = c.in-Ok.ensures.tells in
-    let loads : IsLoaded old.table lobby = record { opening = c.in-Ok.ensures.opening; spelled = c.in-Ok.ensures.spelled; holds = c.in-Ok.ensures.loaded; good = c.in-Ok.ensures.good } in
-    some_as s.result.1 _ _ (λ h p. (lobby, loads, end, c.status.ensures, served_from (g.C.Clock.shows c.args.clock.now) (opened lobby) end door before mid later old loaded new h.1 none c.in-Ok.ensures.write_calm store.unchanged store.keeper_counted p)) s.ensures.served
+    let loads : IsLoaded old loaded lobby = record {
+      opening = c.in-Ok.ensures.opening;
+      spelled = c.in-Ok.ensures.spelled;
+      holds = c.in-Ok.ensures.loaded;
+      good = c.in-Ok.ensures.good;
+      stays = store.unchanged;
+      counted = store.keeper_counted;
+      called = load_done old.calls loaded.calls c.in-Ok.ensures.called;
+    } in
+    some_as s.result.1 _ _ (λ h p. (lobby, loaded, loads, end, c.status.ensures, served_from (g.C.Clock.shows c.args.clock.now) (opened lobby) end door before mid later loaded new h.1 none c.in-Ok.ensures.write_calm p)) s.ensures.served
 
 pub returns-in-Ok-clause-table : goal.returns-in-Ok-clause-table
 returns-in-Ok-clause-table g c =
@@ -35,13 +44,21 @@ returns-in-Ok-clause-table g c =
     let before : Sheet = record { written = g.K.Sink.written c.args.sink.now; faults = g.K.Sink.faults c.args.sink.now } in
     let mid : Sheet = record { written = g.K.Sink.written c.open_store.new.sink; faults = g.K.Sink.faults c.open_store.new.sink } in
     let later : Sheet = record { written = g.K.Sink.written s.new.sink; faults = g.K.Sink.faults s.new.sink } in
-    let old : Store = record { table = g.P.Keeper.table c.args.keeper.now; faults = g.P.Keeper.faults c.args.keeper.now } in
-    let loaded : Store = record { table = g.P.Keeper.table c.open_store.new.keeper; faults = g.P.Keeper.faults c.open_store.new.keeper } in
-    let new : Store = record { table = g.P.Keeper.table s.new.keeper; faults = g.P.Keeper.faults s.new.keeper } in
+    let old : Store = store_of g.P.Keeper.table g.P.Keeper.faults g.P.Keeper.calls c.args.keeper.now in
+    let loaded : Store = store_of g.P.Keeper.table g.P.Keeper.faults g.P.Keeper.calls c.open_store.new.keeper in
+    let new : Store = store_of g.P.Keeper.table g.P.Keeper.faults g.P.Keeper.calls s.new.keeper in
     let store = c.open_store.ensures in
     let none = c.in-Ok.ensures.tells in
-    let loads : IsLoaded old.table lobby = record { opening = c.in-Ok.ensures.opening; spelled = c.in-Ok.ensures.spelled; holds = c.in-Ok.ensures.loaded; good = c.in-Ok.ensures.good } in
-    some_as s.result.1 _ _ (λ h p. table_agrees (g.C.Clock.shows c.args.clock.now) lobby end door before later old new h.1 loads (served_from (g.C.Clock.shows c.args.clock.now) (opened lobby) end door before mid later old loaded new h.1 none c.in-Ok.ensures.write_calm store.unchanged store.keeper_counted p)) s.ensures.served
+    let loads : IsLoaded old loaded lobby = record {
+      opening = c.in-Ok.ensures.opening;
+      spelled = c.in-Ok.ensures.spelled;
+      holds = c.in-Ok.ensures.loaded;
+      good = c.in-Ok.ensures.good;
+      stays = store.unchanged;
+      counted = store.keeper_counted;
+      called = load_done old.calls loaded.calls c.in-Ok.ensures.called;
+    } in
+    some_as s.result.1 _ _ (λ h p. table_agrees (g.C.Clock.shows c.args.clock.now) lobby end door before later old loaded new h.1 loads (served_from (g.C.Clock.shows c.args.clock.now) (opened lobby) end door before mid later loaded new h.1 none c.in-Ok.ensures.write_calm p)) s.ensures.served
 
 pub returns-in-Ok-clause-no_hall : goal.returns-in-Ok-clause-no_hall
 returns-in-Ok-clause-no_hall g c =
@@ -49,11 +66,11 @@ returns-in-Ok-clause-no_hall g c =
     let before : Sheet = record { written = g.K.Sink.written c.args.sink.now; faults = g.K.Sink.faults c.args.sink.now } in
     let mid : Sheet = record { written = g.K.Sink.written c.open_store.new.sink; faults = g.K.Sink.faults c.open_store.new.sink } in
     let later : Sheet = record { written = g.K.Sink.written s.new.sink; faults = g.K.Sink.faults s.new.sink } in
-    let old : Store = record { table = g.P.Keeper.table c.args.keeper.now; faults = g.P.Keeper.faults c.args.keeper.now } in
-    let loaded : Store = record { table = g.P.Keeper.table c.open_store.new.keeper; faults = g.P.Keeper.faults c.open_store.new.keeper } in
-    let new : Store = record { table = g.P.Keeper.table s.new.keeper; faults = g.P.Keeper.faults s.new.keeper } in
+    let old : Store = store_of g.P.Keeper.table g.P.Keeper.faults g.P.Keeper.calls c.args.keeper.now in
+    let loaded : Store = store_of g.P.Keeper.table g.P.Keeper.faults g.P.Keeper.calls c.open_store.new.keeper in
+    let new : Store = store_of g.P.Keeper.table g.P.Keeper.faults g.P.Keeper.calls s.new.keeper in
     none_opened s.result.1 s.result.0 c.status.result old loaded new before mid later c.status.ensures c.in-Ok.ensures.tells c.in-Ok.ensures.write_calm
-    c.open_store.ensures.unchanged s.ensures.no_hall (none_as s.result.1 (λ same. ap g.P.Keeper.table same) s.ensures.keeper_stays) s.ensures.write_told
+    c.open_store.ensures.unchanged c.in-Ok.ensures.called s.ensures.no_hall (none_as s.result.1 (λ same. ap (store_of g.P.Keeper.table g.P.Keeper.faults g.P.Keeper.calls) same) s.ensures.keeper_stays) s.ensures.write_told
 
 pub returns-in-Ok-clause-ends : goal.returns-in-Ok-clause-ends
 returns-in-Ok-clause-ends g c =
@@ -64,9 +81,9 @@ returns-in-Ok-clause-ends g c =
     let before : Sheet = record { written = g.K.Sink.written c.args.sink.now; faults = g.K.Sink.faults c.args.sink.now } in
     let mid : Sheet = record { written = g.K.Sink.written c.open_store.new.sink; faults = g.K.Sink.faults c.open_store.new.sink } in
     let later : Sheet = record { written = g.K.Sink.written s.new.sink; faults = g.K.Sink.faults s.new.sink } in
-    let old : Store = record { table = g.P.Keeper.table c.args.keeper.now; faults = g.P.Keeper.faults c.args.keeper.now } in
-    let loaded : Store = record { table = g.P.Keeper.table c.open_store.new.keeper; faults = g.P.Keeper.faults c.open_store.new.keeper } in
-    let new : Store = record { table = g.P.Keeper.table s.new.keeper; faults = g.P.Keeper.faults s.new.keeper } in
+    let old : Store = store_of g.P.Keeper.table g.P.Keeper.faults g.P.Keeper.calls c.args.keeper.now in
+    let loaded : Store = store_of g.P.Keeper.table g.P.Keeper.faults g.P.Keeper.calls c.open_store.new.keeper in
+    let new : Store = store_of g.P.Keeper.table g.P.Keeper.faults g.P.Keeper.calls s.new.keeper in
     let store = c.open_store.ensures in
     let none = c.in-Ok.ensures.tells in
     inr (
@@ -83,3 +100,28 @@ returns-in-Ok-clause-ends g c =
         write_told = told_from before.faults mid.faults later.faults end c.in-Ok.ensures.write_calm s.ensures.write_told;
       },
     )
+
+pub returns-in-Ok-clause-text_part : goal.returns-in-Ok-clause-text_part
+returns-in-Ok-clause-text_part g c =
+    let s = c.serve_lobby-end in
+    some_as s.result.1 _ _ (λ h p. front_from (g.K.Sink.written c.args.sink.now) (g.K.Sink.written c.open_store.new.sink) (g.K.Sink.written s.new.sink) c.in-Ok.ensures.tells whole_text s.ensures.text_part) s.ensures.served
+
+pub returns-in-Err-clause-no_hall : goal.returns-in-Err-clause-no_hall
+returns-in-Err-clause-no_hall g c =
+    let before : Sheet = record { written = g.K.Sink.written c.args.sink.now; faults = g.K.Sink.faults c.args.sink.now } in
+    let after : Sheet = record { written = g.K.Sink.written c.open_store.new.sink; faults = g.K.Sink.faults c.open_store.new.sink } in
+    let old : Store = store_of g.P.Keeper.table g.P.Keeper.faults g.P.Keeper.calls c.args.keeper.now in
+    let new : Store = store_of g.P.Keeper.table g.P.Keeper.faults g.P.Keeper.calls c.open_store.new.keeper in
+    let it = c.in-Err.ensures in
+    let stays = unopened_by c.in-Err.fault old new before after it.tells it.keeper_cause it.write_cause it.write_calm c.open_store.ensures.unchanged it.called in
+    (c.in-Err.fault, c.status-in-Err.ensures, stays)
+
+pub returns-in-Err-clause-ends : goal.returns-in-Err-clause-ends
+returns-in-Err-clause-ends g c =
+    let before : Sheet = record { written = g.K.Sink.written c.args.sink.now; faults = g.K.Sink.faults c.args.sink.now } in
+    let after : Sheet = record { written = g.K.Sink.written c.open_store.new.sink; faults = g.K.Sink.faults c.open_store.new.sink } in
+    let old : Store = store_of g.P.Keeper.table g.P.Keeper.faults g.P.Keeper.calls c.args.keeper.now in
+    let new : Store = store_of g.P.Keeper.table g.P.Keeper.faults g.P.Keeper.calls c.open_store.new.keeper in
+    let it = c.in-Err.ensures in
+    let stays = unopened_by c.in-Err.fault old new before after it.tells it.keeper_cause it.write_cause it.write_calm c.open_store.ensures.unchanged it.called in
+    inl (c.in-Err.fault, c.status-in-Err.ensures, stays)

@@ -6,7 +6,8 @@ use Rattle.serve_core.specs.declared.end.ServeEnd.{ServeEnd}
 use Rattle.serve_core.specs.declared.end.ServeEnd.TheVariants.{DoorFault, KeeperFault, WriteFault}
 use Rattle.serve_core.specs.declared.settle.Supply.TheVariants.{Enough, Short}
 use Rattle.serve_core.specs.Stopping.{IsClean, end_of, is_short}
-use Rattle.serve_core.specs.Outside.{Sheet, Store}
+use Rattle.serve_core.specs.Outside.{Sheet}
+use Rattle.edge_traits.specs.Calls.{Store, store_of}
 use Rattle.serve_core.specs.Text.{closed_text, ready_text}
 use Rattle.serve_core.specs.Stewarding.{MayEnd}
 use Rattle.serve_core.specs.Tending.{stand}
@@ -32,9 +33,9 @@ returns-in-All-clause-served g c =
     let first : Sheet = record { written = g.K.Sink.written c.args.sink.now; faults = g.K.Sink.faults c.args.sink.now } in
     let ready : Sheet = record { written = g.K.Sink.written c.say_ready.new.sink; faults = g.K.Sink.faults c.say_ready.new.sink } in
     let last : Sheet = record { written = g.K.Sink.written c.say_closed-sent.new.sink; faults = g.K.Sink.faults c.say_closed-sent.new.sink } in
-    let old : Store = record { table = g.P.Keeper.table c.args.keeper.now; faults = g.P.Keeper.faults c.args.keeper.now } in
-    let mid : Store = record { table = g.P.Keeper.table c.host_links-hosted.new.keeper; faults = g.P.Keeper.faults c.host_links-hosted.new.keeper } in
-    let after : Store = record { table = g.P.Keeper.table c.last_turn-pass.new.keeper; faults = g.P.Keeper.faults c.last_turn-pass.new.keeper } in
+    let old : Store = store_of g.P.Keeper.table g.P.Keeper.faults g.P.Keeper.calls c.args.keeper.now in
+    let mid : Store = store_of g.P.Keeper.table g.P.Keeper.faults g.P.Keeper.calls c.host_links-hosted.new.keeper in
+    let after : Store = store_of g.P.Keeper.table g.P.Keeper.faults g.P.Keeper.calls c.last_turn-pass.new.keeper in
     let supply = supply_then t.2 h.supply in
     let end = end_of h.end sent t.1 supply in
     let closes =
@@ -66,8 +67,8 @@ returns-in-Failed-clause-served g c =
     let first = c.requires.first in
     let before : Sheet = record { written = g.K.Sink.written c.args.sink.now; faults = g.K.Sink.faults c.args.sink.now } in
     let later : Sheet = record { written = g.K.Sink.written c.say_ready.new.sink; faults = g.K.Sink.faults c.say_ready.new.sink } in
-    let old : Store = record { table = g.P.Keeper.table c.args.keeper.now; faults = g.P.Keeper.faults c.args.keeper.now } in
-    let after : Store = record { table = g.P.Keeper.table c.last_turn-pass-in-Failed.new.keeper; faults = g.P.Keeper.faults c.last_turn-pass-in-Failed.new.keeper } in
+    let old : Store = store_of g.P.Keeper.table g.P.Keeper.faults g.P.Keeper.calls c.args.keeper.now in
+    let after : Store = store_of g.P.Keeper.table g.P.Keeper.faults g.P.Keeper.calls c.last_turn-pass-in-Failed.new.keeper in
     let end = end_of door_end.Closed sent.Failed t.1 t.2 in
     let k = kept_first g.C.Clock.shows hall clock door first.0 c.args.pass first.1 c.requires.door in
     let all = all_served g.C.Clock.shows hall clock Enough door door first.0 c.args.pass c.args.pass t.0 old old after t.1 t.2 k first.1 (tended_same (stand c.args.pass Enough door old)) c.requires.door c.requires.whole
@@ -87,8 +88,8 @@ returns-in-Memory-clause-served g c =
     let first = c.requires.first in
     let before : Sheet = record { written = g.K.Sink.written c.args.sink.now; faults = g.K.Sink.faults c.args.sink.now } in
     let later : Sheet = record { written = g.K.Sink.written c.say_ready.new.sink; faults = g.K.Sink.faults c.say_ready.new.sink } in
-    let old : Store = record { table = g.P.Keeper.table c.args.keeper.now; faults = g.P.Keeper.faults c.args.keeper.now } in
-    let after : Store = record { table = g.P.Keeper.table c.last_turn-pass-in-Memory.new.keeper; faults = g.P.Keeper.faults c.last_turn-pass-in-Memory.new.keeper } in
+    let old : Store = store_of g.P.Keeper.table g.P.Keeper.faults g.P.Keeper.calls c.args.keeper.now in
+    let after : Store = store_of g.P.Keeper.table g.P.Keeper.faults g.P.Keeper.calls c.last_turn-pass-in-Memory.new.keeper in
     let end = end_of door_end.Closed sent.Memory t.1 t.2 in
     let k = kept_first g.C.Clock.shows hall clock door first.0 c.args.pass first.1 c.requires.door in
     let all = all_served g.C.Clock.shows hall clock Enough door door first.0 c.args.pass c.args.pass t.0 old old after t.1 t.2 k first.1 (tended_same (stand c.args.pass Enough door old)) c.requires.door c.requires.whole
@@ -110,14 +111,14 @@ returns-in-All-clause-write_told g c =
 pub returns-in-All-clause-keeper_counted : goal.returns-in-All-clause-keeper_counted
 returns-in-All-clause-keeper_counted g c =
     let t = c.host_links-hosted.ensures.tended in
-    le_trans (turns_counted (MayEnd (c.host_links-hosted.result.supply ≡ Short)) t.count (g.P.Keeper.faults c.args.keeper.now) (g.P.Keeper.faults c.host_links-hosted.new.keeper) t.entries t.turns) c.last_turn-pass.ensures.counted
+    le_trans (turns_counted (MayEnd (c.host_links-hosted.result.supply ≡ Short)) t.count (store_of g.P.Keeper.table g.P.Keeper.faults g.P.Keeper.calls c.args.keeper.now) (store_of g.P.Keeper.table g.P.Keeper.faults g.P.Keeper.calls c.host_links-hosted.new.keeper) t.entries t.turns) c.last_turn-pass.ensures.counted
 
 pub returns-in-All-clause-keeper_fault : goal.returns-in-All-clause-keeper_fault
 returns-in-All-clause-keeper_fault g c = λ e.
     let h = c.host_links-hosted.result in
     let t = c.host_links-hosted.ensures.tended in
     let last = c.last_turn-pass.result.1 in
-    let low = turns_counted (MayEnd (h.supply ≡ Short)) t.count (g.P.Keeper.faults c.args.keeper.now) (g.P.Keeper.faults c.host_links-hosted.new.keeper) t.entries t.turns in
+    let low = turns_counted (MayEnd (h.supply ≡ Short)) t.count (store_of g.P.Keeper.table g.P.Keeper.faults g.P.Keeper.calls c.args.keeper.now) (store_of g.P.Keeper.table g.P.Keeper.faults g.P.Keeper.calls c.host_links-hosted.new.keeper) t.entries t.turns in
     let is : LastEnds KeeperFault last = subst (λ (x : ServeEnd). LastEnds x last) (sym c.end_of-end.ensures ∙ e) (comes h.end c.say_closed-sent.result last c.then-supply.result).ends in
     let rose = c.last_turn-pass.ensures.fault is in
     omega (arith, low, rose)

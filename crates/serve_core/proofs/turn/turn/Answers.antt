@@ -1,4 +1,5 @@
 use Rattle.std.proofs.Common.{subst}
+use Rattle.edge_traits.specs.Calls.{Store, store_of}
 use Rattle.hall_core.specs.Passes.{PassState}
 use Rattle.steward_core.specs.Turn.{end_of_turn}
 use Rattle.serve_core.specs.Turns.{MadeTurn, supply_in}
@@ -8,8 +9,8 @@ use Rattle.serve_core.proofs.turn.turn.Goals as goal
 pub returns-clause-turn : goal.returns-clause-turn
 returns-clause-turn g c =
     let s = c.turn_by_halves-cleared in
-    let before = g.P.Keeper.table c.args.keeper.now in
-    let after = g.P.Keeper.table s.new.keeper in
+    let before : Store = store_of g.P.Keeper.table g.P.Keeper.faults g.P.Keeper.calls c.args.keeper.now in
+    let after : Store = store_of g.P.Keeper.table g.P.Keeper.faults g.P.Keeper.calls s.new.keeper in
     let end = end_of_turn s.result.0 s.result.1 in
     rw (c.into_pass.ensures, c.supply_in.ensures, c.end_of_turn-end.ensures)
     (subst (λ (p : PassState). MadeTurn end (supply_in s.result.0 end) before after p s.new.runner) c.seat-seat.ensures

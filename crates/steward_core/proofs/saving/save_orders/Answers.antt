@@ -1,4 +1,5 @@
 use Rattle.std.proofs.Common.{◌+◌, sym, subst, ◌∙◌, refl, arith, add-one}
+use Rattle.edge_traits.specs.Calls.{Store, store_of}
 use Rattle.steward_core.specs.Saving.{RunsRound, TakesSaving}
 use Rattle.steward_core.specs.declared.saving.SaveRound.{SaveRound}
 use Rattle.steward_core.specs.declared.turn.StewardEnd.TheVariants.{Done}
@@ -11,16 +12,16 @@ loop-answer-init g c = record {
   home = refl;
   known = c.session-session.ensures.known;
   count = refl;
-  saved = none_saved c.args.moment (g.P.Keeper.table c.args.keeper.now) (g.R.Runner.state c.args.runner.now) c.session-session.ensures.known;
+  saved = none_saved c.args.moment (store_of g.P.Keeper.table g.P.Keeper.faults g.P.Keeper.calls c.args.keeper.now) (g.R.Runner.state c.args.runner.now) c.session-session.ensures.known;
   agreed = agreed_still (g.P.Keeper.table c.args.keeper.now) (g.R.Runner.state c.args.runner.now);
   counted = omega arith;
 }
 
 pub loop-answer-preserved : goal.loop-answer-preserved
 loop-answer-preserved g c =
-    let t0 = g.P.Keeper.table c.args.keeper.now in
-    let t1 = g.P.Keeper.table c.loop-answer.keeper in
-    let t2 = g.P.Keeper.table c.save_round.new.keeper in
+    let t0 : Store = store_of g.P.Keeper.table g.P.Keeper.faults g.P.Keeper.calls c.args.keeper.now in
+    let t1 : Store = store_of g.P.Keeper.table g.P.Keeper.faults g.P.Keeper.calls c.loop-answer.keeper in
+    let t2 : Store = store_of g.P.Keeper.table g.P.Keeper.faults g.P.Keeper.calls c.save_round.new.keeper in
     let s0 = g.R.Runner.state c.args.runner.now in
     let s1 = g.R.Runner.state c.loop-answer.runner in
     let s2 = g.R.Runner.state c.save_round.new.runner in
@@ -34,15 +35,15 @@ loop-answer-preserved g c =
       known = round.grew.known;
       count = omega (arith, count);
       saved = subst (λ n. HasSaved c.args.moment n t0 t2 s0 s2) (sym (add-one i)) (saved_next c.args.moment i t0 t1 t2 s0 s1 s2 c.loop-answer.invariant.saved round);
-      agreed = agreed_then t0 t1 t2 s0 s1 s2 c.loop-answer.invariant.saved.entries round.entries c.loop-answer.invariant.saved.grew round.grew c.loop-answer.invariant.agreed c.save_round.ensures.agrees;
+      agreed = agreed_then t0.table t1.table t2.table s0 s1 s2 c.loop-answer.invariant.saved.entries round.entries c.loop-answer.invariant.saved.grew round.grew c.loop-answer.invariant.agreed c.save_round.ensures.agrees;
       counted = omega (arith, counted, more);
     }
 
 pub returns-in-Last-clause-saving : goal.returns-in-Last-clause-saving
 returns-in-Last-clause-saving g c =
-    let t0 = g.P.Keeper.table c.args.keeper.now in
-    let t1 = g.P.Keeper.table c.loop-answer.keeper in
-    let t2 = g.P.Keeper.table c.save_round.new.keeper in
+    let t0 : Store = store_of g.P.Keeper.table g.P.Keeper.faults g.P.Keeper.calls c.args.keeper.now in
+    let t1 : Store = store_of g.P.Keeper.table g.P.Keeper.faults g.P.Keeper.calls c.loop-answer.keeper in
+    let t2 : Store = store_of g.P.Keeper.table g.P.Keeper.faults g.P.Keeper.calls c.save_round.new.keeper in
     let s0 = g.R.Runner.state c.args.runner.now in
     let s1 = g.R.Runner.state c.loop-answer.runner in
     let s2 = g.R.Runner.state c.save_round.new.runner in
@@ -53,9 +54,9 @@ returns-in-Last-clause-saving g c =
 
 pub returns-in-KeeperFault-clause-saving : goal.returns-in-KeeperFault-clause-saving
 returns-in-KeeperFault-clause-saving g c =
-    let t0 = g.P.Keeper.table c.args.keeper.now in
-    let t1 = g.P.Keeper.table c.loop-answer.keeper in
-    let t2 = g.P.Keeper.table c.save_round.new.keeper in
+    let t0 : Store = store_of g.P.Keeper.table g.P.Keeper.faults g.P.Keeper.calls c.args.keeper.now in
+    let t1 : Store = store_of g.P.Keeper.table g.P.Keeper.faults g.P.Keeper.calls c.loop-answer.keeper in
+    let t2 : Store = store_of g.P.Keeper.table g.P.Keeper.faults g.P.Keeper.calls c.save_round.new.keeper in
     let s0 = g.R.Runner.state c.args.runner.now in
     let s1 = g.R.Runner.state c.loop-answer.runner in
     let s2 = g.R.Runner.state c.save_round.new.runner in
@@ -64,9 +65,9 @@ returns-in-KeeperFault-clause-saving g c =
 
 pub returns-in-Memory-clause-saving : goal.returns-in-Memory-clause-saving
 returns-in-Memory-clause-saving g c =
-    let t0 = g.P.Keeper.table c.args.keeper.now in
-    let t1 = g.P.Keeper.table c.loop-answer.keeper in
-    let t2 = g.P.Keeper.table c.save_round.new.keeper in
+    let t0 : Store = store_of g.P.Keeper.table g.P.Keeper.faults g.P.Keeper.calls c.args.keeper.now in
+    let t1 : Store = store_of g.P.Keeper.table g.P.Keeper.faults g.P.Keeper.calls c.loop-answer.keeper in
+    let t2 : Store = store_of g.P.Keeper.table g.P.Keeper.faults g.P.Keeper.calls c.save_round.new.keeper in
     let s0 = g.R.Runner.state c.args.runner.now in
     let s1 = g.R.Runner.state c.loop-answer.runner in
     let s2 = g.R.Runner.state c.save_round.new.runner in
@@ -75,8 +76,8 @@ returns-in-Memory-clause-saving g c =
 
 pub returns-clause-saving : goal.returns-clause-saving
 returns-clause-saving g c =
-    let t0 = g.P.Keeper.table c.args.keeper.now in
-    let t1 = g.P.Keeper.table c.loop-answer.keeper in
+    let t0 : Store = store_of g.P.Keeper.table g.P.Keeper.faults g.P.Keeper.calls c.args.keeper.now in
+    let t1 : Store = store_of g.P.Keeper.table g.P.Keeper.faults g.P.Keeper.calls c.loop-answer.keeper in
     let s0 = g.R.Runner.state c.args.runner.now in
     let s1 = g.R.Runner.state c.loop-answer.runner in
     let most = c.loop-answer-test.false in

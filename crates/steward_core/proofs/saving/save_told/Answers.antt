@@ -18,6 +18,7 @@ returns-clause-saves g c =
           let short : length orders - count ≡ 0 = sym (length-drop count orders) ∙ ap length none in
           c.carry_out-carried.ensures.only_all (omega (arith, short, c.carry_out-carried.ensures.few));
       table = c.carry_out-carried.ensures.carried;
+      called = c.carry_out-carried.ensures.calls;
       tells = c.tell_saved-told.ensures.told;
       ends = c.round_of.ensures;
     }

@@ -22,6 +22,7 @@ returns-clause-turn g c =
           ends = refl;
         };
         kept = two.kept;
+        called = two.called;
       },
       refl,
     )

@@ -1,5 +1,6 @@
 use Rattle.std.proofs.Common.{◌-◌, take, arith}
 use Rattle.std.specs.List.{remove}
+use Rattle.edge_traits.specs.declared.doorway.Answered.TheVariants.{Link}
 use Rattle.memory_edges.specs.MemDoor.{told_by}
 use Rattle.memory_edges.proofs.Doors.{GivesFirst, gives_first}
 use Rattle.memory_edges.proofs.mem_door.MemDoorDoorway.next.Goals as goal
@@ -21,4 +22,4 @@ returns-clause-fresh c = (given c).new
 pub returns-clause-gives : goal.returns-clause-gives
 returns-clause-gives c =
     let g = given c in
-    rw (c.remove.ensures.items, ← c.self.view_is) (g.told, λ j. record { left = told_by (take (c.self.inside.left - 1) (remove c.self.inside.links.items 0)); came = g.listed j; back = g.back j; quiets = 0 })
+    rw (c.remove.ensures.items, ← c.self.view_is) (g.told, λ j. record { left = told_by (take (c.self.inside.left - 1) (remove c.self.inside.links.items 0)); came = g.listed j; back = g.back j; quiets = 0; last = Link })

@@ -10,6 +10,7 @@ invariant_of-self-2 c = subst IsAscending (sym c.in-Ok.ensures.put) (IsAscending
 
 pub returns-clause-put : goal.returns-clause-put
 returns-clause-put c =
-    ap (λ (pairs : Pairs). map.from_sorted {R = keys_order} pairs) c.in-Ok.ensures.put
+    rw c.note-2.ensures.answer
+    (ap (λ (pairs : Pairs). map.from_sorted {R = keys_order} pairs) c.in-Ok.ensures.put
     ∙ from_sorted-put c.args.key.now c.args.bytes.now _ c.self.invariant
-    ∙ ap (λ (s : Shelf). map.insert (map.from_sorted {R = keys_order} s.pairs) c.args.key.now c.args.bytes.now) c.self.view_is
+    ∙ ap (λ (s : Shelf). map.insert (map.from_sorted {R = keys_order} s.pairs) c.args.key.now c.args.bytes.now) c.self.view_is)

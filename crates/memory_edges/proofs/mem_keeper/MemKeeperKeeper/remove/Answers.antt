@@ -10,6 +10,7 @@ invariant_of-self-2 c = subst IsAscending (sym c.remove_pair.ensures) (IsAscendi
 
 pub returns-clause-removed : goal.returns-clause-removed
 returns-clause-removed c =
-    ap (λ (pairs : Pairs). map.from_sorted {R = keys_order} pairs) c.remove_pair.ensures
+    rw c.note-2.ensures.answer
+    (ap (λ (pairs : Pairs). map.from_sorted {R = keys_order} pairs) c.remove_pair.ensures
     ∙ from_sorted-without c.args.key.now _ c.self.invariant
-    ∙ ap (λ (s : Shelf). map.remove (map.from_sorted {R = keys_order} s.pairs) c.args.key.now) c.self.view_is
+    ∙ ap (λ (s : Shelf). map.remove (map.from_sorted {R = keys_order} s.pairs) c.args.key.now) c.self.view_is)

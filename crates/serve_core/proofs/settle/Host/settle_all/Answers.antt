@@ -11,7 +11,7 @@ loop-worker-init g c = record {
   kept = c.requires;
   same = (refl, refl);
   tended = λ store. tended_same (stand c.args.self.now.pass c.args.self.now.supply (g.D.Doorway.tale c.args.door.now) store);
-  left = where_same (g.D.Doorway.tale c.args.door.now) KeepsLeft (λ tale. (refl, refl));
+  left = where_same (g.D.Doorway.tale c.args.door.now) KeepsLeft (λ tale. (refl, refl, refl));
   faults = refl;
 }
 

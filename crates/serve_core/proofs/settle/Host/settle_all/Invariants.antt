@@ -1,7 +1,7 @@
 use Rattle.std.proofs.Common.{◌≡◌, vec_len}
 use Rattle.edge_traits.specs.WhereTold.{WhereTold}
 use Rattle.serve_core.specs.Keeping.{KeepsLeft, Underway, SameHall}
-use Rattle.serve_core.specs.Outside.{Store}
+use Rattle.edge_traits.specs.Calls.{Store}
 use Rattle.serve_core.specs.Tending.{Tended, stand}
 use Rattle.serve_core.proofs.settle.Host.settle_all.Given as goal
 
