@@ -18,7 +18,8 @@ SECONDS = {
     "lobby_load": 39, "lobby_shelf": 64, "lobby_state": 315, "lobby_store": 19, "login_handles": 19,
     "memory": 7, "move_reader": 18, "move_writer": 17, "observer_feed": 20, "offer_book": 21,
     "one_server": 123, "partner_link": 24, "pgn_book": 107, "real_edges": 20, "replay_core": 34,
-    "rules_answers": 30, "rules_reading": 10, "seek_match": 31, "serve_core": 193, "session_core": 175,
-    "session_laws": 7, "simul_control": 21, "stamp_codec": 23, "steward_core": 31, "style12_writer": 47,
-    "tables": 46, "tourney_desk": 46, "turn_chain": 35, "turn_table": 67, "variant_rules": 85,
+    "rules_answers": 30, "rules_reading": 10, "seek_match": 31, "serve_core": 193, "session_asks": 14,
+    "session_core": 175, "session_laws": 7, "simul_control": 21, "stamp_codec": 23, "steward_core": 31,
+    "style12_writer": 47, "tables": 46, "tourney_desk": 46, "turn_chain": 35, "turn_table": 67,
+    "variant_rules": 85,
 }
