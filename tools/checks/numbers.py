@@ -13,7 +13,7 @@ ROW = re.compile(r"^\| (\d+) \| (\w+) \|", re.MULTILINE)
 NAMED = re.compile(r"\b(\d{1,2}) ([A-Z][a-z]+[A-Za-z]*)\b")
 BOUNDS = {
     "CONTRIBUTING.md": [
-        (r"(\d+) edits in all", edits.MOST_EDITS), (r"in at most (\d+) crates", edits.MOST_CRATES),
+        (r"cost at most ([\d,]+) seconds together", edits.MOST_SECONDS),
         (r"at most (\d+) crates of tests", crates.MOST_TESTS)],
 }
 
@@ -38,5 +38,5 @@ def faults():
     for page, bounds in BOUNDS.items():
         for form, bound in bounds:
             for said in re.findall(form, text(page)) or [None]:
-                if said is None or int(said) != bound:
+                if said is None or int(said.replace(",", "")) != bound:
                     yield f"{page} says {said} where {bound} is asked for: {form}"

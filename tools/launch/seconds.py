@@ -1,22 +1,25 @@
 """Processor seconds of a first build of each crate, as `prove_and_build --times` prints those of the last build: as the
-system counted them in two builds beside other work on a machine of four processors at 2.5 GHz, those of the one brought
-to the measure of the other.
+system counted them in one build of the whole program beside other work, on a machine of four processors at 2.7 GHz.
 
-A crate that isn't here is taken at so many seconds a line.
+Those of `fics_board` are what they were elsewhere, brought to this measure. A crate that isn't here is taken at so
+many seconds a line.
 """
-SECONDS_A_LINE = 0.06
+SECONDS_A_LINE = 0.03
+# the pages tell the minutes of a machine at 2.5 GHz, where the same crates took so many times these seconds
+AT_2_5_GHZ = 2.2
 SECONDS = {
-    "bitboard_core": 53, "channel_feed": 48, "chess_model": 104, "clock_ledger": 25, "cmd_board": 44,
-    "cmd_bot": 45, "cmd_check": 26, "cmd_demo": 116, "cmd_examine": 81, "cmd_job": 103,
-    "cmd_lines": 97, "cmd_pgn": 36, "cmd_replay": 218, "cmd_run": 50, "cmd_store": 17,
-    "cmd_tidy": 39, "cmd_tourney": 59, "collections": 110, "command_words": 190, "desk_boards": 149,
-    "edge_traits": 33, "examine_board": 111, "fics_board": 44, "fics_server": 458, "fics_words": 105,
-    "file_keeper": 321, "game_board": 138, "game_records": 134, "hall_core": 180, "histories": 17,
-    "holdings_drops": 17, "house_bot": 57, "line_reader": 49, "link_core": 88, "linked_desk": 388,
-    "lobby_load": 104, "lobby_shelf": 122, "lobby_state": 950, "lobby_store": 38, "login_handles": 29,
-    "memory": 19, "move_reader": 45, "move_writer": 36, "observer_feed": 43, "offer_book": 41,
-    "one_server": 308, "partner_link": 45, "pgn_book": 230, "real_edges": 45, "replay_core": 68,
-    "rules_answers": 65, "rules_reading": 27, "seek_match": 54, "serve_core": 345, "session_core": 362,
-    "session_laws": 15, "simul_control": 35, "stamp_codec": 57, "steward_core": 74, "style12_writer": 90,
-    "tables": 88, "tourney_desk": 74, "turn_chain": 71, "turn_table": 122, "variant_rules": 189,
+    "bitboard_core": 29, "channel_feed": 30, "chess_model": 56, "clock_ledger": 12, "cmd_board": 20,
+    "cmd_bot": 21, "cmd_check": 11, "cmd_demo": 67, "cmd_examine": 41, "cmd_job": 42,
+    "cmd_lines": 45, "cmd_pgn": 13, "cmd_replay": 124, "cmd_run": 20, "cmd_store": 7,
+    "cmd_tidy": 19, "cmd_tourney": 32, "collections": 49, "command_words": 86, "desk_boards": 63,
+    "edge_traits": 13, "examine_board": 47, "fics_board": 20, "fics_server": 205, "fics_words": 51,
+    "file_keeper": 151, "game_board": 54, "game_records": 73, "hall_core": 96, "histories": 6,
+    "holdings_drops": 8, "house_bot": 26, "line_reader": 22, "link_core": 40, "linked_desk": 173,
+    "lobby_load": 39, "lobby_shelf": 64, "lobby_state": 315, "lobby_store": 19, "login_handles": 19,
+    "memory": 7, "move_reader": 18, "move_writer": 17, "observer_feed": 20, "offer_book": 21,
+    "one_server": 123, "partner_link": 24, "pgn_book": 107, "real_edges": 20, "replay_core": 34,
+    "rules_answers": 30, "rules_reading": 10, "seek_match": 31, "serve_core": 193, "session_asks": 14,
+    "session_core": 175, "session_laws": 7, "simul_control": 21, "stamp_codec": 23, "steward_core": 31,
+    "style12_writer": 47, "tables": 46, "tourney_desk": 46, "turn_chain": 35, "turn_table": 67,
+    "variant_rules": 85,
 }

@@ -1,5 +1,5 @@
 -- The clock of one player: terms, charges, and what remains (FICS: initial minutes, increment in seconds).
-use Rattle.std.specs.Prelude.{◌≡◌, Bool, nat_lt, if◌then◌else◌, ℕ, ℤ, pos, ◌+◌, ◌-◌, ◌*◌, ◌-ℤ◌, zero, suc, List, [], ◌∷◌, ◌++◌, length, take}
+use Rattle.std.specs.Prelude.{◌≡◌, Bool, nat_lt, ◌&&◌, if◌then◌else◌, ℕ, ℤ, pos, ◌+◌, ◌-◌, ◌*◌, ◌-ℤ◌, zero, suc, List, [], ◌∷◌, ◌++◌, length, take}
 use Rattle.std.specs.List.{All, sum_by}
 use Rattle.clock_ledger.specs.declared.charges.Charge.{Charge}
 use Rattle.clock_ledger.specs.Charges.{amount, IsChargeable}
@@ -19,6 +19,10 @@ start_of (suc minutes) increment = suc minutes * 60000
 -- a game has clocks where it has minutes or an increment
 abbrev pub timed : Ledger → Bool
 timed l = nat_lt 0 (l.minutes + l.increment)
+
+-- the player's next half-move is charged: the game has clocks, and it isn't the player's first one
+abbrev pub is_next_charged : Ledger → Bool → Bool
+is_next_charged l has_moved = timed l && has_moved
 
 -- the milliseconds that were given: the start, and the increment for each charge
 abbrev pub given : Ledger → ℕ

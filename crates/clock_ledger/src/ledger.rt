@@ -1,7 +1,7 @@
 //! The clock of one player at one board.
 ghost use Rattle.std.specs.Prelude.{◌≡◌, ◌+◌, ◌*◌, ◌^◌, ◌<◌, ◌≤◌, [], length, IfOk, pos, ◌-ℤ◌};
 ghost use Rattle.clock_ledger.specs.Charges.{IsChargeable};
-ghost use Rattle.clock_ledger.specs.Clock.{timed, start_of, remaining, charged, taken_back};
+ghost use Rattle.clock_ledger.specs.Clock.{timed, start_of, remaining, charged, is_next_charged, taken_back};
 
 use crate::charges::Charge;
 use collections::Roomy;
@@ -54,6 +54,13 @@ impl ClockLedger {
         ensures { result ≡ timed self.now }
     {
         self.minutes != 0 || self.increment != 0
+    }
+
+    /// Whether the player's next half-move is charged: the game has clocks, and the player has moved before.
+    pub fn is_next_charged(&self, has_moved: bool) -> bool
+        ensures { result ≡ is_next_charged self.now has_moved }
+    {
+        self.timed() && has_moved
     }
 
     /// The charges, in the order in which they were made.

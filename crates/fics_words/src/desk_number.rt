@@ -1,5 +1,5 @@
 //! The number of a desk.
-ghost use Rattle.std.specs.Prelude.{◌≡◌};
+ghost use Rattle.std.specs.Prelude.{◌≡◌, ◌-◌};
 ghost use Rattle.fics_words.specs.Desks.{IsDesk};
 
 use std::marker::Model;
@@ -38,5 +38,12 @@ impl DeskNumber {
         ensures desk { IsDesk result }
     {
         self.number
+    }
+
+    /// Its place in a list of all desks, counted from 0.
+    pub fn place(self) -> usize
+        ensures { result ≡ self - 1 }
+    {
+        self.number as usize - 1
     }
 }

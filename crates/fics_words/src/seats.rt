@@ -1,7 +1,7 @@
 //! Who sits at a desk.
 
 ghost use Rattle.std.specs.Prelude.{◌≡◌, length, slice_get};
-ghost use Rattle.fics_words.specs.Seats.{players_of, seat_list, seat_number};
+ghost use Rattle.fics_words.specs.Seats.{all_registered, facing, players_of, seat_list, seat_number, second_board, waits};
 
 use crate::player::Player;
 use memory::{Duplicate, NoMemory};
@@ -23,6 +23,36 @@ pub struct Seats {
 }
 
 impl Opponents {
+    /// Two at their board: the first of them has White, or the second.
+    pub fn facing(white: bool, one: Player, another: Player) -> Opponents
+        ensures { result ≡ facing white one another }
+    {
+        if white {
+            Opponents {
+                white: one,
+                black: another,
+            }
+        } else {
+            Opponents {
+                white: another,
+                black: one,
+            }
+        }
+    }
+
+    /// Two at the second board, where both are there: the first of them has White, or the second.
+    pub fn beside(white: bool, one: Option<Player>, another: Option<Player>) -> Option<Opponents>
+        ensures { result ≡ second_board white one another }
+    {
+        let Some(one) = one else {
+            return None;
+        };
+        let Some(another) = another else {
+            return None;
+        };
+        Some(Opponents::facing(white, one, another))
+    }
+
     /// The place of the session among the two, 0 for White and 1 for Black, if it is one of them.
     fn place(&self, session: u32) -> Option<u8>
         ensures { result ≡ seat_number session (players_of self.now) }
@@ -59,6 +89,30 @@ impl Seats {
             3 => Some(self.second?.black),
             _ => None,
         }
+    }
+
+    /// Whether each player has an account.
+    pub fn all_registered(&self) -> bool
+        ensures { result ≡ all_registered self.now }
+    {
+        let first = &self.first;
+        if !(first.white.registered && first.black.registered) {
+            return false;
+        }
+        match &self.second {
+            None => true,
+            Some(second) => second.white.registered && second.black.registered,
+        }
+    }
+
+    /// Whether their game waits for whoever leaves it: it has one board, and its players have accounts.
+    pub fn waits(&self) -> bool
+        ensures { result ≡ waits self.now }
+    {
+        if self.second.is_some() {
+            return false;
+        }
+        self.all_registered()
     }
 
     /// The number of the session's seat; None exactly where it has none.

@@ -13,7 +13,6 @@ pub mod OwnMoves
 pub mod PairHands
 pub mod Received
 pub mod Steps
-pub mod SquareTests
 pub mod TakenBack
 pub mod Thirds
 pub mod Takes

@@ -6,10 +6,9 @@ ghost use Rattle.game_board.specs.Claim.{has_claims, is_third_time, claim_answer
 ghost use Rattle.game_board.specs.Steps.{position_at};
 
 use crate::game_board::GameBoard;
-use crate::sameness::is_same_position;
 use chess_model::{Variant, Why};
 use fics_words::Refusal;
-use variant_rules::Position;
+use variant_rules::{Position, is_same_position};
 
 /// The half-moves of both players that make fifty moves.
 const FIFTY_MOVES: u16 = 100;

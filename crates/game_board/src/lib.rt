@@ -19,7 +19,6 @@ mod learn;
 mod played;
 mod put;
 mod rewind;
-mod sameness;
 mod take_back;
 
 pub use board_face::face;

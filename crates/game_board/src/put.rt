@@ -37,7 +37,7 @@ impl GameBoard {
     pub(crate) fn is_next_charged(&self) -> bool
         ensures { result ≡ is_next_charged self.now }
     {
-        self.is_timed() && self.has_moved(self.to_move())
+        self.white.is_next_charged(self.has_moved(self.to_move()))
     }
 
     /// Puts a half-move that the board takes on it, with its own charge, and gives the man that it captures. It

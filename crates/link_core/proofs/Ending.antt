@@ -8,8 +8,8 @@ use Rattle.one_server.specs.declared.act.Timed.{Timed}
 use Rattle.one_server.specs.declared.reply.Reply.{Reply}
 use Rattle.histories.specs.declared.entry.Entry.{Entry}
 use Rattle.one_server.specs.Running.{Log, Made, RunnerState}
-use Rattle.session_core.specs.declared.standing.Standing.{Standing}
-use Rattle.session_core.specs.declared.standing.Standing.TheVariants as standing
+use Rattle.session_asks.specs.declared.standing.Standing.{Standing}
+use Rattle.session_asks.specs.declared.standing.Standing.TheVariants as standing
 use Rattle.session_core.specs.Course.{Course, Done, Asks, Writes as Puts, Follows, Passes}
 use Rattle.session_core.specs.Going.{Left, LeftInPart, departing}
 use Rattle.session_core.specs.Memory.{MemoryState, has_entered, is_gone, is_in, is_out}

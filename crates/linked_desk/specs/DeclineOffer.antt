@@ -2,7 +2,7 @@
 use Rattle.std.specs.Prelude.{ℕ, true, [], ◌∷◌, List, Option, Some, None, is_none}
 use Rattle.fics_words.specs.Effect.{Cause, Effect}
 use Rattle.fics_words.specs.declared.refusal.Refusal.TheVariants.{NoSuchOffer}
-use Rattle.offer_book.specs.Offers.{declining, earliest}
+use Rattle.offer_book.specs.Offers.{OfferBook, declining, earliest}
 use Rattle.linked_desk.specs.declared.acts.DeskReply.{DeskReply}
 use Rattle.linked_desk.specs.declared.acts.DeskReply.TheVariants.{Done}
 use Rattle.linked_desk.specs.Desk.{GameState, seat_of}
@@ -28,4 +28,13 @@ decline_effect g session moment = record {
   memory = true;
   reply = Done;
   after = declined_by g moment (seat_of g session);
+}
+
+-- these offers stand, and the seat tells that it declined
+abbrev pub refusing_effect : GameState → OfferBook → ℕ → ℕ → Effect GameState DeskReply
+refusing_effect g offers seat moment = record {
+  causes = [];
+  memory = true;
+  reply = Done;
+  after = told offers seat moment (decline_item g seat) g;
 }

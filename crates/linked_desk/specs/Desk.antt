@@ -1,10 +1,9 @@
 -- What contracts see of a desk: it is vacant, or a game is played at it.
 use Rattle.std.specs.Prelude.{ℕ, ◌+◌, ◌-◌, ◌*◌, Bool, is_some, max, List, [], length, Option}
-use Rattle.std.specs.List.{list_all}
 use Rattle.std.specs.Option.{option_map, option_and_then, option_map_or}
 use Rattle.chess_model.specs.declared.variant.Terms.{Terms}
-use Rattle.fics_words.specs.declared.player.Player.{Player}
 use Rattle.fics_words.specs.declared.seats.Seats.{Seats}
+use Rattle.fics_words.specs.Seats as sitting
 use Rattle.fics_words.specs.Seats.{seat_list, seat_number}
 use Rattle.offer_book.specs.Offers.{OfferBook}
 use Rattle.style12_writer.specs.declared.item.Item.{Item}
@@ -47,7 +46,7 @@ is_pair g = is_some g.seats.second
 
 -- each player has an account
 abbrev pub all_registered : GameState → Bool
-all_registered g = list_all (λ (p : Player). p.registered) (seat_list g.seats)
+all_registered g = sitting.all_registered g.seats
 
 -- the seat of a session, if it plays
 abbrev pub seat_of : GameState → ℕ → Option ℕ

@@ -1,14 +1,15 @@
 -- Leaving a desk: a game between two players with accounts waits for them, as on FICS; any other is lost by whoever
 -- leaves it. That a pair is lost is this server's own.
-use Rattle.std.specs.Prelude.{ℕ, ◌&&◌, Bool, false, is_some, not, if◌then◌else◌, [], Option, Some, None}
+use Rattle.std.specs.Prelude.{ℕ, Bool, false, is_some, if◌then◌else◌, [], Option, Some, None}
 use Rattle.chess_model.specs.declared.why.Why.TheVariants.{Adjourned, Left}
 use Rattle.chess_model.specs.Placement.{opposite}
 use Rattle.fics_words.specs.Effect.{Effect}
+use Rattle.fics_words.specs.Seats as sitting
 use Rattle.observer_feed.specs.Feed.{without}
 use Rattle.linked_desk.specs.declared.acts.DeskReply.{DeskReply}
 use Rattle.linked_desk.specs.declared.acts.DeskReply.TheVariants.{Done}
 use Rattle.linked_desk.specs.declared.ended.Ended.{Ended}
-use Rattle.linked_desk.specs.Desk.{GameState, all_registered, is_pair, moment_at, seat_of}
+use Rattle.linked_desk.specs.Desk.{GameState, moment_at, seat_of}
 use Rattle.linked_desk.specs.Ends.{ended_by}
 use Rattle.linked_desk.specs.Offering.{end_without_winner}
 use Rattle.linked_desk.specs.Seats.{board_of, colour_at}
@@ -19,7 +20,7 @@ forfeit seat = record { why = Left; board = board_of seat; winner = Some (opposi
 
 -- the game waits for whoever leaves: it has one board, and its players have accounts
 abbrev pub waits : GameState → Bool
-waits g = not (is_pair g) && all_registered g
+waits g = sitting.waits g.seats
 
 -- how a running game ends where this seat leaves
 abbrev pub leaving_end : GameState → ℕ → Ended

@@ -1,5 +1,5 @@
 //! The desk.
-ghost use Rattle.std.specs.Prelude.{◌≡◌, ◌≤◌, ◌↔◌, ℕ, None, Some, IfOk, IsSome, IsTrue, OnOk, OnErr, slice_get};
+ghost use Rattle.std.specs.Prelude.{◌≡◌, ◌≤◌, ◌↔◌, ◌==◌, ℕ, None, Some, IfOk, IsSome, IsTrue, OnOk, OnErr, slice_get};
 ghost use Rattle.std.specs.Option.{option_copied};
 ghost use Rattle.fics_words.specs.Effect.{Takes};
 ghost use Rattle.desk_boards.specs.Boards.{place};
@@ -184,6 +184,16 @@ impl Desk {
         match &self.game {
             Some(game) => game.viewers(),
             None => 0,
+        }
+    }
+
+    /// Whether nobody looks on any more.
+    pub fn is_left(&self) -> bool
+        ensures { result ≡ (viewer_count self.now == 0) }
+    {
+        match &self.game {
+            Some(game) => game.is_left(),
+            None => true,
         }
     }
 

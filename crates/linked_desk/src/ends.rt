@@ -1,6 +1,8 @@
 //! The end of a game.
-ghost use Rattle.std.specs.Prelude.{◌≡◌, None};
+ghost use Rattle.std.specs.Prelude.{◌≡◌, None, option_copied};
+ghost use Rattle.std.specs.Option.{option_to_list};
 ghost use Rattle.linked_desk.specs.Ends.{end_item, ended_by, winner_on};
+ghost use Rattle.linked_desk.specs.Views.{each_board};
 
 use crate::ended::Ended;
 use crate::game::Game;
@@ -20,16 +22,29 @@ impl Game {
         self.last = self.last.max(moment);
         self.ended = Some(end);
         let (first, second) = self.boards.both();
-        self.feed
-            .add(end_item(desk, &end, &self.seats.first, first));
-        let Some(players) = &self.seats.second else {
-            return;
-        };
-        let Some(board) = second else {
-            return;
-        };
-        self.feed.add(end_item(desk, &end, players, board));
+        let first = end_item(desk, &end, &self.seats.first, first);
+        let second = end_beside(desk, &end, &self.seats.second, second);
+        self.feed.add_both(first, second);
     }
+}
+
+/// What is told of the end at the second board, where there is one.
+fn end_beside(
+    desk: DeskNumber,
+    end: &Ended,
+    players: &Option<Opponents>,
+    board: Option<&GameBoard>,
+) -> Option<Item>
+    ensures { option_to_list result ≡ each_board (end_item desk end.now) (option_to_list players.now)
+        (option_to_list (option_copied board.entry)) }
+{
+    let Some(players) = players else {
+        return None;
+    };
+    let Some(board) = board else {
+        return None;
+    };
+    Some(end_item(desk, end, players, board))
 }
 
 /// What is told of the end at a board.

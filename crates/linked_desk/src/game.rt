@@ -17,7 +17,6 @@ use style12_writer::Item;
 pub(crate) const ROOM_TO_END: usize = 4;
 
 /// A game at a desk: the players, the boards, the feed and its viewers.
-#[derive(Drop)]
 pub(crate) struct Game {
     pub(crate) alloc: Global,
     pub(crate) serial: u64,
@@ -30,6 +29,29 @@ pub(crate) struct Game {
     pub(crate) ended: Option<Ended>,
     pub(crate) offers: Offers,
     pub(crate) tally: Tally,
+}
+
+// One call for who drops a game, in place of the destructors of its parts.
+impl Drop for Game {
+    fn drop(self) {
+        let Game {
+            alloc: _,
+            serial: _,
+            terms: _,
+            seats: _,
+            boards,
+            feed,
+            remarks: _,
+            last: _,
+            ended: _,
+            offers,
+            tally,
+        } = self;
+        drop(boards);
+        drop(feed);
+        drop(offers);
+        drop(tally);
+    }
 }
 
 impl Model for Game {
@@ -58,6 +80,7 @@ impl Model for Game {
 
 impl Game {
     ghost use Rattle.linked_desk.specs.Desk.{seat_of, is_watching, ahead_of, all_registered};
+    ghost use Rattle.observer_feed.specs.Feed.{is_left};
 
     /// The number under which the game was started.
     pub(crate) fn serial(&self) -> u64
@@ -87,6 +110,13 @@ impl Game {
         self.feed.viewers()
     }
 
+    /// Whether nobody looks on any more.
+    pub(crate) fn is_left(&self) -> bool
+        ensures { result ≡ is_left self.now.viewers }
+    {
+        self.feed.is_left()
+    }
+
     /// The seat of a session, if it plays.
     pub(crate) fn seat_of(&self, session: u32) -> Option<u8>
         ensures value { result ≡ seat_of self.now session }
@@ -99,14 +129,7 @@ impl Game {
     pub(crate) fn all_registered(&self) -> bool
         ensures { result ≡ all_registered self.now }
     {
-        let first = &self.seats.first;
-        if !(first.white.registered && first.black.registered) {
-            return false;
-        }
-        match &self.seats.second {
-            None => true,
-            Some(second) => second.white.registered && second.black.registered,
-        }
+        self.seats.all_registered()
     }
 
     /// Whether a session is a viewer of the game.

@@ -2,7 +2,7 @@
 ghost use Rattle.std.specs.Prelude.{◌≡◌, Ok};
 ghost use Rattle.fics_words.specs.Effect.{Takes};
 ghost use Rattle.linked_desk.specs.Desk.{seat_of};
-ghost use Rattle.linked_desk.specs.Leave.{forfeit, leave_effect, leaving_end, left_by, waits};
+ghost use Rattle.linked_desk.specs.Leave.{forfeit, leave_effect, leaving_end, left_by};
 
 use crate::acts::DeskReply;
 use crate::ended::Ended;
@@ -43,20 +43,10 @@ impl Game {
     fn leaving_end(&self, seat: u8) -> Ended
         ensures { result ≡ leaving_end self.now seat }
     {
-        if self.waits() {
+        if self.seats.waits() {
             return end_without_winner(seat, Why::Adjourned);
         }
         forfeit(seat)
-    }
-
-    /// Whether the game waits for whoever leaves it.
-    fn waits(&self) -> bool
-        ensures { result ≡ waits self.now }
-    {
-        if self.seats.second.is_some() {
-            return false;
-        }
-        self.all_registered()
     }
 }
 

@@ -9,6 +9,7 @@ use crate::ended::Ended;
 use crate::game::{Game, ROOM_TO_END};
 use crate::hands::first_hands;
 use crate::seats::board_of;
+use crate::views::add_some;
 use chess_model::Why;
 use clock_ledger::Moment;
 use desk_boards::BoardNumber;
@@ -127,12 +128,10 @@ impl Game {
         self.boards.take_back(n, now);
         self.last = now;
         self.feed.add(Item::Talk(line));
-        if let Some(view) = self.view(desk, BoardNumber::First) {
-            self.feed.add(Item::Board(view));
-        }
-        if let Some(hold) = self.hands_now(desk) {
-            self.feed.add(hold);
-        }
+        let item = self.board_item(desk, BoardNumber::First);
+        let own = self.hands_now(desk);
+        add_some(&mut self.feed, item);
+        add_some(&mut self.feed, own);
         Ok(())
     }
 

@@ -1,6 +1,6 @@
 -- Who plays in a stored game. This server's own.
-use Rattle.std.specs.Prelude.{◌≡◌, ℕ, ◌+◌, ◌<◌, ◌≤◌, ◌&&◌, Bool, true, List, [], ◌∷◌, Contains, Option, None, Some, bytes_eq, drop, length, slice_get}
-use Rattle.std.specs.List.{filter, find, list_any}
+use Rattle.std.specs.Prelude.{◌≡◌, ℕ, ◌+◌, ◌<◌, ◌≤◌, ◌&&◌, ◌||◌, Bool, true, List, [], ◌∷◌, Contains, Option, None, Some, bytes_eq, drop, length, slice_get}
+use Rattle.std.specs.List.{filter, find, list_all, list_any}
 use Rattle.fics_words.specs.Handle.{key_of}
 use Rattle.game_records.specs.declared.stored_game.StoredGame.{StoredGame}
 use Rattle.lobby_shelf.specs.declared.shelved.Shelved.{Shelved}
@@ -8,6 +8,10 @@ use Rattle.lobby_shelf.specs.declared.shelved.Shelved.{Shelved}
 -- the handle with this key is among the players of the game
 abbrev pub has_player : List ℕ → StoredGame → Bool
 has_player key game = list_any (λ name. bytes_eq (key_of name) key) game.names
+
+-- all players of the game pass the test but the handle with this key, which needn't
+abbrev pub all_others : List ℕ → (List ℕ → Bool) → StoredGame → Bool
+all_others own passes game = list_all (λ name. bytes_eq (key_of name) own || passes name) game.names
 
 -- the games that the handle with this key plays in, in the order of their numbers
 abbrev pub of_player : List ℕ → List Shelved → List Shelved

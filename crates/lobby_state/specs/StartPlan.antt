@@ -1,12 +1,14 @@
 -- A game between a member that offers one and a member that accepts: why it can't start, and its plan. This server's
 -- own.
-use Rattle.std.specs.Prelude.{ℕ, ◌+◌, ◌%◌, ◌==◌, Bool, true, false, ◌||◌, nat_le, List, [], ◌∷◌, Option, None, Some, is_none}
+use Rattle.std.specs.Prelude.{ℕ, ◌+◌, ◌%◌, ◌==◌, Bool, true, false, ◌||◌, nat_le, List, [], ◌∷◌, Option, None, Some, is_none, option_map}
 use Rattle.chess_model.specs.declared.man.Colour.{Colour}
 use Rattle.chess_model.specs.declared.man.Colour.TheVariants.{White, Black}
 use Rattle.fics_words.specs.Effect.{Cause, Effect}
 use Rattle.fics_words.specs.declared.account.Account.{Account}
 use Rattle.fics_words.specs.declared.player.Player.{Player}
 use Rattle.fics_words.specs.declared.refusal.Refusal.TheVariants.{Playing, SimulFull, NoDesk, ShelfFull}
+use Rattle.fics_words.specs.Seats as sitting
+use Rattle.fics_words.specs.Seats.{facing}
 use Rattle.fics_words.specs.declared.seats.Opponents.{Opponents}
 use Rattle.fics_words.specs.declared.seats.Seats.{Seats}
 use Rattle.lobby_state.specs.declared.acts.Plan.{Plan}
@@ -39,15 +41,12 @@ player_of accounts member =
 
 -- two at their board: the first of them has White, or the second
 abbrev pub opponents_of : List Account → Bool → Member → Member → Opponents
-opponents_of accounts true one another =
-    record { white = player_of accounts one; black = player_of accounts another }
-opponents_of accounts false one another =
-    record { white = player_of accounts another; black = player_of accounts one }
+opponents_of accounts white one another = facing white (player_of accounts one) (player_of accounts another)
 
 -- two at the second board, where both are there
 abbrev pub second_board : List Account → Bool → Option Member → Option Member → Option Opponents
-second_board accounts white (Some one) (Some another) = Some (opponents_of accounts white one another)
-second_board _ _ _ _ = None
+second_board accounts white one another =
+    sitting.second_board white (option_map (player_of accounts) one) (option_map (player_of accounts) another)
 
 -- who sits where: the two at the first board, and in bughouse their partners at the second, each with the colour that
 -- its partner doesn't have

@@ -1,6 +1,6 @@
 //! The acts of the lobby, what they are answered, and what pair acts are to do.
 ghost use Rattle.std.specs.Prelude.{◌≡◌};
-ghost use Rattle.lobby_state.specs.Told.{lists_told};
+ghost use Rattle.lobby_state.specs.Told.{lists_told, plain_part};
 ghost use Rattle.lobby_state.specs.Plans.{desk_of};
 
 use crate::desk_in_use::DeskInUse;
@@ -138,7 +138,7 @@ pub enum LobbyAct {
 }
 
 /// What a lobby act is answered.
-#[derive(Drop, PartialEq, Eq)]
+#[derive(Drop)]
 pub enum LobbyReply {
     Done,
     /// The session is in, under this handle.
@@ -173,21 +173,30 @@ impl LobbyReply {
         ensures { result ≡ self.now }
     {
         match self {
-            LobbyReply::Done => LobbyReply::Done,
-            LobbyReply::Entered(name) => LobbyReply::Entered(*name),
-            LobbyReply::NeedPassword => LobbyReply::NeedPassword,
-            LobbyReply::Number(number) => LobbyReply::Number(*number),
             LobbyReply::Lines(_) => LobbyReply::Lines(lists.lines),
-            LobbyReply::Told(count) => LobbyReply::Told(*count),
-            LobbyReply::Asked => LobbyReply::Asked,
-            LobbyReply::Found(place) => LobbyReply::Found(*place),
-            LobbyReply::Places(places) => LobbyReply::Places(*places),
             LobbyReply::Waiting { places, .. } => LobbyReply::Waiting {
                 lines: lists.waiting,
                 places: *places,
             },
             LobbyReply::Desks(_) => LobbyReply::Desks(lists.desks),
             LobbyReply::Orders(_) => LobbyReply::Orders(lists.orders),
+            _ => self.plain_twin(),
+        }
+    }
+
+    /// A reply equal to this one, where it tells no list; else nothing of note.
+    fn plain_twin(&self) -> LobbyReply
+        ensures { result ≡ plain_part self.now }
+    {
+        match self {
+            LobbyReply::Entered(name) => LobbyReply::Entered(*name),
+            LobbyReply::NeedPassword => LobbyReply::NeedPassword,
+            LobbyReply::Number(number) => LobbyReply::Number(*number),
+            LobbyReply::Told(count) => LobbyReply::Told(*count),
+            LobbyReply::Asked => LobbyReply::Asked,
+            LobbyReply::Found(place) => LobbyReply::Found(*place),
+            LobbyReply::Places(places) => LobbyReply::Places(*places),
+            _ => LobbyReply::Done,
         }
     }
 }

@@ -13,6 +13,7 @@ use crate::member::Member;
 use crate::roster::Roster;
 use crate::start_plan::MOST_GAMES;
 use chess_model::Variant;
+use collections::Predicate;
 use fics_words::{Handle, HandleKey, Opponents, Player, Refusal, Seats};
 use lobby_shelf::Shelved;
 
@@ -67,8 +68,11 @@ impl Roster {
     fn would_start(&self, caller: &Member, row: &Shelved) -> bool
         ensures { result ≡ would_start self.now caller.now row.now }
     {
-        let own = caller.name.key();
-        row.game.names.iter().all(|name| name.key() == own || self.has_asked_for(row.number, *name))
+        let asks = Asks {
+            roster: self,
+            number: row.number,
+        };
+        row.all_others(caller.name.key(), &asks)
     }
 
     /// Whether the player of this name is there and asks to resume the game of that number.
@@ -186,6 +190,21 @@ impl Roster {
                 registered: self.accounts.get(member.name.key()).is_some(),
             },
         }
+    }
+}
+
+/// A player who is there and asks to resume the game of that number.
+#[derive(Clone, Copy)]
+struct Asks<'a> {
+    roster: &'a Roster,
+    number: u64,
+}
+
+impl<'a> Predicate<Handle> for Asks<'a> {
+    ghost passes = { λ test name. has_asked_for test.roster.now test.number name };
+
+    fn passes(&self, name: &Handle) -> bool {
+        self.roster.has_asked_for(self.number, *name)
     }
 }
 

@@ -1,5 +1,5 @@
 //! The plan of a game between a member that offers one and a member that accepts.
-ghost use Rattle.std.specs.Prelude.{◌≡◌};
+ghost use Rattle.std.specs.Prelude.{◌≡◌, option_map};
 ghost use Rattle.fics_words.specs.Effect.{answer_of};
 ghost use Rattle.lobby_state.specs.Lobby.{gives};
 ghost use Rattle.lobby_state.specs.Pairing.{beside, paired};
@@ -74,13 +74,18 @@ impl Roster {
         ensures { result ≡ second_board self.now.accounts white (beside self.now variant one.now)
             (beside self.now variant another.now) }
     {
-        let Some(beside_one) = self.beside(variant, one) else {
-            return None;
-        };
-        let Some(beside_another) = self.beside(variant, another) else {
-            return None;
-        };
-        Some(opponents_of(&self.accounts, white, beside_one, beside_another))
+        let one = self.player_beside(variant, one);
+        Opponents::beside(white, one, self.player_beside(variant, another))
+    }
+
+    /// Who sits beside the member, as a player.
+    fn player_beside(&self, variant: Variant, member: &Member) -> Option<Player>
+        ensures { result ≡ option_map (player_of self.now.accounts) (beside self.now variant member.now) }
+    {
+        match self.beside(variant, member) {
+            Some(other) => Some(player_of(&self.accounts, other)),
+            None => None,
+        }
     }
 }
 
@@ -88,17 +93,7 @@ impl Roster {
 fn opponents_of(accounts: &Accounts, white: bool, one: &Member, another: &Member) -> Opponents
     ensures { result ≡ opponents_of accounts.now white one.now another.now }
 {
-    if white {
-        Opponents {
-            white: player_of(accounts, one),
-            black: player_of(accounts, another),
-        }
-    } else {
-        Opponents {
-            white: player_of(accounts, another),
-            black: player_of(accounts, one),
-        }
-    }
+    Opponents::facing(white, player_of(accounts, one), player_of(accounts, another))
 }
 
 /// Whether the offering player has White: where exactly one of the two gives a simul the giver has it, and else it is

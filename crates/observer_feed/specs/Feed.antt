@@ -27,6 +27,10 @@ cursor_of viewers session = find (λ c. c.session == session) viewers
 abbrev pub is_viewer : List Cursor → ℕ → Bool
 is_viewer viewers session = is_some (cursor_of viewers session)
 
+-- nobody looks on
+abbrev pub is_left : List Cursor → Bool
+is_left viewers = length viewers == 0
+
 -- the items past a cursor
 abbrev pub past : {T : Type 0} → List T → Option Cursor → List T
 past items None = []
@@ -56,6 +60,11 @@ with_room more feed = record feed { room = max feed.room more }
 -- the feed with one item more, which takes one place of the room
 abbrev pub with_item : {T : Type 0} → T → FeedState T → FeedState T
 with_item x feed = record feed { items = feed.items ++ x ∷ []; room = feed.room - 1 }
+
+-- the feed with what is told of each board of a game: of the first one, and where there is one of the second
+abbrev pub with_both : {T : Type 0} → T → Option T → FeedState T → FeedState T
+with_both first None feed = with_item first feed
+with_both first (Some second) feed = with_item second (with_item first feed)
 
 -- the feed with one viewer more
 abbrev pub begun : {T : Type 0} → ℕ → Backlog → FeedState T → FeedState T

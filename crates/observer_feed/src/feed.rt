@@ -1,7 +1,8 @@
 //! The feed.
-ghost use Rattle.std.specs.Prelude.{◌≡◌, ◌<◌, IfOk, OnErr, OnOk, drop, false, length};
+ghost use Rattle.std.specs.Option.{option_to_list};
+ghost use Rattle.std.specs.Prelude.{◌≡◌, ◌<◌, ◌≤◌, ◌++◌, ◌∷◌, IfOk, OnErr, OnOk, drop, false, length};
 ghost use Rattle.fics_words.specs.Effect.{Takes, answer_of, state_of};
-ghost use Rattle.observer_feed.specs.Feed.{ahead, begun, empty_feed, fetching, forgotten, is_viewer, unwatching, watching, with_item, with_room};
+ghost use Rattle.observer_feed.specs.Feed.{ahead, begun, empty_feed, fetching, forgotten, is_left, is_viewer, unwatching, watching, with_both, with_item, with_room};
 
 use crate::cursor::{Backlog, CatchUp, Cursor, OfOthers, OfSession};
 use collections::{Listed, Reserved, find};
@@ -78,6 +79,13 @@ impl<T> Feed<T> {
         self.viewers.len()
     }
 
+    /// Whether nobody looks on.
+    pub fn is_left(&self) -> bool
+        ensures { result ≡ is_left self.now.viewers }
+    {
+        self.viewers.len() == 0
+    }
+
     /// Whether a session is a viewer.
     pub fn has(&self, session: u32) -> bool
         ensures { result ≡ is_viewer self.now.viewers session }
@@ -134,6 +142,22 @@ impl<T> Feed<T> {
         ensures { self.new ≡ forgotten session self.old }
     {
         self.viewers.retain(&OfOthers(session));
+    }
+}
+
+impl<T: Drop> Feed<T> {
+    /// Puts what is told of each board of a game behind the other items: of the first one, and where there is one of
+    /// the second.
+    pub fn add_both(&mut self, first: T, second: Option<T>)
+        requires { 2 ≤ self.old.room }
+        ensures after { self.new ≡ with_both first second self.old }
+        ensures items { self.new.items ≡ self.old.items ++ first ∷ option_to_list second }
+        ensures viewers { self.new.viewers ≡ self.old.viewers }
+    {
+        self.add(first);
+        if let Some(second) = second {
+            self.add(second);
+        }
     }
 }
 

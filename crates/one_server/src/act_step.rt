@@ -18,6 +18,7 @@ use crate::resuming::alone_step;
 use crate::steps::{desk_step, lobby_step, pair_step};
 use clock_ledger::Moment;
 use collections::Listed;
+use fics_words::DeskNumber;
 use linked_desk::{Desk, DeskAct};
 use lobby_state::{Lobby, PairAct, Plan};
 use memory::NoMemory;
@@ -67,7 +68,7 @@ fn step_at_desk(
         → OnOk result (desks.new ≡ slice_set desks.old (number - 1) (desk_after desk session moment serial act.now)) }
     ensures err { OnErr result (desks.new ≡ desks.old) }
 {
-    let desk = desks.item_mut(number as usize - 1);
+    let desk = desks.item_mut(DeskNumber::new(number).place());
     desk_step(desk, session, moment, serial, act)
 }
 
@@ -124,6 +125,6 @@ fn carry_out(
     ensures err_lobby { OnErr result (lobby.new ≡ lobby.old) }
     ensures err_desks { OnErr result (desks.new ≡ desks.old) }
 {
-    let desk = desks.item_mut(number as usize - 1);
+    let desk = desks.item_mut(DeskNumber::new(number).place());
     pair_step(alloc, lobby, desk, moment, plan)
 }

@@ -4,7 +4,7 @@ ghost use Rattle.lobby_state.specs.declared.acts.Plan.TheVariants.{Clear};
 ghost use Rattle.lobby_state.specs.Desks.{IsDesk};
 ghost use Rattle.lobby_state.specs.Reserve.{CanShelve};
 ghost use Rattle.one_server.specs.Clearing.{clear_desk, clear_lobby, clear_reply, kept_at};
-ghost use Rattle.one_server.specs.Desks.{has_ended, is_left};
+ghost use Rattle.one_server.specs.Desks.{has_ended};
 
 use crate::reply::PairReply;
 use game_records::StoredGame;
@@ -40,7 +40,7 @@ pub(crate) fn clear_step(
     if !has_ended(desk, serial) {
         return Ok(PairReply::Kept);
     }
-    if !is_left(desk) {
+    if !desk.is_left() {
         lobby.commit(&plan, Ready::Nothing, false);
         return Ok(PairReply::Freed);
     }
@@ -74,11 +74,4 @@ fn has_ended(desk: &Desk, serial: u64) -> bool
         return false;
     };
     present == serial && desk.ended().is_some()
-}
-
-/// Whether nobody looks on at the desk any more.
-fn is_left(desk: &Desk) -> bool
-    ensures { result ≡ is_left desk.now }
-{
-    desk.viewers() == 0
 }

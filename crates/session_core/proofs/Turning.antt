@@ -22,9 +22,9 @@ use Rattle.one_server.specs.declared.reply.Reply.{Reply}
 use Rattle.one_server.specs.Running.{Log}
 use Rattle.session_core.specs.declared.input.Input.{Input}
 use Rattle.session_core.specs.declared.input.Input.TheVariants.{Line, Quiet}
-use Rattle.session_core.specs.declared.standing.LinkMark.TheVariants.{Stamped}
-use Rattle.session_core.specs.declared.standing.Standing.{Standing}
-use Rattle.session_core.specs.declared.standing.Standing.TheVariants as standing
+use Rattle.session_asks.specs.declared.standing.LinkMark.TheVariants.{Stamped}
+use Rattle.session_asks.specs.declared.standing.Standing.{Standing}
+use Rattle.session_asks.specs.declared.standing.Standing.TheVariants as standing
 use Rattle.session_core.specs.declared.visit.Visit.{Visit}
 use Rattle.session_core.specs.Course.{Course, Done, Asks, Writes, Follows, next_act}
 use Rattle.session_core.specs.Inputs.{ack_course, asked_course, input_course, is_greeting, line_course, past_line, quiet_course, refusing, stamp_on, text_course}

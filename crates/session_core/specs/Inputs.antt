@@ -16,10 +16,10 @@ use Rattle.session_core.specs.declared.framing.Framing.{Framing}
 use Rattle.session_core.specs.declared.framing.Framing.TheVariants as framing
 use Rattle.session_core.specs.declared.input.Input.{Input}
 use Rattle.session_core.specs.declared.input.Input.TheVariants.{Line, Quiet}
-use Rattle.session_core.specs.declared.standing.LinkMark.{LinkMark}
-use Rattle.session_core.specs.declared.standing.LinkMark.TheVariants.{Fresh, Stamped}
-use Rattle.session_core.specs.declared.standing.Standing.{Standing}
-use Rattle.session_core.specs.declared.standing.Standing.TheVariants.{Login, Password, In, Gone}
+use Rattle.session_asks.specs.declared.standing.LinkMark.{LinkMark}
+use Rattle.session_asks.specs.declared.standing.LinkMark.TheVariants.{Fresh, Stamped}
+use Rattle.session_asks.specs.declared.standing.Standing.{Standing}
+use Rattle.session_asks.specs.declared.standing.Standing.TheVariants.{Login, Password, In, Gone}
 use Rattle.session_core.specs.Course.{Course, Done, Writes}
 use Rattle.session_core.specs.Login.{naming, proving, turned_away}
 use Rattle.session_core.specs.Memory.{MemoryState, is_gone, past_first}

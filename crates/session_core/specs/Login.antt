@@ -5,29 +5,16 @@ use Rattle.fics_words.specs.HandleTest.{handle_of}
 use Rattle.fics_words.specs.declared.refusal.Refusal.{Refusal}
 use Rattle.fics_words.specs.declared.refusal.Refusal.TheVariants.{BadHandle}
 use Rattle.lobby_state.specs.declared.acts.LobbyAct.TheVariants.{Enter}
-use Rattle.lobby_state.specs.declared.acts.LobbyReply.TheVariants.{Entered, NeedPassword}
 use Rattle.one_server.specs.declared.act.Act.TheVariants.{Lobby}
 use Rattle.one_server.specs.declared.reply.Reply.{Reply}
-use Rattle.one_server.specs.declared.reply.Reply.TheVariants as reply
-use Rattle.session_core.specs.declared.standing.Standing.{Standing}
-use Rattle.session_core.specs.declared.standing.Standing.TheVariants.{Login, Password, In}
+pub use Rattle.session_asks.specs.Entering.{admitted, password_of}
+use Rattle.session_asks.specs.declared.standing.Standing.TheVariants.{Login}
 use Rattle.session_core.specs.Course.{Course, Done, Asks, Writes}
 use Rattle.session_core.specs.Memory.{MemoryState, stands_at}
 use Rattle.session_core.specs.Texts.{refusal_line, reply_text}
 use Rattle.sha2.specs.Sha256.{sha256}
 
--- the password of a handle is asked for; a guest has none
-abbrev pub password_of : Option (List ℕ) → Standing
-password_of (Some name) = Password name
-password_of None = Login
-
--- where a session stands that asked to enter under this name, or as a guest, once it is answered: it is in, or it is
--- asked for the password, or it begins anew
-abbrev pub admitted : Option (List ℕ) → Reply → Standing
-admitted asked (reply.Lobby (Entered name)) = In name
-admitted asked (reply.Lobby NeedPassword) = password_of asked
-admitted asked _ = Login
-
+-- the session stands where the reply leaves it
 abbrev pub entered_as : Option (List ℕ) → Reply → MemoryState → Course
 entered_as name reply memory = Writes (reply_text reply) (Done (stands_at (admitted name reply) memory))
 

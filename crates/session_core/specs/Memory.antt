@@ -9,10 +9,11 @@ use Rattle.lobby_state.specs.Places.{PlaceList, no_places, with_place, without_d
 use Rattle.one_server.specs.declared.reply.Reply.{Reply}
 use Rattle.one_server.specs.declared.reply.Reply.TheVariants.{Lobby}
 use Rattle.session_core.specs.declared.reader.Reader.{Reader}
-use Rattle.session_core.specs.declared.standing.LinkMark.{LinkMark}
-use Rattle.session_core.specs.declared.standing.LinkMark.TheVariants.{Fresh, Plain}
-use Rattle.session_core.specs.declared.standing.Standing.{Standing}
-use Rattle.session_core.specs.declared.standing.Standing.TheVariants.{Login, In, Gone}
+pub use Rattle.session_asks.specs.Entering.{is_in}
+use Rattle.session_asks.specs.declared.standing.LinkMark.{LinkMark}
+use Rattle.session_asks.specs.declared.standing.LinkMark.TheVariants.{Fresh, Plain}
+use Rattle.session_asks.specs.declared.standing.Standing.{Standing}
+use Rattle.session_asks.specs.declared.standing.Standing.TheVariants.{Login, In, Gone}
 
 -- where it stands, what is known of its link, its aliases, how boards are printed, its places, as the lobby told them
 -- last, and where it looks on, in the order in which it began to
@@ -42,10 +43,6 @@ seated name = record newcomer { standing = In name }
 -- where it stands from now on
 abbrev pub stands_at : Standing → MemoryState → MemoryState
 stands_at standing memory = record memory { standing = standing }
-
-abbrev pub is_in : Standing → Bool
-is_in (In name) = true
-is_in _ = false
 
 -- the session has entered, and hasn't left
 abbrev pub has_entered : MemoryState → Bool

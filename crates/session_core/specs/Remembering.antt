@@ -15,14 +15,11 @@ use Rattle.one_server.specs.declared.reply.Reply.TheVariants as reply
 use Rattle.one_server.specs.Running.{Log}
 use Rattle.session_core.specs.Laws.{LooksAway, places_by}
 use Rattle.session_core.specs.Memory.{MemoryState, has_entered}
+pub use Rattle.session_asks.specs.Entering.{is_entered}
 use Rattle.session_core.specs.Session.{at_place, says_over}
 use Rattle.simul_control.specs.declared.place.Place.{Place}
 
--- an entry says that the session has come in
-abbrev pub is_entered : Reply → Bool
-is_entered (reply.Lobby (Entered name)) = true
-is_entered _ = false
-
+-- the replies of these entries say that the session has come in
 abbrev pub any_entered : Log → Bool
 any_entered entries = list_any (λ e. is_entered e.reply) entries
 

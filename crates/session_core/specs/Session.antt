@@ -28,16 +28,12 @@ use Rattle.session_core.specs.Texts.{refusal_line, reply_text, news_text, waitin
 use Rattle.session_core.specs.Memory.{with_observed, without_observed}
 use Rattle.session_core.specs.Visits.{visits_in}
 use Rattle.session_core.specs.Ways.{way_of}
-use Rattle.session_core.specs.declared.standing.Standing.{Standing}
-use Rattle.session_core.specs.declared.standing.Standing.TheVariants.{In}
+pub use Rattle.session_asks.specs.News.{says_over}
+use Rattle.session_asks.specs.declared.standing.Standing.{Standing}
+use Rattle.session_asks.specs.declared.standing.Standing.TheVariants.{In}
 use Rattle.session_core.specs.declared.visit.Visit.{Visit}
 use Rattle.session_core.specs.declared.way.Way.{Way}
 use Rattle.session_core.specs.declared.way.Way.TheVariants as way
-
--- nothing more will come from the game
-abbrev pub says_over : Reply → Bool
-says_over (reply.Desk (Items items is_over)) = is_over
-says_over _ = false
 
 -- an act at the game of a place
 abbrev pub at_place : Place → DeskAct → Act

@@ -12,10 +12,10 @@ use Rattle.one_server.specs.declared.reply.PairReply.TheVariants as pair
 use Rattle.one_server.specs.declared.reply.Reply.{Reply}
 use Rattle.one_server.specs.declared.reply.Reply.TheVariants as reply
 use Rattle.session_core.specs.declared.reader.Reader.{Reader}
-use Rattle.session_core.specs.declared.standing.LinkMark.{LinkMark}
-use Rattle.session_core.specs.declared.standing.LinkMark.TheVariants.{Stamped}
-use Rattle.session_core.specs.declared.standing.Standing.{Standing}
-use Rattle.session_core.specs.declared.standing.Standing.TheVariants.{Login, Password, In, Gone}
+use Rattle.session_asks.specs.declared.standing.LinkMark.{LinkMark}
+use Rattle.session_asks.specs.declared.standing.LinkMark.TheVariants.{Stamped}
+use Rattle.session_asks.specs.declared.standing.Standing.{Standing}
+use Rattle.session_asks.specs.declared.standing.Standing.TheVariants.{Login, Password, In, Gone}
 use Rattle.style12_writer.specs.declared.item.Item.{Item}
 use Rattle.style12_writer.specs.declared.item.Item.TheVariants.{Board, Hold, Talk, End}
 use Rattle.style12_writer.specs.EndLine.{end_text}

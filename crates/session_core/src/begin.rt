@@ -14,13 +14,13 @@ use crate::login::{take_name, take_password, turn_away};
 use crate::next::Next;
 use crate::session_memory::SessionMemory;
 use crate::stage::{Stage, ask_round, ask_where};
-use crate::standing::{LinkMark, Standing};
 use crate::texts::put_refusal;
 use crate::way::way_of;
 use command_words::read_command;
 use fics_words::{Fail, Line, Refusal};
 use line_reader::Incoming;
 use memory::NoMemory;
+use session_asks::{LinkMark, Standing};
 use std::alloc::Global;
 
 /// How the first line of a client begins that stamps its lines.

@@ -5,10 +5,10 @@ ghost use Rattle.session_core.specs.Inputs.{framed, framing_of, is_ack, is_unans
 use crate::begin::is_greeting;
 use crate::input::Input;
 use crate::session_memory::SessionMemory;
-use crate::standing::Standing;
 use crate::texts::{LINE_END, prompt_of, put_between};
 use line_reader::Incoming;
 use memory::NoMemory;
+use session_asks::Standing;
 use std::alloc::Global;
 
 /// How a text stands in an answer.

@@ -29,7 +29,6 @@ mod rest;
 mod session;
 mod session_memory;
 mod stage;
-mod standing;
 mod taking;
 mod texts;
 mod visit;
@@ -44,4 +43,4 @@ pub use laws::{
     the_login_makes_one_act,
 };
 pub use session::Session;
-pub use standing::{LinkMark, Standing};
+pub use session_asks::{LinkMark, Standing};

@@ -3,21 +3,21 @@ ghost use Rattle.std.specs.Prelude.{◌≡◌, IfOk, None, Some, false};
 ghost use Rattle.fics_words.specs.HandleTest.{handle_of};
 ghost use Rattle.session_core.specs.Remembering.{is_entered};
 ghost use Rattle.session_core.specs.Login.{admitted, entered_as, entering_named, is_guest, naming};
-ghost use Rattle.session_core.specs.Login.{password_of, proving, turned_away};
-ghost use Rattle.session_core.specs.Memory.{has_entered, is_in, stands_at};
+ghost use Rattle.session_core.specs.Login.{proving, turned_away};
+ghost use Rattle.session_core.specs.Memory.{has_entered, stands_at};
 ghost use Rattle.session_core.specs.Stages.{IsPrepared, Settles, course_of, first_course};
 
 use crate::first::First;
 use crate::next::Next;
 use crate::session_memory::SessionMemory;
 use crate::stage::Stage;
-use crate::standing::Standing;
 use crate::texts::{put_refusal, put_reply};
 use fics_words::{Digest, Handle, Refusal};
-use lobby_state::{LobbyAct, LobbyReply};
+use lobby_state::LobbyAct;
 use login_handles::digest_of;
 use memory::NoMemory;
 use one_server::{Act, Reply};
+use session_asks::{Standing, admitted};
 
 /// A line where a name is asked for.
 pub(crate) fn take_name(
@@ -128,29 +128,6 @@ pub(crate) fn entered(
     memory.stand(admitted(name, reply));
     put_reply(reply, out)?;
     Ok(Next::End)
-}
-
-/// Where a session stands that asked to enter, once it is answered.
-fn admitted(name: Option<Handle>, reply: &Reply) -> Standing
-    ensures stands { result ≡ admitted name reply.now }
-    ensures inside { is_in result ≡ is_entered reply.now }
-{
-    match reply {
-        Reply::Lobby(LobbyReply::Entered(name)) => Standing::In(*name),
-        Reply::Lobby(LobbyReply::NeedPassword) => password_of(name),
-        _ => Standing::Login,
-    }
-}
-
-/// The password of a handle is asked for; a guest has none.
-fn password_of(name: Option<Handle>) -> Standing
-    ensures stands { result ≡ password_of name }
-    ensures outside { is_in result ≡ false }
-{
-    match name {
-        Some(name) => Standing::Password(name),
-        None => Standing::Login,
-    }
 }
 
 /// Whether the line asks to enter as a guest.

@@ -1,7 +1,7 @@
 //! For whom the items of a game are written.
 
-use crate::standing::LinkMark;
 use command_words::Style;
+use session_asks::LinkMark;
 
 /// For whom the items of a game are written.
 #[derive(Clone, Copy)]

@@ -5,12 +5,12 @@ use crate::framing::{framed, framing_of};
 use crate::input::{Input, Wrote};
 use crate::leaving::leave;
 use crate::session_memory::SessionMemory;
-use crate::standing::Standing;
 use crate::taking::take;
 use clock_ledger::Moment;
 use fics_words::Handle;
 use memory::NoMemory;
 use one_server::Runner;
+use session_asks::Standing;
 use std::alloc::Global;
 use std::marker::Model;
 

@@ -10,11 +10,11 @@ ghost use Rattle.session_core.specs.Visits.{visits_in};
 
 use crate::reader::Reader;
 use crate::rest::Rest;
-use crate::standing::{LinkMark, Standing};
 use command_words::{Aliases, Style};
 use fics_words::{Fail, Handle, Refusal};
 use lobby_state::{LobbyReply, Place, Places};
 use one_server::Reply;
+use session_asks::{LinkMark, Standing};
 use std::alloc::Global;
 use std::marker::Model;
 

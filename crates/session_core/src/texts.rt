@@ -7,13 +7,13 @@ ghost use Rattle.session_core.specs.Texts.{item_text, items_text, line_end, line
 ghost use Rattle.session_core.specs.Texts.{prompt_of, refusal_line, reply_text, shown_text, told_line, waiting_text};
 
 use crate::reader::Reader;
-use crate::standing::{LinkMark, Standing};
 use command_words::Style;
 use fics_words::{Handle, Line, Lines, Refusal, write_number, write_refusal};
 use linked_desk::{DeskReply, viewer_of};
 use lobby_state::LobbyReply;
 use memory::NoMemory;
 use one_server::{PairReply, Reply};
+use session_asks::{LinkMark, Standing};
 use style12_writer::{BoardView, Item, board1, end_line, line_b1, line12};
 
 /// The end of a line.

@@ -12,11 +12,11 @@ ghost use Rattle.session_core.specs.declared.visit.Visit.{Visit};
 
 use crate::session_memory::SessionMemory;
 use crate::texts::put_news;
-use crate::visit::{Visit, at_game, clear_at};
+use crate::visit::{Visit, clear_at};
 use clock_ledger::Moment;
-use linked_desk::{DeskAct, DeskReply};
 use memory::NoMemory;
 use one_server::{Reply, Runner};
+use session_asks::{fetch_at, says_over};
 use std::alloc::Global;
 
 /// Visits the games that the session plays and those at which it looks on, all at `moment`, in milliseconds and at most
@@ -88,7 +88,7 @@ fn ask_news<R: Runner>(
         (BrokeOff (visits (visit.now ∷ rest) memory.old) moment (R.state r.old) memory.old (R.state r.new) memory.new) }
     ensures inside { has_entered memory.new ≡ true }
 {
-    let reply = r.run(alloc, moment, at_game(visit, DeskAct::Fetch))?;
+    let reply = r.run(alloc, moment, fetch_at(visit.desk, visit.serial))?;
     tell_news(visit, memory, &reply, out)
 }
 
@@ -141,15 +141,5 @@ fn forget(memory: &mut SessionMemory, visit: &Visit)
     match visit.seat {
         Some(_) => {}
         None => memory.unobserve(visit.desk),
-    }
-}
-
-/// Whether nothing more will come from the game.
-fn says_over(reply: &Reply) -> bool
-    ensures { result ≡ says_over reply.now }
-{
-    match reply {
-        Reply::Desk(DeskReply::Items { over, .. }) => *over,
-        _ => false,
     }
 }

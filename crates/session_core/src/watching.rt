@@ -15,13 +15,13 @@ use crate::first::First;
 use crate::next::Next;
 use crate::session_memory::SessionMemory;
 use crate::stage::{Stage, answered, ask_round, at_place};
-use crate::standing::Standing;
 use crate::texts::{put_refusal, put_shown};
 use fics_words::{Line, Refusal};
 use linked_desk::{DeskAct, DeskReply};
 use lobby_state::{LobbyAct, LobbyReply, Place, said_line};
 use memory::NoMemory;
 use one_server::{Act, Reply};
+use session_asks::Standing;
 
 /// Begins to look on at a game, for which the lobby is asked by this act; the session itself refuses with `ListFull`
 /// where it looks on at 32 games.

@@ -11,9 +11,9 @@ use Rattle.line_reader.specs.declared.incoming.Incoming.{Incoming}
 use Rattle.line_reader.specs.declared.incoming.Incoming.TheVariants as incoming
 use Rattle.session_core.specs.declared.input.Input.{Input}
 use Rattle.session_core.specs.declared.input.Input.TheVariants.{Line, Quiet}
-use Rattle.session_core.specs.declared.standing.LinkMark.TheVariants.{Stamped}
-use Rattle.session_core.specs.declared.standing.Standing.{Standing}
-use Rattle.session_core.specs.declared.standing.Standing.TheVariants as standing
+use Rattle.session_asks.specs.declared.standing.LinkMark.TheVariants.{Stamped}
+use Rattle.session_asks.specs.declared.standing.Standing.{Standing}
+use Rattle.session_asks.specs.declared.standing.Standing.TheVariants as standing
 use Rattle.session_core.specs.Course.{Done}
 use Rattle.session_core.specs.Inputs.{ack_course, asked_course, input_course, is_greeting, line_course, past_line}
 use Rattle.session_core.specs.Inputs.{quiet_course, refusing, stamp_on, text_course}

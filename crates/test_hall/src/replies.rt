@@ -1,6 +1,7 @@
 //! Whether two replies are the same, item by item.
 
 use linked_desk::DeskReply;
+use lobby_state::LobbyReply;
 use one_server::Reply;
 use style12_writer::Item;
 use test_server_steps::of_pair;
@@ -13,7 +14,7 @@ pub fn is_same(one: &Reply, other: &Reply) -> bool {
             _ => false,
         },
         Reply::Lobby(answer) => match other {
-            Reply::Lobby(another) => answer == another,
+            Reply::Lobby(another) => is_same_in_lobby(answer, another),
             _ => false,
         },
         Reply::Desk(answer) => match other {
@@ -24,6 +25,37 @@ pub fn is_same(one: &Reply, other: &Reply) -> bool {
             Reply::Pair(another) => of_pair(*answer) == of_pair(*another),
             _ => false,
         },
+    }
+}
+
+fn is_same_in_lobby(one: &LobbyReply, other: &LobbyReply) -> bool {
+    match (one, other) {
+        (LobbyReply::Done, LobbyReply::Done) => true,
+        (LobbyReply::NeedPassword, LobbyReply::NeedPassword) => true,
+        (LobbyReply::Asked, LobbyReply::Asked) => true,
+        (LobbyReply::Entered(name), LobbyReply::Entered(another)) => name == another,
+        (LobbyReply::Number(number), LobbyReply::Number(another)) => number == another,
+        (LobbyReply::Told(count), LobbyReply::Told(another)) => count == another,
+        (LobbyReply::Lines(lines), LobbyReply::Lines(others)) => lines == others,
+        (LobbyReply::Desks(desks), LobbyReply::Desks(others)) => desks == others,
+        (LobbyReply::Orders(orders), LobbyReply::Orders(others)) => orders == others,
+        _ => is_same_place(one, other),
+    }
+}
+
+/// Whether two replies tell the same places.
+fn is_same_place(one: &LobbyReply, other: &LobbyReply) -> bool {
+    match (one, other) {
+        (LobbyReply::Found(place), LobbyReply::Found(another)) => place == another,
+        (LobbyReply::Places(places), LobbyReply::Places(others)) => places == others,
+        (
+            LobbyReply::Waiting { lines, places },
+            LobbyReply::Waiting {
+                lines: others,
+                places: another,
+            },
+        ) => lines == others && places == another,
+        _ => false,
     }
 }
 

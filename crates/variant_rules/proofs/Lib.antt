@@ -10,4 +10,5 @@ pub mod ReachLemmas
 pub mod SightLemmas
 pub mod UndoLemmas
 pub mod WholeList
+pub mod SquareTests
 pub mod StateLemmas

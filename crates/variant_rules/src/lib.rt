@@ -14,6 +14,7 @@ mod listing;
 mod make;
 mod position;
 mod rules;
+mod sameness;
 mod sets;
 mod shown;
 mod sights;
@@ -21,3 +22,4 @@ mod state;
 
 pub use make::Undo;
 pub use position::{Position, PositionView};
+pub use sameness::is_same_position;

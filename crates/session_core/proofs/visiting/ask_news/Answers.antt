@@ -13,7 +13,7 @@ returns-clause-went g c = λ rest.
     let new = g.R.Runner.state c.run.new.self in
     on_news c.args.visit.now c.args.memory.now rest c.args.moment c.tell_news.result c.in_ok-reply.reply old c.args.out.now.items
     new c.tell_news.new.memory c.tell_news.new.out.items
-    (subst (λ (a : Act). Ran old (timed c.args.moment a) c.in_ok-reply.reply new) c.at_game.ensures c.in_ok-reply.ensures.ran)
+    (subst (λ (a : Act). Ran old (timed c.args.moment a) c.in_ok-reply.reply new) c.fetch_at.ensures c.in_ok-reply.ensures.ran)
     c.tell_news.ensures.over c.tell_news.ensures.text c.tell_news.ensures.after c.requires.inside
 
 pub returns-clause-broke : goal.returns-clause-broke
@@ -21,7 +21,7 @@ returns-clause-broke g c = λ rest.
     let old = g.R.Runner.state c.args.r.now in
     let new = g.R.Runner.state c.run.new.self in
     broke_news c.args.visit.now c.args.memory.now rest c.args.moment c.tell_news.result c.in_ok-reply.reply old new c.tell_news.new.memory
-    (subst (λ (a : Act). Ran old (timed c.args.moment a) c.in_ok-reply.reply new) c.at_game.ensures c.in_ok-reply.ensures.ran)
+    (subst (λ (a : Act). Ran old (timed c.args.moment a) c.in_ok-reply.reply new) c.fetch_at.ensures c.in_ok-reply.ensures.ran)
     c.tell_news.ensures.after c.requires.inside
 
 pub returns-in_err-reply-clause-broke : goal.returns-in_err-reply-clause-broke

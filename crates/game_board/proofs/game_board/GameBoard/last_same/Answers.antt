@@ -9,7 +9,7 @@ use Rattle.variant_rules.specs.Undos.{IsUndoOf}
 use Rattle.game_board.specs.declared.played.Step.{Step}
 use Rattle.game_board.specs.Board.{Board, position_of}
 use Rattle.game_board.specs.Steps.{position_at, AreSteps}
-use Rattle.game_board.proofs.SquareTests.{unlike}
+use Rattle.variant_rules.proofs.SquareTests.{unlike}
 use Rattle.game_board.proofs.Steps.{undo_at}
 use Rattle.game_board.proofs.game_board.GameBoard.last_same.Goals as goal
 use Rattle.game_board.proofs.Thirds.{not_pair}

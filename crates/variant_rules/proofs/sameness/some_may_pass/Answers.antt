@@ -1,7 +1,7 @@
 use Rattle.std.proofs.Common.{sym, ap, ◌∙◌, arith}
 use Rattle.chess_model.specs.Claims.{may_pass}
-use Rattle.game_board.proofs.SquareTests.{one_passes, none_passes}
-use Rattle.game_board.proofs.sameness.some_may_pass.Goals as goal
+use Rattle.variant_rules.proofs.SquareTests.{one_passes, none_passes}
+use Rattle.variant_rules.proofs.sameness.some_may_pass.Goals as goal
 
 pub returns-then-may_pass : goal.returns-then-may_pass
 returns-then-may_pass c =

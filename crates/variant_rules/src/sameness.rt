@@ -7,9 +7,9 @@ ghost use Rattle.chess_model.specs.Claims.{same_man, same_placement, same_rights
 ghost use Rattle.chess_model.specs.MoveList.{is_en_passant};
 ghost use Rattle.chess_model.specs.Tests.{squares};
 
+use crate::position::Position;
 use bitboard_core::square_of;
 use chess_model::{Kind, Man, Move, Rights, Square};
-use variant_rules::Position;
 
 /// Whether two squares hold the same, marks of promotion aside.
 fn is_same_man(a: Option<Man>, b: Option<Man>) -> bool
@@ -108,9 +108,9 @@ fn counted_en_passant(p: &Position) -> Option<Square>
     }
 }
 
-/// Whether two positions are the same. Most differ in their men, so these come first.
+/// Whether two positions are the same, whatever half-moves led to them. Most differ in their men, so these come first.
 #[tactic(auto, unfolding(chess_model::specs::Claims::same_position))]
-pub(crate) fn is_same_position(p: &Position, q: &Position) -> bool
+pub fn is_same_position(p: &Position, q: &Position) -> bool
     ensures { result ≡ same_position p.now q.now }
 {
     if !is_same_placement(p, q) {

@@ -2,8 +2,8 @@ use Rattle.std.proofs.Common.{◌≡◌, false, inl, inr, sym, ap, ◌∙◌, ar
 use Rattle.std.proofs.lemmas.Bool.{cases_eq}
 use Rattle.chess_model.specs.Placement.{man_at}
 use Rattle.chess_model.specs.Claims.{same_man}
-use Rattle.game_board.proofs.SquareTests.{all_pass, not_all_pass}
-use Rattle.game_board.proofs.sameness.is_same_placement.Goals as goal
+use Rattle.variant_rules.proofs.SquareTests.{all_pass, not_all_pass}
+use Rattle.variant_rules.proofs.sameness.is_same_placement.Goals as goal
 
 pub returns-then-not-is_same_man : goal.returns-then-not-is_same_man
 returns-then-not-is_same_man c =
