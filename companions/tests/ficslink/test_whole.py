@@ -80,7 +80,7 @@ async def test_arrays_are_the_servers(evening: Evening) -> None:
         await until(ben, Ended)  # until then he has a game
 
 
-async def test_the_opponents_move_is_heard_sooner_than_without_asking(evening: Evening) -> None:
+async def test_the_opponents_move_is_heard_without_asking(evening: Evening) -> None:
     ann, ben = await evening.enter("Ann", "Ben")
     await ann.do("match ben 0 0 white")
     await ben.do("accept ann")
@@ -94,7 +94,7 @@ async def test_the_opponents_move_is_heard_sooner_than_without_asking(evening: E
         await mover.move(games[ply % 2], ("Nf3", "Nf6", "Ng1", "Ng8")[ply % 4])
         await until(other, Turn)
         taken.append(time.monotonic() - begin)
-    assert sorted(taken)[12] < 5
+    assert sorted(taken)[12] < 0.5
 
 
 async def test_a_simul(evening: Evening) -> None:
