@@ -7,7 +7,7 @@
 - `errors`: what goes wrong, each by its name; `refusals` has the server's refusals.
 - `observing`: looking on at a game, and knowing whether one does.
 - `secret`: an account's password in a file.
-- `texts`, `stamps`: the bytes below, for go-betweens. `pace` says how often news are asked for.
+- `texts`, `stamps`: the bytes below, for go-betweens.
 """
 
 import logging

@@ -14,7 +14,6 @@ from .answer import Answer
 from .errors import Closed, NoServer, Silent, TooLong
 from .line import Line
 from .lines import Goodbye, Opening, parse
-from .pace import PACE, Pace
 from .stream import Stream
 
 PIECE = 65536
@@ -37,10 +36,11 @@ class Listener(Protocol):
 
 
 class _Owed:
-    """A line whose answer is due; without a future it is a question for news of the link's own."""
+    """A line whose answer is due."""
 
-    def __init__(self, command: str, answer: "asyncio.Future[Answer] | None") -> None:
-        self.command, self.answer = command, answer
+    def __init__(self, command: str) -> None:
+        self.command = command
+        self.answer: asyncio.Future[Answer] = asyncio.get_running_loop().create_future()
 
 
 class Link:
@@ -55,13 +55,12 @@ class Link:
         writer: asyncio.StreamWriter,
         *,
         stamped: bool = False,
-        pace: Pace = PACE,
         listener: Listener | None = None,
         patience: float = PATIENCE,
     ) -> None:
         self._reader, self._writer = reader, writer
         self.stamped, self.patience = stamped, patience
-        self._pace, self._listener = pace, listener
+        self._listener = listener
         self.prompt = ""  # the prompt that came last
         self.why = ""  # why the link is closed, once it is
         self._messages = texts.Messages()
@@ -69,8 +68,6 @@ class Link:
         self._owed: deque[_Owed] = deque()
         self._news: Stream[Line] = Stream()
         self._ended = asyncio.Event()
-        self._awaited = False
-        self._timer: asyncio.TimerHandle | None = None
         self._reading: asyncio.Task[None] | None = None
 
     @classmethod
@@ -80,7 +77,6 @@ class Link:
         port: int,
         stamped: bool = False,
         *,
-        pace: Pace = PACE,
         listener: Listener | None = None,
         patience: float = PATIENCE,
     ) -> "Link":
@@ -92,7 +88,7 @@ class Link:
             raise NoServer(f"no server at {host}:{port}: {fault or 'nothing answers'}") from fault
         with suppress(OSError):
             writer.get_extra_info("socket").setsockopt(socket.SOL_SOCKET, socket.SO_KEEPALIVE, 1)
-        link = cls(reader, writer, stamped=stamped, pace=pace, listener=listener, patience=patience)
+        link = cls(reader, writer, stamped=stamped, listener=listener, patience=patience)
         try:
             await link._begin()
         except (Closed, Silent) as fault:
@@ -105,7 +101,7 @@ class Link:
 
     async def _begin(self) -> None:
         """Starts to read, and takes the opening, which is told like an answer."""
-        owed = _Owed("", asyncio.get_running_loop().create_future())
+        owed = _Owed("")
         self._owed.append(owed)
         self._reading = asyncio.create_task(self._read())
         if self.stamped:
@@ -145,7 +141,7 @@ class Link:
         spelled = texts.checked(line)
         if not self.is_open:
             raise Closed(self.why)
-        owed = _Owed(line if self.prompt == texts.READY else "", asyncio.get_running_loop().create_future())
+        owed = _Owed(line if self.prompt == texts.READY else "")
         self._owed.append(owed)
         self._write(spelled)
         answer = await self._answer(owed)
@@ -154,7 +150,6 @@ class Link:
         return answer
 
     async def _answer(self, owed: _Owed) -> Answer:
-        assert owed.answer
         try:
             async with asyncio.timeout(self.patience):
                 with suppress(ConnectionError):
@@ -191,31 +186,6 @@ class Link:
         async for line in self._news:
             yield line
 
-    @property
-    def awaited(self) -> bool:
-        """Whether somebody is awaited: news are asked for with an empty line then, which has no answer but them."""
-        return self._awaited
-
-    @awaited.setter
-    def awaited(self, is_so: bool) -> None:
-        self._awaited = is_so
-        if is_so and not self._timer and self.is_open:
-            self._ask_later()
-
-    def _ask_later(self) -> None:
-        loop = asyncio.get_running_loop()
-        self._timer = loop.call_at(self._pace.next(loop.time()), self._ask_for_news)
-
-    def _ask_for_news(self) -> None:
-        """Asks, where no answer is due that would bring the news."""
-        self._timer = None
-        if not self._awaited or not self.is_open:
-            return
-        if not self._owed and not self._room.is_full and self.prompt == texts.READY:
-            self._owed.append(_Owed("", None))
-            self._write(b"")
-        self._ask_later()
-
     # ---- reading ----
 
     async def _read(self) -> None:
@@ -247,7 +217,7 @@ class Link:
     def _tell(self, part: texts.Part) -> None:
         """Tells news to whoever listens, and an answer to whoever asked."""
         owed = None if part.is_news or not self._owed else self._owed.popleft()
-        if not owed or not owed.answer:
+        if not owed:
             read = tuple(parse(it) for it in part.said)
             self._hear(read, read)
             return
@@ -267,8 +237,6 @@ class Link:
         if self.why:
             return
         self.why = why
-        if self._timer:
-            self._timer.cancel()
         left = texts.Part(self._part + [it.text for it in self._messages.left()], "")
         if Goodbye() in map(parse, left.lines):
             self._tell(left)
@@ -276,7 +244,7 @@ class Link:
             read = tuple(map(parse, left.said))
             self._hear(read, read)
         for owed in self._owed:
-            if owed.answer and not owed.answer.done():
+            if not owed.answer.done():
                 owed.answer.set_exception(Closed(why))
         self._owed.clear()
         self._news.end()

@@ -17,7 +17,6 @@ from .line import Line, Listed, News, Reply, Unknown
 from .lines import Continuing, Creating, Entered, GameListed, GameOver, Goodbye, Hands, OfferDeclined, TakenBack
 from .link import PATIENCE, Link
 from .observing import looks_on
-from .pace import PACE, Pace
 from .refusals import WAITABLE
 from .stream import Stream
 from .terms import Terms
@@ -49,13 +48,12 @@ class Member:
         *,
         stamped: bool,
         settings: Sequence[str],
-        pace: Pace,
         longest_pause: float,
         patience: float,
     ) -> None:
         self._place = host, port
         self._handle, self._password = name or GUEST, password
-        self._stamped, self._settings, self._pace = stamped, settings, pace
+        self._stamped, self._settings = stamped, settings
         self._longest_pause, self._patience = longest_pause, patience
         self.name = ""
         self.is_registered = False  # whether the name has an account, as the last entrance showed
@@ -80,7 +78,6 @@ class Member:
         *,
         stamped: bool = False,
         settings: Sequence[str] = (),
-        pace: Pace = PACE,
         longest_pause: float = 60.0,
         patience: float = PATIENCE,
     ) -> "Member":
@@ -94,7 +91,6 @@ class Member:
             password,
             stamped=stamped,
             settings=settings,
-            pace=pace,
             longest_pause=longest_pause,
             patience=patience,
         )
@@ -216,7 +212,7 @@ class Member:
 
     async def _come(self) -> None:
         """Connects, and goes in."""
-        link = await Link.open(*self._place, self._stamped, pace=self._pace, listener=self, patience=self._patience)
+        link = await Link.open(*self._place, self._stamped, listener=self, patience=self._patience)
         try:
             answer = await link.ask(self._handle)
             self.is_registered = answer.prompt == texts.PASSWORD
@@ -293,8 +289,6 @@ class Member:
             self._events.put(*self._happens(line))
         self._events.put(*(Turn(it) for it in self._changed if it.is_my_turn))
         self._changed.clear()
-        if self._link:
-            self._link.awaited = any(it.is_opponents_turn for it in self.games.values())
 
     def _happens(self, line: Line) -> list[Event]:
         """What happens by a line."""

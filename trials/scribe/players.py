@@ -8,15 +8,11 @@ from random import Random
 from ficsd_companions.bot.last_resort import tried
 from ficslink import LinkError, Refusal, RefusalError
 from ficslink.link import Link
-from ficslink.pace import Pace
 
 from .moves import words
 from .seen import Eye, Seen
 
 PATIENCE = 120.0
-# of all links together: where many wait the server's own news, ten times a second, are soon enough, and a process in
-# Python has no time for more
-PACE = Pace(0.025, 250)
 AGAIN = 0.05  # seconds, before what was refused is tried again
 # a name that is still in, somebody who still plays, no desk
 PASS_BY_WAITING = {Refusal.HANDLE_TAKEN, Refusal.PLAYING, Refusal.NO_CHALLENGE, Refusal.NO_DESK}
@@ -30,11 +26,10 @@ class Player:
         self.place, self.name, self.password, self.gives = place, name, password, gives
         self.eye = Eye()
         self._acting = asyncio.Lock()
-        self._waiting = 0  # of its games, for how many it waits
 
     async def enter(self) -> None:
         while True:
-            self.link = await Link.open(*self.place, listener=self.eye, pace=PACE, patience=PATIENCE)
+            self.link = await Link.open(*self.place, listener=self.eye, patience=PATIENCE)
             try:
                 answer = await self.link.ask(self.name)
                 break
@@ -59,17 +54,9 @@ class Player:
             await self.link.ask(line)
 
     async def hears(self, holds) -> None:
-        """Waits until it was told something, and asks for it."""
-        if holds():
-            return
-        self._waiting += 1
-        self.link.awaited = True
-        try:
-            async with asyncio.timeout(PATIENCE):
-                await self.eye.until(holds)
-        finally:
-            self._waiting -= 1
-            self.link.awaited = self._waiting > 0
+        """Waits until it was told something."""
+        async with asyncio.timeout(PATIENCE):
+            await self.eye.until(holds)
 
     async def leave(self) -> None:
         with suppress(LinkError):

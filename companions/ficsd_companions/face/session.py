@@ -4,7 +4,7 @@ from collections import deque
 from collections.abc import Callable, Iterable
 from enum import Enum, auto
 
-from ficslink.board import MINE, THEIRS
+from ficslink.board import MINE
 from ficslink.lines import Entered, GameListed, Refused, listed, parse
 from ficslink.stamps import ACKNOWLEDGEMENT
 from ficslink.terms import Terms
@@ -57,7 +57,7 @@ class Session:
         self.end_to_server, self.later, self.guesses = end_to_server, later, guesses
         self.name = self.typed_name = ""
         self.stage = Stage.GREETING
-        self.with_password = self.client_has_ended = self.asks_later = False
+        self.with_password = self.client_has_ended = False
         self.is_sealed: bool | None = None  # none until the first line has come
         self.ahead: deque[str] = deque()  # lines of the client that weren't taken yet
         self.held: list[str] = []  # news that came before the client was told that it is in
@@ -151,7 +151,6 @@ class Session:
             else:
                 self.answered(part)
         self.go_on()
-        self.ask_for_news_later()
 
     def server_is_gone(self) -> None:
         """Tells what came last of the server."""
@@ -270,23 +269,6 @@ class Session:
         """Asks which seeks still stand, for a client that is told of those that are gone: the server doesn't tell."""
         if self.may_ask and self.is_set("seekremove") and self.seeks.known:
             self.put_question("sought", lambda answers: self.seeks.learn(answers[0]))
-
-    @property
-    def waits_for_opponent(self) -> bool:
-        """Whether another is to move in a game of one's own."""
-        return any(it.boards[-1].relation == THEIRS for it in self.played())
-
-    def ask_for_news_later(self) -> None:
-        """Asks for news a moment from now, if the other's half-move hasn't come by then."""
-        if self.waits_for_opponent and not self.asks_later:
-            self.asks_later = True
-            self.later(self.shared.pause(), self.ask_for_news)
-
-    def ask_for_news(self) -> None:
-        """Asks for news with an empty line, which has no other answer."""
-        self.asks_later = False
-        if self.may_ask and self.waits_for_opponent:
-            self.put_question("", lambda answers: answers[0])
 
     def put_question(self, line: str, render: Render) -> None:
         """Sends a line of its own, of whose answer the client is told only what `render` and the news say."""

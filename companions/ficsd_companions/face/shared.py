@@ -1,23 +1,17 @@
-"""What all sessions of a go-between know together: games, and when who asks for news."""
+"""What all sessions of a go-between know together: games and boards."""
 
-import time
 from weakref import WeakValueDictionary
-
-from ficslink.pace import Pace
 
 from .boards import Board, Game
 from .told import board_of
 
-NEWS_SECONDS = 0.02  # the server looks at a link that sends nothing every 0.1 seconds
-
 
 class Shared:
-    """The games that clients were told of, and the moments of their questions for news."""
+    """The games that clients were told of."""
 
     def __init__(self) -> None:
         self.games: dict[int, Game] = {}  # of each game the longest telling that any client got
         self.boards: WeakValueDictionary[str, Board] = WeakValueDictionary()  # one for all who are told the same line
-        self.pace = Pace(every=NEWS_SECONDS)
 
     def board(self, line: str) -> Board:
         """The board of a line."""
@@ -33,8 +27,3 @@ class Shared:
     def forget(self, number: int) -> None:
         """Forgets a game that has ended."""
         self.games.pop(number, None)
-
-    def pause(self) -> float:
-        """How many seconds lie before the next question for news of one who waits: the more wait, the more."""
-        now = time.monotonic()
-        return self.pace.next(now) - now

@@ -49,7 +49,7 @@ class Lists:
             self.links.append(asker)
             self.answered.clear()
             for name in LISTS:
-                asker.server.ask_now(List(name, partial(self.take, name)))
+                asker.server.ask(List(name, partial(self.take, name)))
             await within(EVERY_SECONDS, self.answered)
 
     def take(self, name: str, rows: list[str]) -> None:

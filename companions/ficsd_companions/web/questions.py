@@ -9,9 +9,7 @@ TEXT_BOARD_ROWS = 8  # of a board in text, of which one may look like a name, be
 
 
 class News:
-    """An empty line, which asks for the news alone."""
-
-    line = b""
+    """A line of an earlier page, of whose answer nothing is an answer any more."""
 
     def rest_of(self, lines: list[str]) -> list[str]:
         """What of an answer's lines are news."""

@@ -6,10 +6,9 @@ from collections.abc import Iterable
 
 from ficslink.errors import TooLong
 
-from .asking import Asking, Tables
 from .kept import Kept
-from .questions import News
-from .talk import Question, Talk
+from .questions import List
+from .talk import Talk
 
 PIECE = 16384
 UNSENT = 16384  # bytes that wait for the server before the tab has to
@@ -24,8 +23,8 @@ class ServerEnd(asyncio.BufferedProtocol):
 
     transport: asyncio.Transport
 
-    def __init__(self, talk: Talk, tables: Tables, keeps_told: bool = False) -> None:
-        self.talk, self.asking = talk, Asking(tables, self)
+    def __init__(self, talk: Talk, keeps_told: bool = False) -> None:
+        self.talk = talk
         self.kept = Kept(keeps_told=keeps_told)
         self.has_reader = True
         self.over, self.can_write = asyncio.Event(), asyncio.Event()
@@ -52,12 +51,10 @@ class ServerEnd(asyncio.BufferedProtocol):
             self.add(self.talk.from_server(bytes(self.room[:nbytes])))
         except TooLong:
             self.transport.abort()
-        self.asking.look(self.talk.games)
         self.has_answered.set()
 
     def connection_lost(self, exc: Exception | None) -> None:
         self.over.set()
-        self.asking.end()
         self.can_write.set()
         self.add(self.talk.left())
         self.has_told.set()
@@ -122,15 +119,10 @@ class ServerEnd(asyncio.BufferedProtocol):
         while len(self.talk.owed) > MOST_OWED and not self.is_over:
             await self.progress()
 
-    def ask(self) -> None:
-        """Asks for news, where no answer is due that would bring them."""
-        if not self.talk.owed:
-            self.ask_now()
-
-    def ask_now(self, question: Question | None = None) -> None:
-        """Asks a question of the go-between's own, which is for news where none is named."""
+    def ask(self, question: List) -> None:
+        """Asks a question of the go-between's own."""
         if not self.is_over and self.can_write.is_set():
-            self.transport.write(self.talk.ask(question or News()))
+            self.transport.write(self.talk.ask(question))
 
     def close(self) -> None:
         self.transport.close()

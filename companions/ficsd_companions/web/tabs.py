@@ -6,7 +6,6 @@ from aiohttp import WSCloseCode, web
 from ficsd_companions.limits.addresses import Address
 
 from . import closes, seats
-from .asking import Tables
 from .closes import Close, Closed
 from .gate import Gate, gate_of
 from .lines import LONGEST_MESSAGE
@@ -29,7 +28,7 @@ class Tabs:
 
     def __init__(self, settings: Settings, porter: Porter) -> None:
         self.settings, self.porter = settings, porter
-        self.tables, self.lists = Tables(), Lists()
+        self.lists = Lists()
         self.seats: dict[str, Seat] = {}  # by their tokens
         self.sockets: dict[asyncio.Task[object], web.WebSocketResponse] = {}  # by the tasks of the tabs
         self.frees: set[asyncio.Task[None]] = set()  # of each seat the task that gives its place to others
@@ -104,7 +103,7 @@ class Tabs:
         try:
             async with asyncio.timeout(SERVER_SECONDS):
                 _, server = await asyncio.get_running_loop().create_connection(
-                    lambda: ServerEnd(talk, self.tables, keeps_told), *self.settings.server
+                    lambda: ServerEnd(talk, keeps_told), *self.settings.server
                 )
         except OSError:
             raise closes.closed(closes.NO_SERVER) from None

@@ -42,10 +42,13 @@ export class Lobby {
     /** @type {Map<string, boolean>} */
     this.asked = new Map(); // of the lists that are being asked for, whether to ask once more behind that
     this.isTold = false; // whether the go-between tells the shared lists
+    this.storedDue = 0; // rows that the list of adjourned games is to have at least
     session.onAnswer((answer) => this.take(answer));
     session.on("told", ({ it }) => this.hear(it));
     session.on("challenge", () => this.ask("pending"));
     session.on(["creating", "continuing", "lost", "drawn", "stopped", "resume-asked"], () => this.askOwn());
+    session.on("stopped", (event) => this.adjourned(event));
+    session.on("continuing", () => { this.storedDue = 0; });
     session.on("link-lost", () => { this.isTold = false; });
     session.on("link-back", () => this.beTold());
     session.onEnd(() => { this.isTold = false; });
@@ -63,10 +66,22 @@ export class Lobby {
     }
   }
 
-  /** Nothing tells that a challenge was taken back, so the page asks while one stands. */
+  /** A game is adjourned: one of the member's own is to be on the list.
+   * @param {Happened<'stopped'>} event */
+  adjourned({ reason, white, black }) {
+    if (reason === "adjourned" && [white, black].includes(this.session.me)) {
+      this.storedDue = Math.max(this.storedDue, this.rows.stored.length) + 1;
+    }
+  }
+
+  /** Nothing tells that a challenge was taken back, nor that an adjourned game is on the list, which it is once all of
+   * its players have been told of the end. So the page asks while a challenge stands, and while a game is missing. */
   askAgain() {
     if (this.session.isIn && this.rows.pending.length) {
       this.ask("pending");
+    }
+    if (this.session.isIn && this.rows.stored.length < this.storedDue) {
+      this.ask("stored");
     }
   }
 
@@ -136,6 +151,7 @@ export class Lobby {
 
   forget() {
     this.rows = noRows();
+    this.storedDue = 0;
     this.show();
   }
 }

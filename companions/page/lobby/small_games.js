@@ -27,7 +27,7 @@ export class SmallGames {
     session.on("acting", ({ command }) => this.before(command));
     session.on("board", (event) => this.take(event.board));
     session.on(["lost", "drawn", "stopped", "pair-ended"], (event) => this.finish(event.game));
-    session.on(["creating", "continuing"], () => this.release());
+    session.on(["creating", "continuing"], ({ game }) => this.sit(game));
     session.on("link-back", ({ isNewPage }) => isNewPage && this.recover());
   }
 
@@ -82,6 +82,16 @@ export class SmallGames {
       this.left.delete(number);
       this.keep();
     }
+  }
+
+  /** A game of the member's own begins, or goes on: what is told of it is for the board, also where the list of games
+   * had it sooner, so that the page has asked to look on at it.
+   * @param {number} number */
+  sit(number) {
+    this.seen.delete(number);
+    this.left.delete(number);
+    this.release();
+    this.keep();
   }
 
   /** Looks on at none any more. */

@@ -41,12 +41,6 @@ class End:
         part, self.heard = self.heard[:at], self.heard[at:]
         return part.decode("latin-1")
 
-    def asked(self) -> str:
-        """At a server's link: the next line that isn't the go-between's own question for news, which is answered."""
-        while (line := self.until(b"\n")) == "\n":
-            self.say("fics% ")
-        return line
-
     def rest(self) -> str:
         """What comes up to the end of the link."""
         while piece := self.link.recv(65536):
@@ -130,7 +124,7 @@ def check(client: End, server: End, typed: str, asked: Iterable[str], answer: It
     """One line: what is typed, what the server is asked, what it answers, and what the client is shown."""
     client.say(typed + "\n")
     for line, reply in zip(asked, answer):
-        assert (server.asked() if line else server.until(b"\n")) == line + "\n", typed
+        assert server.until(b"\n") == line + "\n", typed
         server.say(reply + "fics% ")
     assert client.until(b"fics% ") == shown.replace("\n", "\n\r") + "fics% ", typed
 

@@ -1,26 +1,18 @@
 """Games as clients are told of them, and news."""
 
 import time
-from collections.abc import Callable
-
-from ficsd_companions.face.session import Session
-from ficsd_companions.face.shared import Shared
 
 from .boards import AFTER_E4, AFTER_E5, START
 from .conftest import Face, check
 
 
-def test_news_are_asked_for_while_the_opponent_thinks(face: Face) -> None:
+def test_nothing_is_asked_while_the_opponent_thinks(face: Face) -> None:
     client, server = face.entered()
-    time.sleep(0.2)  # nobody thinks, and nothing is asked
     begun = "\n\r{Game 1 (Ann vs. Ben) Creating 2 12 chess match.}\n\r<12> "
     server.say(begun + AFTER_E4.format(rel=-1) + "\n\rfics% ")
     client.until(b"e4 0 0 0\n\rfics% ")
-    for _ in range(20):
-        assert server.until(b"\n") == "\n"
-        server.say("fics% ")
-    assert server.until(b"\n") == "\n"
-    server.say("<12> " + AFTER_E5.replace(" 0 2 12 ", " 1 2 12 ") + "\n\rfics% ")
+    time.sleep(0.3)  # longer than the server lets who has just moved wait for news
+    server.say("\n\r<12> " + AFTER_E5.replace(" 0 2 12 ", " 1 2 12 ") + "\n\rfics% ")
     assert client.until(b"fics% ") == "\n\r<12> " + AFTER_E5.replace(" 0 2 12 ", " 1 2 12 ") + " 1 0\n\rfics% "
     check(
         client,
@@ -30,29 +22,8 @@ def test_news_are_asked_for_while_the_opponent_thinks(face: Face) -> None:
         ["Ann\n\r"],
         "++++ Ann\n\n 1 players displayed (of 1). (*) indicates system administrator.\n",
     )
-    time.sleep(0.2)  # it is one's own move, and nothing is asked
     check(client, server, "tell ben hi", ["tell ben hi"], ["(told 1)\n\r"], "(told ben)\n")
     assert (server.heard, client.heard) == (b"", b"")
-
-
-def test_all_who_wait_ask_a_thousand_times_a_second_at_most() -> None:
-    shared, begin = Shared(), time.monotonic()
-    moments: list[float] = []
-
-    def later(seconds: float, call: Callable[[], object]) -> None:
-        moments.append(time.monotonic() + seconds)
-
-    waiting = [Session(shared, len, len, lambda: None, later) for _ in range(50)]
-    begun = "\n\r{Game 1 (Ann vs. Ben) Creating 2 12 chess match.}\n\r<12> " + AFTER_E4.format(rel=-1)
-    for it in waiting:
-        it.from_server(b"login: ")
-        it.from_client(b"Ann\n\n")
-        it.from_server(b"Entered as Ann.\n\rfics% " + begun.encode() + b"\n\rfics% ")
-    assert len(moments) == 50
-    assert moments[0] >= begin + 0.02
-    assert all(later - earlier > 0.0009 for earlier, later in zip(moments, moments[1:])), moments
-    time.sleep(max(0, moments[-1] - time.monotonic()))
-    assert round(shared.pause(), 6) == 0.02
 
 
 def test_a_game_in_milliseconds(face: Face) -> None:

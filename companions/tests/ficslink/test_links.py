@@ -8,11 +8,10 @@ import pytest
 from ficslink import lines
 from ficslink.errors import BadLine, Closed, NoServer, RefusalError, Silent
 from ficslink.link import Link
-from ficslink.pace import Pace
 from ficslink.stream import MOST
 
 from tests.ficslink.conftest import Played, some
-from tests.kit.played import OPENING, End
+from tests.kit.played import OPENING
 from tests.kit.ports import free_port
 from tests.kit.stamped import plain_of
 
@@ -188,67 +187,6 @@ async def test_an_answer_comes_where_news_wait(played: Played) -> None:
     await end.line()
     await end.say("\n\r" + "Ben tells you: hi\n\r" * (3 * MOST) + "fics% Ann\n\rfics% ")
     assert (await asked).all(lines.Player) == [lines.Player("Ann")]
-
-
-async def test_news_are_asked_for_while_somebody_is_awaited(played: Played) -> None:
-    link, end = await played.linked()
-    assert await end.is_silent(0.3)
-    link.awaited = True
-    for _ in range(3):
-        assert await end.line() == ""
-        await end.say(f"{BOARD}\n\rfics% ")
-    assert [str(it) for it in await some(link.news(), 3)] == [BOARD] * 3
-    link.awaited = False
-    await asyncio.sleep(0.1)  # one may be on its way
-    await end.say("fics% ")
-    assert await end.is_silent(0.3)
-
-
-async def test_nothing_is_asked_while_an_answer_is_due(played: Played) -> None:
-    link, end = await played.linked()
-    link.awaited = True
-    asked = asyncio.create_task(link.ask("who"))
-    assert await end.typed() == "who"
-    assert await end.is_silent(0.3)
-    await end.say("Ann\n\rfics% ")
-    assert (await asked).all(lines.Player) == [lines.Player("Ann")]
-    link.awaited = False
-
-
-async def test_all_links_together_ask_so_many_times_a_second(played: Played) -> None:
-    pace, now = Pace(every=0.02, most=1000), 100.0
-    moments = [pace.next(now) for _ in range(300)]
-    assert moments[0] == 100.02
-    assert all(later - earlier > 0.00099 for earlier, later in zip(moments, moments[1:]))
-    # one link alone asks at its own pace
-    assert pace.next(200.0) == pytest.approx(200.02)
-    assert pace.next(200.02) == pytest.approx(200.04)
-
-
-async def test_links_of_a_pace_keep_it(played: Played) -> None:
-    pace = Pace(every=0.01, most=50)
-    ends = []
-    for name in ("Ann", "Ben", "Cat", "Dan"):
-        link, end = await played.linked(name, pace=pace)
-        link.awaited = True
-        ends.append(end)
-
-    asked = 0
-
-    async def serve(end: End) -> None:
-        nonlocal asked
-        while True:
-            await end.line()
-            asked += 1
-            await end.say("fics% ")
-
-    begin = time.monotonic()
-    tasks = [asyncio.create_task(serve(it)) for it in ends]
-    await asyncio.sleep(1)
-    for it in tasks:
-        it.cancel()
-    assert asked <= 50 * (time.monotonic() - begin) + 2
-    assert asked > 10
 
 
 async def test_a_stamped_link(played: Played) -> None:

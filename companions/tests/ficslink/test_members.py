@@ -101,8 +101,8 @@ async def test_a_game_from_its_beginning_to_its_end(played: Played) -> None:
     await moving
     assert game.moves() == ["e2e4"]
     assert await some(member.events(), 1) == [Moved(game, game.board)]
-    assert await end.line() == ""  # Ben is awaited
-    await end.say("{Game 1 (Ann vs. Ben) Ben resigns} 1-0\n\rfics% ")
+    assert await end.is_silent(0.3)  # though Ben is awaited
+    await end.say("\n\r{Game 1 (Ann vs. Ben) Ben resigns} 1-0\n\rfics% ")
     assert await some(member.events(), 1) == [Ended(game)]
     assert (game.reason, game.result, game.won, member.games) == ("Ben resigns", "1-0", True, {})
     assert await end.is_silent(0.3)

@@ -27,8 +27,8 @@ def test_its_types_hold(tmp_path: Path) -> None:
 
 def test_a_wrong_type_doesnt_hold(tmp_path: Path) -> None:
     shutil.copytree(PACKAGE, tmp_path / "ficslink")
-    with open(tmp_path / "ficslink" / "pace.py", "a", encoding="utf-8") as file:
-        file.write("\nPACE.every = 'often'\n")
+    with open(tmp_path / "ficslink" / "texts.py", "a", encoding="utf-8") as file:
+        file.write("\nREADY = 1\n")
     status, said = run("/usr/bin/mypy", "--strict", "--cache-dir", tmp_path, "ficslink", cwd=tmp_path)
     assert status == 1, said
 

@@ -14,15 +14,14 @@ class End:
         self.reader, self.writer = reader, writer
 
     async def line(self) -> str:
-        """The next line, without its end; an empty one is a question for news, or the end of the link."""
+        """The next line, without its end; an empty one may be the end of the link."""
         return (await asyncio.wait_for(self.reader.readline(), PATIENCE)).decode("latin-1").rstrip("\n")
 
     async def typed(self) -> str:
-        """The next line that is no question for news; those are answered with the prompt alone."""
-        while not (line := await self.line()):
-            if self.reader.at_eof():
-                raise EOFError("the link is closed")
-            await self.say("fics% ")
+        """The next line; `EOFError` at the end of the link."""
+        line = await self.line()
+        if not line and self.reader.at_eof():
+            raise EOFError("the link is closed")
         return line
 
     async def is_silent(self, seconds: float) -> bool:

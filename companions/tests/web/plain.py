@@ -4,31 +4,41 @@ import asyncio
 import socket
 from collections import deque
 
-from ficslink.texts import PROMPTS, Messages
+from ficslink.texts import Messages, Part, Parts
 
 from .tabs import PATIENCE, Tab
 
-ENDS = tuple(it.encode() for it in PROMPTS)
-
 
 class Plain:
-    """A plain link under a name, one line behind the other."""
+    """A plain link under a name, one line behind the other. `heard` has all lines that came, answers and news."""
 
     def __init__(self, port: int, name: str) -> None:
         self.socket = socket.create_connection(("127.0.0.1", port), PATIENCE)
-        self.read()
+        self.cut_up, self.parts = Parts(), deque[Part]()
+        self.heard: list[str] = []
+        self.part()
         self.ask(name)
 
-    def read(self) -> str:
-        """What comes up to a prompt."""
-        text = b""
-        while not text.endswith(ENDS) and (piece := self.socket.recv(65536)):
-            text += piece
-        return text.decode("latin-1")
+    def part(self) -> Part:
+        """The next part, an answer or news."""
+        while not self.parts:
+            piece = self.socket.recv(65536)
+            if not piece:
+                raise EOFError(f"closed behind {self.heard[-5:]}")
+            self.parts += self.cut_up.of(piece)
+        self.heard += self.parts[0].lines
+        return self.parts.popleft()
 
-    def ask(self, line: str) -> str:
+    def ask(self, line: str) -> None:
+        """Sends a line, and waits for its answer."""
         self.socket.sendall(line.encode() + b"\n")
-        return self.read()
+        while self.part().is_news:
+            pass
+
+    def hears(self, line: str) -> None:
+        """Waits until it was told that line."""
+        while line not in self.heard:
+            self.part()
 
     def close(self) -> None:
         self.socket.close()

@@ -28,12 +28,6 @@ class End:
         """The next line, with its end; an empty one where the go-between has closed."""
         return await asyncio.wait_for(self.reader.readline(), seconds)
 
-    async def asked(self) -> bytes:
-        """The next line that isn't the go-between's own question for news, which is answered."""
-        while (line := await self.line()) == b"\n":
-            await self.say("fics% ")
-        return line
-
     async def is_silent(self, seconds: float) -> bool:
         """Whether nothing comes for so long."""
         try:

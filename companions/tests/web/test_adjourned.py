@@ -9,7 +9,7 @@ import pytest
 from tests.kit.go_between import GoBetween
 from tests.kit.running import Server
 
-from .browser import Evening
+from .browser import Evening, Window
 
 pytestmark = pytest.mark.browser
 
@@ -28,15 +28,31 @@ def server(store: Path) -> Iterator[Server]:
     it.end()
 
 
+def registered(evening: Evening, name: str) -> Window:
+    """A window in which somebody is who has an account."""
+    it = evening.window(name)
+    it.open("settings", "#settings-open")
+    it.write("register-password", PASSWORDS[name])
+    it.click("#register")
+    it.until(lambda: it.script("return document.getElementById('register-password').value") == "", "sent")
+    it.shut("settings")
+    return it
+
+
+def test_the_list_has_it_once_the_opponent_was_told(evening: Evening) -> None:
+    ben, ann = registered(evening, "Ben"), evening.plain("Ann")
+    for line in (f"register {PASSWORDS['Ann']}", "match Ben 5 0 white"):
+        ann.ask(line)
+    ben.click('#calls [data-command="accept Ann"]')
+    ben.until(lambda: ben.is_seen("#board"), "the board")
+    ann.ask("adjourn")
+    ben.click('#offers [data-command="adjourn"]')
+    ben.sees("adjourned", "#status")
+    ben.sees("Ann – Ben", "#stored")
+
+
 def test_another_day(evening: Evening, store: Path) -> None:
-    windows = [evening.window(it) for it in PASSWORDS]
-    for it in windows:
-        it.open("settings", "#settings-open")
-        it.write("register-password", PASSWORDS[it.name])
-        it.click("#register")
-        it.until(lambda: it.script("return document.getElementById('register-password').value") == "", "sent")
-        it.shut("settings")
-    ann, ben = windows
+    windows = ann, ben = [registered(evening, it) for it in PASSWORDS]
     evening.begin(ann, ben)
     evening.play(ann, ben, ("e2e4", "e7e5"))
     ann.click("#adjourn")

@@ -1,5 +1,5 @@
 """How long a half-move takes from its line to the opponent's board: by the go-between, and beside it by plain links in
-the same run; and what the asking costs."""
+the same run; and what those who wait cost."""
 
 import asyncio
 import random
@@ -20,7 +20,8 @@ pytestmark = [pytest.mark.slow, pytest.mark.usefixtures("goes_first")]
 
 HALF_MOVES = {1: 80, 64: 12}  # of each pair, by the number of pairs of each kind
 THINKS = {1: (0.2, 0.6), 64: (1, 3)}  # seconds
-AT_MOST = 1 / 3  # of the plain links' delay
+AT_MOST = 2  # of the plain links' delay
+A_TURN = 10  # milliseconds, that a busy machine may take beside them
 PAIRS = 64
 COST_SECONDS = 10
 
@@ -92,7 +93,7 @@ async def both(evening: Evening, count: int) -> None:
             f"{count} pairs {kind}: median {medians[-1]:.0f} ms, nine of ten below "
             f"{values[len(values) * 9 // 10]:.0f} ms, {len(values)} half-moves"
         )
-    assert medians[0] < AT_MOST * medians[1]
+    assert medians[0] < AT_MOST * medians[1] + A_TURN
 
 
 async def test_1_pair(evening: Evening) -> None:
@@ -104,17 +105,17 @@ async def test_64_pairs(evening: Evening) -> None:
 
 
 async def test_a_tab_against_a_plain_link(evening: Evening) -> None:
-    """Half-moves of the plain link, which the tab is told by the asking alone, beside those of a plain pair."""
+    """Half-moves of a plain link, beside those of a plain pair."""
     names = ["Tab", "Plain", "Cat", "Dan"]
     (tab,) = await evening.tabs.open_all(names[:1])
     people = list(zip(names, [tab, *await evening.plain(names[1:])]))
     mixed, plain = await asyncio.gather(play(*people[:2], 1), play(*people[2:], 1))
     seen, plainly = (1000 * statistics.median(it[1::2]) for it in (mixed, plain))
     print(f"a tab sees a plain link's half-move: median {seen:.0f} ms; a plain link: {plainly:.0f} ms")
-    assert seen < plainly / 2
+    assert seen < AT_MOST * plainly + A_TURN
 
 
-async def test_what_asking_costs(evening: Evening) -> None:
+async def test_what_waiting_costs(evening: Evening) -> None:
     people = await pairs("W", PAIRS, evening.tabs.open_all)
     await evening.cost(f"{2 * PAIRS} tabs in the lobby")
     for white, black in people:

@@ -75,7 +75,7 @@ async def test_a_page_that_begins_anew_takes_nothing_for_an_answer_of_its_own(pl
     await end.say("Ann\n\rBen\n\rfics% ")
     assert await again.part() == ["", "Ann", "Ben", "fics% "]
     await again.send("refresh")
-    assert await end.asked() == b"refresh\n"
+    assert await end.line() == b"refresh\n"
     await end.say(boards.after_e4(-1) + "\n\rfics% ")
     assert await again.part() == [boards.after_e4(-1), "fics% "]
     again.cut()

@@ -67,8 +67,9 @@ def test_who_looks_on_at_one_hears_and_says_what_is_said_there(evening: Evening)
     assert cat.script(LOOKING) == ["observe 1", "observe 3", "unobserve 1", "unobserve 3", "observe 3"]
     cat.say("quite new", "game")
     cat.sees("Cat: quite new", '#said [data-said="game"]')
-    assert "Cat kibitzes: quite new" in dan.ask("")
-    assert "kibitzes: quite new" not in ann.ask("")
+    dan.hears("Cat kibitzes: quite new")
+    ann.ask("")
+    assert "Cat kibitzes: quite new" not in ann.heard
     cat.view("lobby")
     ann.ask("e4")
     cat.click('#games [data-show="3"]')

@@ -100,7 +100,7 @@ def test_a_link_that_is_cut(evening: Evening, wire: Wire) -> None:
     ann.sees("You are back", "#way-back")
     ann.sees_man("bP", "e5")
     ben.sees_man("wN", "f3")
-    assert ann.texts("#moves [data-ply]") == ["e4", "e5", "Nf3"]
+    ann.until(lambda: ann.texts("#moves [data-ply]") == ["e4", "e5", "Nf3"], "the half-move that waited")
 
 
 def test_lists_are_told_again_behind_a_link_that_was_cut(evening: Evening, wire: Wire) -> None:

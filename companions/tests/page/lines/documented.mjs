@@ -17,6 +17,7 @@ export const BEYOND_SCRIPTS = new Map([
   ["refused 13 NothingToClaim", "no command is answered so"],
   ["refused 16 NoSuchOffer", "no command is answered so"],
   ["refused 25 HallFull", "256 people, and a script has 64"],
+  ["refused 45 ShelfFull", "10,000 games: a script of a minute; tests/ficslink has them from a store"],
   ["refused 47 AccountsFull", "4,096 accounts, and a script has 64 people"],
   ["refused 54 NotIn", "no session that isn't in makes such an act"],
   ["refused 56 BadByte", "a script has no such bytes"],

@@ -5,7 +5,6 @@ import { Evening } from "./evening.mjs";
 const SHUFFLE = "Nf3 Nf6 Ng1 Ng8";
 const STALEMATE = "e3 a5 Qh5 Ra6 Qxa5 h5 h4 Rah6 Qxc7 f6 Qxd7 Kf7 Qxb7 Qd3 Qxb8 Qh7 Qxc8 Kg6 Qe6";
 const ROUNDS_TO_LIMIT = 300; // of four half-moves, 1,200 together
-const SHELF = 10_000;
 
 function times(count, text) {
   return Array(count).fill(text).join(" ");
@@ -164,18 +163,7 @@ function manyBoards() {
   return it;
 }
 
-/** One game more than the server's shelf takes. */
-function fullShelf() {
-  const it = new Evening();
-  const ann = it.come("Ann", "swordfish");
-  const ben = it.come("Ben", "herring");
-  for (let n = 0; n <= SHELF; n += 1) {
-    it.say(ann, "match ben 0 0").say(ben, "accept").say(ann, "adjourn").say(ben, "adjourn").say(ann, "");
-  }
-  return it;
-}
-
 export const EVENINGS = {
   logins, offers, words, talk, chess, stampedChess, crazyhouse, fischer, bughouse, adjourned, ends, manyMoves,
-  manyBoards, fullShelf,
+  manyBoards,
 };
