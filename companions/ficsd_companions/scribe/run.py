@@ -50,9 +50,9 @@ def read_words() -> Chosen:
     words = argparse.ArgumentParser(
         prog="fics_scribe",
         description=(__doc__ or "").split("\n\n", maxsplit=1)[0],
-        epilog=f"Statuses: 0 Ctrl-C or SIGTERM; {REFUSED} the server refuses it, or its password can't be read; 2 other "
-        f"words than these; {NO_ARCHIVE} the archive can't be used, another scribe has it, or at the end it hadn't room "
-        "for all, each of which may pass.",
+        epilog=f"Statuses: 0 Ctrl-C or SIGTERM; {REFUSED} the server refuses it, or its password can't be read; "
+        f"2 other words than these; {NO_ARCHIVE} the archive can't be used, another scribe has it, or at the end it "
+        "hadn't room for all, each of which may pass.",
     )
     words.add_argument(
         "--server", type=address, required=True, metavar="HOST:PORT", help="the server, as localhost:5000"
