@@ -20,7 +20,9 @@ import sqlite3
 import time
 from dataclasses import asdict, dataclass
 from pathlib import Path
+from typing import Any
 
+from ficsd_companions.accounts.records import BadRecord
 from ficsd_companions.cli.program import program
 from ficsd_companions.cli.words import count, port
 
@@ -29,6 +31,7 @@ from . import guest, shelf
 LOOK_EVERY = 0.1  # seconds
 AT_MOST = {"note": 10, "keep": 60}  # seconds, where no others are said
 TO_LOOK = 10  # seconds behind the wait, to look at the store and its disk
+TO_WRITE = 1  # seconds of `note` behind the wait for room in a full hall
 # for so many seconds nothing is put: one where all that ran is kept, more where something is missing or may be
 AT_REST, AT_REST_WITH_SOME_MISSING = 1, 5
 NOT_KEPT = 4
@@ -58,6 +61,14 @@ class Noted:
 
     shelf: int = 0  # games that were adjourned before
     running: int | None = None  # games that a cut link adjourns; none where nobody knows
+    numbers: tuple[int, ...] | None = None  # of those that were adjourned before; none where nobody knows
+    players: tuple[tuple[str, ...], ...] = ()  # of those that run
+
+    @classmethod
+    def of(cls, known: dict[str, Any]) -> "Noted":
+        """What was written down so; `TypeError` where it wasn't."""
+        numbers, players = known.pop("numbers"), known.pop("players")
+        return cls(**known, numbers=numbers and tuple(numbers), players=tuple(map(tuple, players)))
 
     def missing(self, games: int) -> int:
         """How many of the games that ran aren't among so many on the shelf; none where nobody knows."""
@@ -79,10 +90,14 @@ def note(chosen: Chosen) -> int:
     known = Noted()
     end_in(chosen.most)
     try:
-        running = guest.games_of_one_board(chosen.port, chosen.most)
         with shelf.copied(chosen.store, chosen.file.parent) as base:
-            names, games = shelf.names_of_accounts(base), shelf.count_of_games(base)
-        known = Noted(games, sum(all(it.lower() in names for it in players) for players in running))
+            numbers = tuple(sorted(shelf.numbers_of_games(base)))
+        known = Noted(len(numbers), None, numbers)
+        running = guest.games_of_one_board(chosen.port, chosen.most - TO_WRITE)
+        with shelf.copied(chosen.store, chosen.file.parent) as base:
+            names, numbers = shelf.names_of_accounts(base), tuple(sorted(shelf.numbers_of_games(base)))
+        players = tuple(it for it in running if all(name.lower() in names for name in it))
+        known = Noted(len(numbers), len(players), numbers, players)
     except (guest.NoAnswer, OSError, sqlite3.Error) as why:
         print(f"ficsd: which games run isn't known: {why}")
     signal.alarm(0)
@@ -93,9 +108,9 @@ def note(chosen: Chosen) -> int:
 def noted(file: Path) -> Noted:
     """What `note` has written down."""
     try:
-        known = Noted(**json.loads(file.read_text(encoding="utf-8")))
+        known = Noted.of(json.loads(file.read_text(encoding="utf-8")))
         file.unlink()
-    except (OSError, ValueError, TypeError):
+    except (OSError, ValueError, TypeError, KeyError):
         return Noted()
     return known
 
@@ -140,6 +155,8 @@ def keep(chosen: Chosen) -> int:
         accounts, games = shelf.counts(chosen.program, chosen.store)
         left = before.missing(games)
         tell_kept(accounts, games, before.running, left)
+        if left or before.running is None:
+            tell_which(chosen, before)
     except TimeoutError as why:
         print(f"{FAULT}ficsd: what is kept couldn't be counted: {why}")
     except (shelf.Unreadable, OSError, sqlite3.Error) as why:
@@ -153,6 +170,22 @@ def tell_kept(accounts: int, games: int, running: int | None, left: int) -> None
     if running:
         ran = f"; {running - left} of the {running} that ran between players with accounts are among them"
     print(f"ficsd: kept: {accounts} accounts and {games} adjourned games{ran}")
+
+
+def tell_which(chosen: Chosen, before: Noted) -> None:
+    """Says which games were adjourned at this stop, and which of those that ran were not, where these are known."""
+    if before.numbers is None:
+        return
+    try:
+        with shelf.copied(chosen.store, chosen.file.parent) as base:
+            adjourned = shelf.players_of_games(base, set(before.numbers))
+    except (OSError, sqlite3.Error, BadRecord):
+        return  # what is kept was told; that the disk is full is told behind it
+    pairs = [frozenset(it) for it in adjourned]
+    lost = [it for it in before.players if frozenset(it) not in pairs]
+    for what, games in (("adjourned at this stop", adjourned), ("not adjourned", lost)):
+        if games:
+            print(f"ficsd: {what}: {', '.join(' - '.join(it) for it in games)}")
 
 
 def tell_lost(why_full: str | None, running: int | None, left: int) -> int:
