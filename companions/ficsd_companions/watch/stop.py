@@ -4,10 +4,12 @@ the store has stopped growing, and says what is kept.
 
 usage: stop_server note FILE [--seconds N] --port P --store STORE
        stop_server keep FILE [--seconds N] [--counting M] --store STORE
+       stop_server keep FILE --ended --store STORE
 
 FILE is what `note` writes and `keep` reads. `note` takes N seconds at most, 10 where they are left out, so that nothing
 holds the cutting off. `keep` waits N seconds at most, 60 where they are left out, and 10 more to look at the disk; then
-`ficsd check` counts what is kept for M seconds at most, 30 where they are left out. Copies of the store are made beside
+`ficsd check` counts what is kept for M seconds at most, 30 where they are left out. With `--ended` the server has ended
+already, and nothing is waited for. Copies of the store are made beside
 FILE, which lies in memory, since the disk may be full. Where the server has ended by itself neither does anything.
 Statuses: 0; 4, of `keep`: the disk takes nothing, so what is new isn't kept; 2 other words than these.
 """
@@ -47,6 +49,7 @@ class Chosen(argparse.Namespace):
     port: int
     seconds: int | None
     counting: int
+    has_ended: bool
     program: str
 
     @property
@@ -149,10 +152,11 @@ def keep(chosen: Chosen) -> int:
     why_full, left = None, 0
     try:
         end_in(chosen.most + TO_LOOK)
-        left = wait_until_at_rest(chosen, before)
+        if not chosen.has_ended:
+            left = wait_until_at_rest(chosen, before)
         why_full = shelf.why_no_room(chosen.store)
         end_in(chosen.counting)
-        accounts, games = shelf.counts(chosen.program, chosen.store)
+        accounts, games = counts(chosen)
         left = before.missing(games)
         tell_kept(accounts, games, before.running, left)
         if left or before.running is None:
@@ -163,6 +167,14 @@ def keep(chosen: Chosen) -> int:
         print(f"{FAULT}ficsd: the store can't be read: {why}")
         return NOT_KEPT
     return tell_lost(why_full, before.running, left)
+
+
+def counts(chosen: Chosen) -> tuple[int, int]:
+    """How many accounts and games are kept: as `check` says, or behind the server's end as its records stand."""
+    if not chosen.has_ended:
+        return shelf.counts(chosen.program, chosen.store)
+    with shelf.copied(chosen.store, chosen.file.parent) as base:
+        return len(shelf.names_of_accounts(base)), shelf.count_of_games(base)
 
 
 def tell_kept(accounts: int, games: int, running: int | None, left: int) -> None:
@@ -215,6 +227,7 @@ def main() -> int:
     words.add_argument("--port", type=port, default=0)
     words.add_argument("--seconds", type=most)
     words.add_argument("--counting", type=most, default=30)
+    words.add_argument("--ended", action="store_true", dest="has_ended")
     words.add_argument("--program", default=program())
     chosen = words.parse_args(namespace=Chosen())
     if "MAINPID" not in os.environ:
