@@ -80,7 +80,7 @@ def try_evening() -> None:
     ben.say("tell Director join")
     ben.until("You have joined")
     ann.say("tell Director start")
-    ann.until("type: match ben")
+    ann.until("Type: match ben")
     ann.say("match ben 5 0 white")
     ben.until("^Challenge")
     ben.say("accept ann")
