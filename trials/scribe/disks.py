@@ -29,6 +29,7 @@ THINKS = (3.0, 6.0)  # seconds for a half-move
 LENGTHS = (6, 14)  # half-moves of a game
 STEPS = ("full", "kill", "kill", "full", "restart", "kill", "full", "kill")
 CALM, FULL_SECONDS = 10.0, 8.0  # between two troubles, and of a full disk
+HEARD_SECONDS = 2.0  # in which the scribe has heard of who resigned just now, or looks on at all boards
 TERMS = "30 0 chess"
 What = tuple[str, str, tuple[str, ...], str, str]  # a game: who, the half-moves, how it ended
 
@@ -144,6 +145,7 @@ class Evening:
     async def kill(self) -> None:
         """The scribe is killed, and the next one comes once the server has heard that it is gone."""
         self.is_seen.clear()
+        await asyncio.sleep(HEARD_SECONDS)
         begun = time.monotonic()
         self.log += self.scribe.log
         self.scribe.end()
@@ -151,13 +153,14 @@ class Evening:
         await self.begin_scribe()
         took = time.monotonic() - begun
         self.longest = max(self.longest, took)
+        await asyncio.sleep(HEARD_SECONDS)
         self.is_seen.set()
         self.tale.saw(f"the scribe was killed, and another one was in {took:.1f} seconds later")
 
     async def restart(self) -> None:
         """The server is stopped by a signal, as somebody does by hand, and begins anew."""
         self.is_seen.clear()
-        await asyncio.sleep(1)  # who resigns just now has done so
+        await asyncio.sleep(HEARD_SECONDS)
         for it in self.playing:
             it.cancel()
         await asyncio.gather(*self.playing, return_exceptions=True)
@@ -209,7 +212,11 @@ class Evening:
         for it in (seen - there).elements():
             self.tale.lost(f"not in the archive as it was seen: {it}")
         for it in (there - seen).elements():
-            self.tale.lost(f"in the archive, and seen by nobody: {it}")
+            # with one half-move a game that goes on is known whole by itself, and what was seen of it before waits on
+            is_begun = len(it[2]) == 1 and not it[3]
+            is_there = any(it[:2] == whole[:2] and it[2] == whole[2][:1] for whole in self.played)
+            told = self.tale.saw if is_begun and is_there else self.tale.lost
+            told(f"in the archive, and seen by nobody: {it}")
         half_moves = sum(len(it[2]) for it in self.played)
         self.tale.saw(
             f"{len(self.played)} games, {half_moves} half-moves; no scribe for up to {self.longest:.1f} seconds"

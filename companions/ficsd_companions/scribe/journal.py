@@ -68,12 +68,16 @@ class Journal:
             self.close()
             self.path.unlink(missing_ok=True)
             return
-        self._move()
-        if not self._is_made:
-            self._make()
-        if lines := self.sitting.lines[self._written :]:
-            self._append(lines)
-            self._written += len(lines)
+        try:
+            self._move()
+            if not self._is_made:
+                self._make()
+            if lines := self.sitting.lines[self._written :]:
+                self._append(lines)
+                self._written += len(lines)
+        except FileNotFoundError:  # somebody has taken it away, so that it is made anew
+            self._stands = self._is_made = False
+            raise
 
     def _move(self) -> None:
         if self.path.parent == self._folder:

@@ -243,6 +243,20 @@ class TestArchives:
         assert len(self.moves()) == 1
         assert list(kept.running.iterdir()) == []
 
+    def test_a_journal_that_somebody_has_taken_away(self) -> None:
+        """It is made anew with all that is known."""
+        kept = self.archive()
+        it = self.played(kept, range(3))
+        it.close()
+        it.path.unlink()
+        it.sitting.hear(board(3), NOON)
+        with pytest.raises(FileNotFoundError):
+            it.keep()
+        it.settle()
+        it.close()
+        [left] = self.archive().left
+        assert [half.short for half in left.sitting.first.half_moves] == ["e4", "e5", "Nf3"]
+
     def test_disk_is_full_and_then_it_is_killed(self) -> None:
         """The links for which there was no room at once are on the disk before the game is."""
         kept = self.archive()
