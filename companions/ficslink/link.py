@@ -1,6 +1,7 @@
 """A connection to the server whose answers and news are told apart."""
 
 import asyncio
+import logging
 import socket
 import time
 from collections import deque
@@ -20,9 +21,11 @@ PIECE = 65536
 PATIENCE = 60.0  # seconds, for the server's answer
 GREETING = stamps.GREETING + b"ficslink|python|"
 
+logger = logging.getLogger("ficslink")
+
 
 class Listener(Protocol):
-    """Who takes all lines of a link as they come."""
+    """Who takes all lines of a link as they come. Where its `hear` raises, the link is closed by that."""
 
     def hear(self, lines: tuple[Line, ...]) -> None:
         """Takes the lines of a part of the server, in their order and before whoever asked goes on."""
@@ -33,6 +36,10 @@ class Listener(Protocol):
 
     async def room(self) -> None:
         """Waits until more may be read."""
+
+
+class _Unheard(Exception):
+    """Who listens has failed."""
 
 
 class _Owed:
@@ -198,7 +205,7 @@ class Link:
                     await self._room.room()
         except OSError as fault:
             why = f"the link broke: {fault}"
-        except TooLong as fault:
+        except (TooLong, _Unheard) as fault:
             why = str(fault)
         finally:
             self._end(why)
@@ -222,27 +229,31 @@ class Link:
             self._hear(read, read)
             return
         answer, read = Answer.to(owed.command, part.lines, part.prompt)
-        self._hear(read, answer.news)
-        if not owed.answer.done():
-            owed.answer.set_result(answer)
+        try:
+            self._hear(read, answer.news)
+        finally:
+            if not owed.answer.done():
+                owed.answer.set_result(answer)
 
     def _hear(self, lines: tuple[Line, ...], news: tuple[Line, ...]) -> None:
-        if self._listener:
-            self._listener.hear(lines)
-        else:
+        """Tells lines. `_Unheard` where that fails by whoever listens: what comes behind them would be told to somebody
+        who doesn't know these."""
+        if not self._listener:
             self._news.put(*news)
+            return
+        try:
+            self._listener.hear(lines)
+        except Exception as fault:
+            logger.exception("who listens to a link has failed")
+            raise _Unheard(f"who listens has failed: {fault or type(fault).__name__}") from fault
 
     def _end(self, why: str) -> None:
         """The link is closed, for that reason. What came last of the server is told; who asks hears the reason."""
         if self.why:
             return
         self.why = why
-        left = texts.Part(self._part + [it.text for it in self._messages.left()], "")
-        if Goodbye() in map(parse, left.lines):
-            self._tell(left)
-        elif left.said:  # cut off, and so no answer
-            read = tuple(map(parse, left.said))
-            self._hear(read, read)
+        with suppress(_Unheard):  # the link ends all the same
+            self._tell_last()
         for owed in self._owed:
             if not owed.answer.done():
                 owed.answer.set_exception(Closed(why))
@@ -250,3 +261,12 @@ class Link:
         self._news.end()
         self._writer.close()
         self._ended.set()
+
+    def _tell_last(self) -> None:
+        """Tells what came behind the last prompt."""
+        left = texts.Part(self._part + [it.text for it in self._messages.left()], "")
+        if Goodbye() in map(parse, left.lines):
+            self._tell(left)
+        elif left.said:  # cut off, and so no answer
+            read = tuple(map(parse, left.said))
+            self._hear(read, read)

@@ -325,6 +325,7 @@ def begin(stops: int) -> int:
         try_watch,
         try_club,
         members.try_members,
+        members.try_evening,
         members.try_stop_with_members,
     ):
         act()

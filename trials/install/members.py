@@ -11,14 +11,18 @@ from typing import NoReturn
 
 from tests.kit.link import Link
 
-from .machine import FACE, FOLDER, PATIENCE, WEB, comes, says, shell, shown
+from .machine import A_MOMENT, FACE, FOLDER, PATIENCE, WEB, comes, says, shell, shown
 from .players import adjourn, enter, enter_again, resume
 
 MEMBERS = ("fics_bot", "fics_director", "fics_scribe")
 WITHOUT_A_STORE = (*MEMBERS, "fics_face", "fics_web")
 MOST_EXPOSED = 2.0  # of the ten points of `systemd-analyze security`
-WORDS = 'FICS_DIRECTOR_WORDS="--server 127.0.0.1:5000 --chief Ann --channel 5"'
-EVENING = "/var/lib/fics_director/evening.tourney"
+EVENING, GAMES = (f"/var/lib/fics_director/evening.{it}" for it in ("tourney", "pgn"))
+WORDS = (
+    'FICS_DIRECTOR_WORDS="--server 127.0.0.1:5000 --chief Ann --channel 5 '
+    f'--pgn {GAMES} --archive /run/fics_archive"'
+)
+GAME = r'\[White "(.*)"\]\n\[Black "(.*)"\]\n\[Result "(.*)"\]'
 PLAYING = FOLDER / "playing"
 
 
@@ -62,15 +66,36 @@ def try_members() -> None:
     ann.say("e4")
     ann.until("^<12>.* W .* [a-hNBRQKO][^ ]* [01]$")
     ann.say("resign")
-    comes(
-        "members: the scribe has that game",
-        lambda: re.findall(r'\[White "(.*)"\]\n\[Black "(.*)"\]\n\[Result "(.*)"\]', archive()),
-        [("Ann", "House", "0-1")],
-    )
+    comes("members: the scribe has that game", lambda: re.findall(GAME, archive()), [("Ann", "House", "0-1")])
     ann.say("tell Director join")
     ann.until("You have joined")
     says("members: the director has noted it", "join Ann\n" in text_of(EVENING), True)
     ann.link.close()
+
+
+def try_evening() -> None:
+    """A round robin of two to its end, whose game the director's unit takes out of what the scribe's unit keeps; then
+    another evening can begin."""
+    ann, ben = enter_again()
+    ben.say("tell Director join")
+    ben.until("You have joined")
+    ann.say("tell Director start")
+    ann.until("Type: match ben")
+    ann.say("match ben 5 0 white")
+    ben.until("^Challenge")
+    ben.say("accept ann")
+    ann.until("^<12>.* none [01]$")
+    ann.say("e4")
+    ben.until("^<12>.* e4 [01]$")
+    time.sleep(A_MOMENT)  # in which the director looks on
+    ben.say("resign")
+    comes("an evening: the director ends with its table", lambda: shown("fics_director", "ActiveState"), "inactive")
+    says("an evening: it ended well", shown("fics_director", "Result"), "success")
+    says("an evening: its game is out of the archive", re.findall(GAME, text_of(GAMES)), [("Ann", "Ben", "1-0")])
+    for it in (ann, ben):
+        it.link.close()
+    shell(f"rm {EVENING} {GAMES}; systemctl start fics_director")
+    members_up("another evening")
 
 
 def are_in(link: Link, *names: str) -> bool:

@@ -38,7 +38,7 @@ class Host:
 
     def __init__(self, member: Member, chosen: Chosen, brain: Brain, about: About, memory: Memory) -> None:
         self.member, self.chosen, self.brain, self.memory = member, chosen, brain, memory
-        self.visitors = Visitors(member, chosen.hall)
+        self.visitors = Visitors(member, chosen.hall, chosen.greet)
         offers = Offers(chosen.seek, chosen.challenge, chosen.take)
         self.lobby = Lobby(member, about.terms, offers, self.visitors)
         self.answers = Answers(about)
@@ -188,7 +188,7 @@ class Host:
     async def look_once(self) -> None:
         """Looks at the hall where that serves for something."""
         if self.member.is_in:
-            if self.chosen.hall or self.chosen.challenge or self.lobby.stored != []:
+            if self.chosen.hall or self.chosen.greet or self.chosen.challenge or self.lobby.stored != []:
                 await self.visitors.look()
             await self.lobby.rest()
             await self.lobby.take_seeks()

@@ -12,6 +12,7 @@ from .terms import VARIANTS, Span, Terms, Wanted
 HOUSE = re.compile(r"house(?::([1-4]))?")
 MOST_GAMES = 32
 MOST_SEEKS = 3
+LONGEST_TOLD = 400  # letters of a text that each who comes is told
 DEPTH = 3  # of the house's search
 EPILOG = """Statuses: 0 it has left, as SIGTERM or Ctrl-C told it; 1 the server isn't there, is full, or was lost and
 didn't come back; 2 other words than these, no such engine, or a password file that can't be used; 3 the name can't be
@@ -40,6 +41,7 @@ class Chosen:
     grace: int
     patience: int
     hall: bool
+    greet: str | None
     count: int | None
 
     def terms(self, variants: tuple[str, ...]) -> Terms:
@@ -91,6 +93,13 @@ def setting(word: str) -> tuple[str, str]:
     if not sign or not option.strip() or any(not " " <= it <= "~" for it in word):
         raise argparse.ArgumentTypeError("an engine's option is NAME=VALUE")
     return option.strip(), value.strip()
+
+
+def told(word: str) -> str:
+    """A text that one can be told."""
+    if not 0 < len(word) <= LONGEST_TOLD or any(not " " <= it <= "~" for it in word):
+        raise argparse.ArgumentTypeError(f"a text is 1 to {LONGEST_TOLD} letters of ASCII")
+    return word
 
 
 def add_engine(words: argparse.ArgumentParser) -> None:
@@ -192,6 +201,7 @@ def add_stay(words: argparse.ArgumentParser) -> None:
         help="how long it tries to come again behind a lost link; 120 where it is left out",
     )
     add("--hall", action="store_true", help="logs who comes and goes, and the games of others too")
+    add("--greet", type=told, metavar="TEXT", help="tells that to each who comes")
     add("--count", type=count(999_999), metavar="N", help="leaves behind so many games")
 
 

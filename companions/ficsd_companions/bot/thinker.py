@@ -1,5 +1,6 @@
 """Who thinks in one game: its engine, and where that fails the house's search."""
 
+import asyncio
 from collections.abc import Sequence
 from dataclasses import dataclass, replace
 
@@ -57,32 +58,46 @@ class Thinker:
 
     async def think(self, game: Game, led: Sequence[str], games: int) -> Thought | None:
         """What to play, beside so many games; none where nobody has an answer. An engine that died is started again,
-        and asked once more."""
+        and asked once more, all within the budget of this half-move."""
         self.games = games
+        given = clock.of(game, self.games)
         if not self.brain.path:
-            return await self.ask_house(game, led, clock.share(clock.of(game, self.games)))
+            return await self.ask_house(game, led, clock.share(given))
+        end = asyncio.get_running_loop().time() + self.patience_with(given).fail
         try:
             try:
-                return await self.ask_engine(game)
+                return await self.ask_engine(game, end)
             except Died as death:
                 say(f"{self.name}: {death}, and is started again; the board is {game.fen()}")
-                return await self.ask_engine(game)
+                return await self.ask_engine(game, end)
         except (EngineFault, NoEngine) as fault:
             return await self.stand_in(str(fault), game, led)
 
-    async def ask_engine(self, game: Game) -> Thought:
-        """What the engine finds. Where its thought is broken off it is ended, since it would answer later."""
+    async def ask_engine(self, game: Game, end: float) -> Thought:
+        """What the engine finds until a moment of the loop's time. Where its thought is broken off it is ended, since
+        it would answer later."""
         text, is_white = position.for_uci(game), game.board.side == "W"
-        await self.prepare(position.kind_of(game))
+        await self.prepare_until(end, position.kind_of(game))
         engine, self.engine = self.engine, None
         assert engine
+        left = max(clock.LEAST, end - asyncio.get_running_loop().time())
+        given = self.patience_with(clock.of(game, self.games))
         try:
-            found = await engine.best(text, is_white, self.patience_with(clock.of(game, self.games)))
+            found = await engine.best(text, is_white, replace(given, fail=min(given.fail, left)))
         except BaseException:
             engine.kill()
             raise
         self.engine = engine
         return Thought(found.move, found.value, True)
+
+    async def prepare_until(self, end: float, kind: str) -> None:
+        """Has an engine ready by that moment; one that hangs as it starts is ended."""
+        begun = asyncio.get_running_loop().time()
+        try:
+            async with asyncio.timeout_at(end):
+                await self.prepare(kind)
+        except TimeoutError as fault:
+            raise EngineFault(f"the engine isn't ready within {end - begun:.1f} seconds") from fault
 
     def patience_with(self, given: Budget) -> Budget:
         """The budget of an engine, which is waited for half as long behind each of its faults."""

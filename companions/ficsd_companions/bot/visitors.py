@@ -1,5 +1,8 @@
 """Who is in the hall, and what they play, which the server tells who asks alone."""
 
+from contextlib import suppress
+
+from ficslink.errors import RefusalError
 from ficslink.lines import GameListed, Player
 from ficslink.member import Member
 
@@ -8,10 +11,10 @@ from .journal import say
 
 class Visitors:
     """The other members as they were asked for last. Where it tells, each who comes or goes has a line of the log, and
-    each game of theirs that begins or ends."""
+    each game of theirs that begins or ends. With a greeting each who comes is told that."""
 
-    def __init__(self, member: Member, tells: bool) -> None:
-        self.member, self.tells = member, tells
+    def __init__(self, member: Member, tells: bool, greeting: str | None = None) -> None:
+        self.member, self.tells, self.greeting = member, tells, greeting
         self.players: frozenset[str] = frozenset()
         self.games: frozenset[GameListed] = frozenset()
 
@@ -24,7 +27,10 @@ class Visitors:
             for who in sorted(self.players - players):
                 say(f"{who} has gone")
             await self.look_at_games()
-        self.players = players
+        come, self.players = players - self.players, players
+        for who in sorted(come) if self.greeting else ():
+            with suppress(RefusalError):  # who has gone again, or hears nobody
+                await self.member.do(f"tell {who} {self.greeting}")
 
     def is_there(self, who: str) -> bool:
         """Whether somebody is in; capitals make no difference."""

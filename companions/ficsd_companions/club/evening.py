@@ -1,10 +1,11 @@
 """An evening: server, page and House are started one after another, looked after, and ended in order."""
 
 import asyncio
-import shutil
 import signal
-import subprocess
 from pathlib import Path
+
+from ficslink.errors import LinkError
+from ficslink.link import Link
 
 from . import checks, search
 from .checks import Missing
@@ -13,8 +14,9 @@ from .part import Part
 
 HOUSE = "House"
 ANSWER_PAUSE = 0.3
-HOUSE_SECONDS, PAGE_SECONDS, SERVER_SECONDS = 15.0, 15.0, 15.0  # to end in order
-DISK_SECONDS = 1.0  # for the server to keep what was adjourned
+HOUSE_SECONDS, PAGE_SECONDS, SERVER_SECONDS = 15.0, 15.0, 90.0  # to end in order, the server with what it keeps
+SHOUT_SECONDS = 0.5  # for members to hear of the end; the server tells news ten times a second
+NOTHING_KEPT = "Nothing of this evening is kept: accounts that are registered and games end with it"
 AGAIN_PAUSES = (1.0, 3.0, 10.0, 30.0)  # before what has ended is started again; from then on the last one
 CANT_COME = (2, 3)  # statuses of the bot with which it can't be started again
 
@@ -41,7 +43,9 @@ class Evening:
     def server_words(self) -> list[str | Path]:
         """The command of the server."""
         chosen = self.chosen
-        words: list[str | Path] = [chosen.program or self.top / "ficsd"]
+        words: list[str | Path] = [self.top / "ficsd"]
+        if chosen.program:
+            words = [self.top / "tools/launch/run", "--called", "./ficsd", chosen.program]
         words += ["--unproved"] if chosen.is_unproved else []
         words += ["serve", "--port", str(chosen.port)]
         return words + (["--store", chosen.store.absolute()] if chosen.store else [])
@@ -75,6 +79,7 @@ class Evening:
             "10",
             "--hall",
         ]
+        words += [] if self.chosen.store else ["--greet", f"{NOTHING_KEPT}."]
         return words + (["--program", program] if program else [])
 
     # ---- the beginning ----
@@ -97,6 +102,8 @@ class Evening:
             await self.is_ready(it)
         await asyncio.sleep(ANSWER_PAUSE)  # what they say as they begin comes before this
         show(f"Open http://localhost:{self.chosen.page_port}/ and challenge {HOUSE}")
+        if not self.chosen.store:
+            show(f"{NOTHING_KEPT}; with --store FILE they are kept")
         show(f"Who has telnet comes to port {self.chosen.port}; Ctrl-C ends the club")
 
     def check_server(self) -> None:
@@ -162,25 +169,29 @@ class Evening:
                     part.send(signal.SIGKILL)
 
     async def end(self) -> None:
-        """Ends House, then the page, whose members leave by that, then whatever else is connected, and then the server.
-        Each who leaves has its game adjourned where both have accounts."""
+        """Tells everybody, and ends House, then the page, whose members leave by that, and then the server, which cuts
+        whatever else is connected. Each who leaves has its game adjourned where both have accounts."""
         self.is_ending = True
         if self.server.is_running:
             show("ending: House leaves, the page closes, the server ends")
+            await self.shout()
         if self.house:
             await self.house.end(HOUSE_SECONDS)
         await self.page.end(PAGE_SECONDS)
-        if self.server.is_running and self.house:
-            cut_others(self.chosen.port)
-            await asyncio.sleep(DISK_SECONDS)
         await self.server.end(SERVER_SECONDS)
 
-
-def cut_others(port: int) -> None:
-    """Cuts the links that are left, where this user may do that; else their games are lost."""
-    ss = shutil.which("ss", path="/usr/bin:/bin:/usr/sbin:/sbin")
-    if ss:
-        subprocess.run([ss, "-tK", "state", "established", f"sport = :{port}"], capture_output=True, check=False)
+    async def shout(self) -> None:
+        """Tells everybody that the club ends, where there is a place from which to do so."""
+        kept = "Games between accounts are adjourned and kept" if self.chosen.store else NOTHING_KEPT
+        try:
+            async with asyncio.timeout(SHOUT_SECONDS):
+                async with await Link.open("127.0.0.1", self.chosen.port) as link:
+                    await link.ask("guest")
+                    await link.ask(f"shout The club closes now. {kept}.")
+                    await link.ask("quit")
+        except (LinkError, TimeoutError):
+            return
+        await asyncio.sleep(SHOUT_SECONDS)
 
 
 async def spend(chosen: Chosen, top: Path, folder: Path) -> None:

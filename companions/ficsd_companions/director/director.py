@@ -7,7 +7,7 @@ from datetime import datetime
 from pathlib import Path
 
 from ficslink import lines
-from ficslink.errors import LinkError, NoServer, RefusalError
+from ficslink.errors import LinkError, PasswordWanted, RefusalError
 from ficslink.events import CameAgain, Ended, LinkLost
 from ficslink.member import Member
 from ficslink.refusals import WAITABLE
@@ -43,12 +43,21 @@ class Director:
     async def run(self) -> list[Row]:
         """Runs it to its end; the table. `Fault` where it can't go on."""
         await self.ledger.open()
+        self._look_at_archive()
         self.round = OpenRound(self.chosen, self.ledger, self.tell, self.announce)
         self.answers = Answers(self)
         while not await self._stay():
             logger.warning("the server has said good-bye")
             await asyncio.sleep(CALM)
         return self.ledger.evening.table
+
+    def _look_at_archive(self) -> None:
+        """Sees, before anybody plays, that there is an archive to take the games from."""
+        try:
+            if self.chosen.archive:
+                games.files(self.chosen.archive)
+        except OSError as fault:
+            raise Fault(f"the archive can't be used: {fault}") from fault
 
     async def _stay(self) -> bool:
         """Goes in, and stays until the evening is over, or the server has said good-bye; whether it is over."""
@@ -81,10 +90,10 @@ class Director:
                 if refusal.refusal not in WAITABLE:
                     raise Fault(f"the server refuses {self.chosen.name}: {refusal}") from refusal
                 why: LinkError = refusal
-            except NoServer as fault:
-                why = fault
-            except LinkError as fault:
+            except PasswordWanted as fault:
                 raise Fault(str(fault)) from fault
+            except LinkError as fault:  # the server isn't there, or has ended meanwhile
+                why = fault
             logger.warning("not in yet, next try in %g seconds: %s", pause, why)
             await asyncio.sleep(pause)
             pause = min(2 * pause, LONGEST_PAUSE)
@@ -199,8 +208,17 @@ class Director:
             await self._write_games(self.chosen.pgn, self.chosen.archive)
 
     async def _write_games(self, file: Path, archive: Path) -> None:
-        """Writes the games, once the archive has all that were watched, or won't have them."""
+        """Writes the games, once the archive has all that were watched, or won't have them. `Fault` where they can't be
+        read or written."""
         evening, deadline = self.ledger.evening, time.monotonic() + ARCHIVE_SECONDS
-        while time.monotonic() < deadline and not games.are_there(file, archive, evening, self.round.seen):
-            await asyncio.sleep(CALM)
-        logger.info("%d games stand in %s", games.write(file, archive, evening), file)
+        try:
+            while not (are_there := games.are_there(file, archive, evening, self.round.seen)):
+                if time.monotonic() >= deadline:
+                    break
+                await asyncio.sleep(CALM)
+            count = games.write(file, archive, evening)
+        except OSError as fault:
+            raise Fault(f"the evening is over, and its games can't be written: {fault}") from fault
+        logger.info("%d games stand in %s", count, file)
+        if not are_there:
+            logger.warning("the archive %s hasn't all games that were watched", archive)

@@ -12,6 +12,12 @@ GAME = re.compile(r"((?:\[[^\n]*\]\n)+)\n((?:[^\n]+\n)+)")
 TAG = re.compile(r'^\[(\w+) "(.*)"\]$', re.MULTILINE)
 
 
+def files(archive: Path) -> list[Path]:
+    """The archive's files of games. `OSError` where it can't be reached: that is no empty one."""
+    years = [it for it in sorted(archive.iterdir()) if it.name[0].isdigit() and it.is_dir()]
+    return [it for year in years for it in sorted(year.iterdir()) if it.suffix == ".pgn"]
+
+
 def begin(file: Path) -> None:
     """Makes the file of the games as the evening begins, empty, so that its age says since when games count."""
     file.touch()
@@ -21,7 +27,7 @@ def found(archive: Path, evening: Evening, since: datetime) -> dict[Pair, str]:
     """The games of the pairs that have a result, each the last one that began behind a moment and ended so."""
     wanted = {(pair.white, pair.black, score): pair for pair, score in evening.results.items()}
     games: dict[Pair, str] = {}
-    for file in sorted(archive.glob("[0-9]*/*.pgn")):
+    for file in files(archive):
         if file.name[:10] < f"{since:%Y-%m-%d}":
             continue
         for head, movetext in GAME.findall(file.read_text(encoding="utf-8", errors="replace")):

@@ -16,7 +16,7 @@ from pathlib import Path
 from ficslink.board import Board
 from ficslink.lines import GameListed
 
-from . import bpgn, journal, pgn
+from . import bpgn, journal, pgn, whole
 from .journal import Journal
 from .record import Record
 from .sitting import Sitting
@@ -37,10 +37,14 @@ def kind_of(record: Record) -> str:
 
 def whole_length(text: str) -> int:
     """How many characters of a file are whole games; what is behind them was cut off as it was written."""
-    start = max(text.rfind("\n[Event ") + 1, 0)
-    last = text[start:]
-    is_whole = GAME.fullmatch(last) and last.rstrip("\n").rsplit(None, 1)[-1] in ENDS
-    return len(text) if is_whole or not last else start
+    end = len(text)
+    while end:
+        start = max(text.rfind("\n[Event ", 0, end) + 1, 0)
+        if game := GAME.match(text, start):
+            if game[0].rstrip("\n").rsplit(None, 1)[-1] in ENDS:
+                return game.end()
+        end = start
+    return 0
 
 
 class Archive:
@@ -53,19 +57,31 @@ class Archive:
         self._mended: set[Path] = set()
         self.left: list[Journal] = []  # of games that ran as the last scribe ended
         self.waits: list[Journal] = []
-        for it in (folder, self.running, self.waiting):
-            it.mkdir(parents=True, exist_ok=True)
+        try:
+            for it in (folder, self.running, self.waiting):
+                it.mkdir(parents=True, exist_ok=True)
+        except OSError as fault:
+            if fault.errno not in whole.FULL:  # else they are made with the first journal that finds room
+                raise
 
-    def open(self) -> None:
-        """Takes up what the last scribe left. Games that were over are written now, where they aren't."""
+    def open(self) -> list[Journal]:
+        """Takes up what the last scribe left. Games that were over are written now, where they aren't; those for which
+        the disk has no room."""
         self.waits = list(self._journals(self.waiting))
         found = list(self._journals(self.running))
+        unwritten = []
         # those that have links first, since these are nobody else's
         for it in sorted(found, key=lambda it: not it.sitting.links):
-            if it.sitting.is_over:
-                self.finish(it)
-            else:
+            if not it.sitting.is_over:
                 self.left.append(it)
+                continue
+            try:
+                self.finish(it)
+            except OSError as fault:
+                if fault.errno not in whole.FULL:
+                    raise
+                unwritten.append(it)
+        return unwritten
 
     def _journals(self, folder: Path) -> Iterator[Journal]:
         for path in sorted(folder.glob("*.lines")):
@@ -77,11 +93,12 @@ class Archive:
     # ---- sittings ----
 
     def begin(self, games: list[GameListed], boards: list[Board], now: datetime) -> Journal:
-        """The journal for what is played at a desk: that of a game that goes on here, or a new one."""
+        """The journal for what is played at a desk, which isn't begun yet: that of a game that goes on here, or a new
+        one."""
         found = self._goes_on(games, boards)
         if found:
             found.sitting.renumber(games[0].game)
-            found.move_to(self.running)
+            found.lie_in(self.running)
             return found
         # of a pair that doesn't go on, one board may be where it was
         is_late = any(it.sitting.is_of(games) and it.sitting.has_kept(boards) for it in self.left)
@@ -100,16 +117,12 @@ class Archive:
 
     def wait(self, it: Journal) -> None:
         """Keeps a game that was adjourned, or lost sight of, until it is seen again."""
-        it.move_to(self.waiting)
         self.waits.append(it)
+        it.move_to(self.waiting)
 
     def given_up(self, before: datetime) -> list[Journal]:
         """The games that were lost sight of before that moment and never seen again. They wait no longer."""
-        lost = [
-            it
-            for it in self.waits
-            if not it.sitting.is_adjourned and datetime.fromtimestamp(it.path.stat().st_mtime) < before
-        ]
+        lost = [it for it in self.waits if not it.sitting.is_adjourned and is_older(it.path, before)]
         self.waits = [it for it in self.waits if it not in lost]
         return lost
 
@@ -126,7 +139,7 @@ class Archive:
             may_stand = bool(sitting.links)
             if not may_stand:
                 self._link(sitting)
-                it.keep_links()
+            it.keep_links()
             self._write(sitting, may_stand)
         it.remove()
 
@@ -169,7 +182,11 @@ class Archive:
         for link, ending, mark, text in texts:
             file = self._file_of(link, ending)
             if not (may_stand and file.exists() and mark in read(file)):
-                append(file, text)
+                try:
+                    append(file, text)
+                except OSError:
+                    self._mended.discard(file)
+                    raise
 
     def _file_of(self, link: str, ending: str) -> Path:
         """The file of that kind for a link's day, which ends with a whole game."""
@@ -195,12 +212,16 @@ def read(file: Path) -> str:
 
 def append(file: Path, text: str) -> None:
     """Puts text behind a file's, to the disk, or leaves the file as it was."""
-    with open(file, "ab") as out:
-        size = out.seek(0, os.SEEK_END)
-        try:
-            out.write(text.encode())
-            out.flush()
-            os.fsync(out.fileno())
-        except OSError:
-            os.truncate(file, size)
-            raise
+    out = os.open(file, os.O_WRONLY | os.O_CREAT | os.O_CLOEXEC, 0o666)
+    try:
+        whole.put(out, os.fstat(out).st_size, text.encode(), to_disk=True)
+    finally:
+        os.close(out)
+
+
+def is_older(path: Path, moment: datetime) -> bool:
+    """Whether a file was last written before a moment; not where there is none yet."""
+    try:
+        return datetime.fromtimestamp(path.stat().st_mtime) < moment
+    except FileNotFoundError:
+        return False

@@ -16,9 +16,11 @@ from ficslink.secret import BadSecret, password_in
 from ficsd_companions.cli.words import Address, address, handle, seconds
 
 from .archive import Archive
-from .scribe import Fault, Scribe
+from .lock import Held, held
+from .scribe import Fault, NotKept, Scribe
 
 logger = logging.getLogger("fics_scribe")
+REFUSED, NO_ARCHIVE = 1, 4  # statuses
 
 
 class Chosen(argparse.Namespace):
@@ -35,20 +37,22 @@ class Chosen(argparse.Namespace):
 async def work(chosen: Chosen) -> None:
     """Keeps games until a signal comes."""
     password = password_in(chosen.password_file) if chosen.password_file else None
-    archive = Archive(chosen.archive, chosen.site or chosen.server.host)
-    scribe = asyncio.create_task(Scribe(chosen.server, chosen.name, password, archive, chosen.every).run())
-    for it in (signal.SIGINT, signal.SIGTERM):
-        asyncio.get_running_loop().add_signal_handler(it, scribe.cancel)
-    with suppress(asyncio.CancelledError):
-        await scribe
+    with held(chosen.archive, f"fics_scribe of {chosen.server}"):
+        archive = Archive(chosen.archive, chosen.site or chosen.server.host)
+        scribe = asyncio.create_task(Scribe(chosen.server, chosen.name, password, archive, chosen.every).run())
+        for it in (signal.SIGINT, signal.SIGTERM):
+            asyncio.get_running_loop().add_signal_handler(it, scribe.cancel)
+        with suppress(asyncio.CancelledError):
+            await scribe
 
 
 def read_words() -> Chosen:
     words = argparse.ArgumentParser(
         prog="fics_scribe",
         description=(__doc__ or "").split("\n\n", maxsplit=1)[0],
-        epilog="Statuses: 0 Ctrl-C or SIGTERM; 1 the server refuses it, or the archive can't be written; "
-        "2 other words than these.",
+        epilog=f"Statuses: 0 Ctrl-C or SIGTERM; {REFUSED} the server refuses it, or its password can't be read; "
+        f"2 other words than these; {NO_ARCHIVE} the archive can't be used, another scribe has it, or at the end it "
+        "hadn't room for all, each of which may pass.",
     )
     words.add_argument(
         "--server", type=address, required=True, metavar="HOST:PORT", help="the server, as localhost:5000"
@@ -73,7 +77,10 @@ def main() -> int:
     logging.basicConfig(format="fics_scribe: %(message)s", level=logging.INFO)
     try:
         asyncio.run(work(read_words()))
-    except (Fault, BadSecret, OSError) as fault:
+    except (Fault, BadSecret) as fault:
         logger.error("%s", fault)
-        return 1
+        return REFUSED
+    except (NotKept, Held, OSError) as fault:
+        logger.error("%s", fault)
+        return NO_ARCHIVE
     return 0

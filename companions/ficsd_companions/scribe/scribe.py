@@ -2,8 +2,8 @@
 
 import asyncio
 import logging
-from collections import deque
 from datetime import datetime, timedelta
+from functools import partial
 from itertools import groupby
 
 from ficslink.board import Board
@@ -15,6 +15,7 @@ from ficslink.lines import GameListed, GameOver
 from ficsd_companions.cli.words import Address
 
 from .archive import Archive
+from .disk import Disk
 from .journal import Journal
 from .watcher import Watcher, desk_of
 
@@ -30,7 +31,11 @@ def who_and_time(board: Board) -> tuple[str, str, int, int]:
 
 
 class Fault(Exception):
-    """What ends the scribe."""
+    """What ends the scribe, and goes on to do so."""
+
+
+class NotKept(Exception):
+    """The scribe has ended, and the disk hadn't taken all that it knew."""
 
 
 class Scribe:
@@ -38,16 +43,13 @@ class Scribe:
 
     def __init__(self, server: Address, name: str, password: str | None, archive: Archive, every: float) -> None:
         self.server, self.name, self.password = server, name, password
-        self.archive, self.every = archive, every
+        self.archive, self.disk, self.every = archive, Disk(archive), every
         self.watchers: list[Watcher] = []
         self.listed: dict[int, list[GameListed]] = {}  # of each desk that is in use
         self.sittings: dict[int, Journal] = {}
         self.early: dict[int, list[Line]] = {}  # what was told of a desk before it was sure that its game runs
         self.seen: set[int] = set()  # the desks at which it surely looks on
         self.ended: dict[int, Journal] = {}  # the last sitting that ended at a desk
-        self.unwritten: deque[Journal] = deque()  # in the order in which they ended
-        self.writing: asyncio.Task[None] | None = None
-        self.write_at, self.write_fault = 0.0, ""  # when it may be tried again, and why not now
         self.guest: asyncio.Task[None] | None = None  # who comes beside the links that there are
         self.guest_pause = FIRST_PAUSE
         self.observing: dict[int, asyncio.Task[None]] = {}
@@ -94,7 +96,7 @@ class Scribe:
         known = self.archive.begin(games, list(firsts.values()), datetime.now())
         for line in lines:
             known.sitting.hear(line, datetime.now())
-        known.begin()
+        self.disk.settle(known, known.begin)
         self.sittings[desk] = known
         self.look_at_end(desk, known)
 
@@ -104,7 +106,7 @@ class Scribe:
             self.told(line)
             return
         known.sitting.hear(line, datetime.now())
-        known.keep()
+        self.disk.settle(known, known.keep)
         if isinstance(line, GameOver):
             self.look_at_end(desk, known)
 
@@ -118,7 +120,7 @@ class Scribe:
             return
         del self.sittings[desk]
         if self.is_told_again(desk, known):
-            known.remove()
+            self.disk.settle(known, known.remove)
             return
         self.ended[desk] = known
         self.write(known)
@@ -134,61 +136,45 @@ class Scribe:
     def write(self, known: Journal) -> None:
         """Has a sitting that is over written, or kept where it was adjourned."""
         if known.sitting.is_adjourned:
-            self.archive.finish(known)
+            self.disk.settle(known, partial(self.archive.finish, known))
         else:
-            self.unwritten.append(known)
+            self.disk.write(known)
 
     def lose(self, desk: int) -> None:
         """Loses sight of a sitting. Nothing is kept of one without a half-move."""
         known = self.sittings.pop(desk, None)
         if known and known.sitting.has_half_moves:
-            self.archive.wait(known)
+            self.wait(known)
         elif known:
-            known.remove()
+            self.disk.settle(known, known.remove)
+
+    def wait(self, known: Journal) -> None:
+        """Has a sitting wait until it is seen again."""
+        self.disk.settle(known, partial(self.archive.wait, known))
 
     # ---- at work ----
 
     async def run(self) -> None:
-        """Works until it is cancelled. `Fault` where it can't go in, as for a wrong password."""
-        self.archive.open()
+        """Works until it is cancelled. `Fault` where it can't go in, as for a wrong password; `NotKept` where the disk
+        is full at its end."""
+        self.disk.write(*self.archive.open())
         given_up = 0.0
         loop = asyncio.get_running_loop()
         try:
             while True:
                 if loop.time() >= given_up:
-                    self.unwritten += self.archive.given_up(datetime.now() - timedelta(days=LOST_DAYS))
+                    self.disk.write(*self.archive.given_up(datetime.now() - timedelta(days=LOST_DAYS)))
                     given_up = loop.time() + GIVE_UP_EVERY
                 await self.look()
-                if self.unwritten and loop.time() >= self.write_at and (not self.writing or self.writing.done()):
-                    self.writing = asyncio.create_task(self.write_all())
+                self.disk.go_on()
                 await asyncio.sleep(self.every)
         finally:
             for task in (*self.observing.values(), *([self.guest] if self.guest else [])):
                 task.cancel()
             for watcher in self.watchers:
                 await watcher.leave()
-            if self.writing:
-                await asyncio.wait([self.writing])
-            await self.write_all()
-            for known in self.sittings.values():
-                known.close()
-
-    async def write_all(self) -> None:
-        """Writes what is over, one after another and beside the looks: a disk may take its time to have it."""
-        while self.unwritten:
-            known = self.unwritten[0]
-            try:
-                await asyncio.to_thread(self.archive.finish, known)
-            except OSError as fault:
-                if str(fault) != self.write_fault:
-                    logger.error(
-                        "games can't be written, and are kept in %s until they can be: %s", known.path.parent, fault
-                    )
-                self.write_fault = str(fault)
-                self.write_at = asyncio.get_running_loop().time() + FIRST_PAUSE
-                return
-            self.unwritten.popleft()
-            self.write_fault = ""
+            if count := await self.disk.end(self.sittings.values()):
+                raise NotKept(f"LOST: of {count} games the disk hasn't what was told since it takes nothing")
 
     async def look(self) -> None:
         """Asks which games there are, and looks on at those that it doesn't see."""
@@ -217,8 +203,8 @@ class Scribe:
         self.ended = {desk: it for desk, it in self.ended.items() if desk in by_desk}
         for it in self.archive.left:
             if not any(it.sitting.is_of(its) for its in by_desk.values()):
-                self.archive.wait(it)
-        self.archive.left = [it for it in self.archive.left if it.path.parent == self.archive.running]
+                self.wait(it)
+        self.archive.left = [it for it in self.archive.left if it not in self.archive.waits]
 
     def unseen(self) -> list[int]:
         seen = set(self.observing).union(*(it.desks for it in self.watchers))

@@ -13,7 +13,6 @@ from ficsd_companions.cli.words import count, port
 
 from . import guest, shelf
 
-MOST_MEMBERS = 256
 CROSSED = 3
 WARNING = "<4>"  # by which the journal knows a line of a warning
 STORE = Path("/var/lib/ficsd/club.db")
@@ -53,9 +52,13 @@ def look(chosen: Chosen) -> tuple[list[str], list[str]]:
     if why:
         crossed.append(f"the disk of the store takes nothing ({why}): what is new isn't kept")
     if chosen.port:
-        members = guest.members(chosen.port)
-        found.append(f"{members} members of at most {MOST_MEMBERS}")
-        if members > chosen.members:
+        try:
+            members = guest.members(chosen.port)
+        except guest.HallFull as full:
+            members = guest.MOST_MEMBERS
+            crossed.append(str(full))
+        found.append(f"{members} members of at most {guest.MOST_MEMBERS}")
+        if chosen.members < members < guest.MOST_MEMBERS:
             crossed.append(f"more than {chosen.members} members")
     return found, crossed
 

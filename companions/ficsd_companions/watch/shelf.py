@@ -59,6 +59,18 @@ def names_of_accounts(base: sqlite3.Connection) -> set[str]:
     return {key[1:].decode("ascii", "replace") for key, in keys}
 
 
+def numbers_of_games(base: sqlite3.Connection) -> set[int]:
+    keys = base.execute("SELECT key FROM records WHERE key >= ?", (records.GAMES_FROM,)).fetchall()
+    return {int.from_bytes(key[1:], "big") for key, in keys}
+
+
+def players_of_games(base: sqlite3.Connection, but: set[int]) -> list[tuple[str, ...]]:
+    """The players of each game that is on the shelf, in the order of the numbers, but for those numbers."""
+    rows = base.execute("SELECT key, record FROM records WHERE key >= ? ORDER BY key", (records.GAMES_FROM,))
+    games = [records.read_game(key, record) for key, record in rows]
+    return [it.names for it in games if it.number not in but]
+
+
 def count_of_games(base: sqlite3.Connection) -> int:
     found: tuple[int] = base.execute("SELECT count(*) FROM records WHERE key >= ?", (records.GAMES_FROM,)).fetchone()
     return found[0]

@@ -4,10 +4,12 @@ the store has stopped growing, and says what is kept.
 
 usage: stop_server note FILE [--seconds N] --port P --store STORE
        stop_server keep FILE [--seconds N] [--counting M] --store STORE
+       stop_server keep FILE --ended --store STORE
 
 FILE is what `note` writes and `keep` reads. `note` takes N seconds at most, 10 where they are left out, so that nothing
 holds the cutting off. `keep` waits N seconds at most, 60 where they are left out, and 10 more to look at the disk; then
-`ficsd check` counts what is kept for M seconds at most, 30 where they are left out. Copies of the store are made beside
+`ficsd check` counts what is kept for M seconds at most, 30 where they are left out. With `--ended` the server has ended
+already, and nothing is waited for. Copies of the store are made beside
 FILE, which lies in memory, since the disk may be full. Where the server has ended by itself neither does anything.
 Statuses: 0; 4, of `keep`: the disk takes nothing, so what is new isn't kept; 2 other words than these.
 """
@@ -20,7 +22,9 @@ import sqlite3
 import time
 from dataclasses import asdict, dataclass
 from pathlib import Path
+from typing import Any
 
+from ficsd_companions.accounts.records import BadRecord
 from ficsd_companions.cli.program import program
 from ficsd_companions.cli.words import count, port
 
@@ -29,6 +33,7 @@ from . import guest, shelf
 LOOK_EVERY = 0.1  # seconds
 AT_MOST = {"note": 10, "keep": 60}  # seconds, where no others are said
 TO_LOOK = 10  # seconds behind the wait, to look at the store and its disk
+TO_WRITE = 1  # seconds of `note` behind the wait for room in a full hall
 # for so many seconds nothing is put: one where all that ran is kept, more where something is missing or may be
 AT_REST, AT_REST_WITH_SOME_MISSING = 1, 5
 NOT_KEPT = 4
@@ -44,6 +49,7 @@ class Chosen(argparse.Namespace):
     port: int
     seconds: int | None
     counting: int
+    has_ended: bool
     program: str
 
     @property
@@ -58,6 +64,14 @@ class Noted:
 
     shelf: int = 0  # games that were adjourned before
     running: int | None = None  # games that a cut link adjourns; none where nobody knows
+    numbers: tuple[int, ...] | None = None  # of those that were adjourned before; none where nobody knows
+    players: tuple[tuple[str, ...], ...] = ()  # of those that run
+
+    @classmethod
+    def of(cls, known: dict[str, Any]) -> "Noted":
+        """What was written down so; `TypeError` where it wasn't."""
+        numbers, players = known.pop("numbers"), known.pop("players")
+        return cls(**known, numbers=numbers and tuple(numbers), players=tuple(map(tuple, players)))
 
     def missing(self, games: int) -> int:
         """How many of the games that ran aren't among so many on the shelf; none where nobody knows."""
@@ -79,10 +93,14 @@ def note(chosen: Chosen) -> int:
     known = Noted()
     end_in(chosen.most)
     try:
-        running = guest.games_of_one_board(chosen.port, chosen.most)
         with shelf.copied(chosen.store, chosen.file.parent) as base:
-            names, games = shelf.names_of_accounts(base), shelf.count_of_games(base)
-        known = Noted(games, sum(all(it.lower() in names for it in players) for players in running))
+            numbers = tuple(sorted(shelf.numbers_of_games(base)))
+        known = Noted(len(numbers), None, numbers)
+        running = guest.games_of_one_board(chosen.port, chosen.most - TO_WRITE)
+        with shelf.copied(chosen.store, chosen.file.parent) as base:
+            names, numbers = shelf.names_of_accounts(base), tuple(sorted(shelf.numbers_of_games(base)))
+        players = tuple(it for it in running if all(name.lower() in names for name in it))
+        known = Noted(len(numbers), len(players), numbers, players)
     except (guest.NoAnswer, OSError, sqlite3.Error) as why:
         print(f"ficsd: which games run isn't known: {why}")
     signal.alarm(0)
@@ -93,9 +111,9 @@ def note(chosen: Chosen) -> int:
 def noted(file: Path) -> Noted:
     """What `note` has written down."""
     try:
-        known = Noted(**json.loads(file.read_text(encoding="utf-8")))
+        known = Noted.of(json.loads(file.read_text(encoding="utf-8")))
         file.unlink()
-    except (OSError, ValueError, TypeError):
+    except (OSError, ValueError, TypeError, KeyError):
         return Noted()
     return known
 
@@ -134,12 +152,15 @@ def keep(chosen: Chosen) -> int:
     why_full, left = None, 0
     try:
         end_in(chosen.most + TO_LOOK)
-        left = wait_until_at_rest(chosen, before)
+        if not chosen.has_ended:
+            left = wait_until_at_rest(chosen, before)
         why_full = shelf.why_no_room(chosen.store)
         end_in(chosen.counting)
-        accounts, games = shelf.counts(chosen.program, chosen.store)
+        accounts, games = counts(chosen)
         left = before.missing(games)
         tell_kept(accounts, games, before.running, left)
+        if left or before.running is None:
+            tell_which(chosen, before)
     except TimeoutError as why:
         print(f"{FAULT}ficsd: what is kept couldn't be counted: {why}")
     except (shelf.Unreadable, OSError, sqlite3.Error) as why:
@@ -148,11 +169,35 @@ def keep(chosen: Chosen) -> int:
     return tell_lost(why_full, before.running, left)
 
 
+def counts(chosen: Chosen) -> tuple[int, int]:
+    """How many accounts and games are kept: as `check` says, or behind the server's end as its records stand."""
+    if not chosen.has_ended:
+        return shelf.counts(chosen.program, chosen.store)
+    with shelf.copied(chosen.store, chosen.file.parent) as base:
+        return len(shelf.names_of_accounts(base)), shelf.count_of_games(base)
+
+
 def tell_kept(accounts: int, games: int, running: int | None, left: int) -> None:
     ran = ""
     if running:
         ran = f"; {running - left} of the {running} that ran between players with accounts are among them"
     print(f"ficsd: kept: {accounts} accounts and {games} adjourned games{ran}")
+
+
+def tell_which(chosen: Chosen, before: Noted) -> None:
+    """Says which games were adjourned at this stop, and which of those that ran were not, where these are known."""
+    if before.numbers is None:
+        return
+    try:
+        with shelf.copied(chosen.store, chosen.file.parent) as base:
+            adjourned = shelf.players_of_games(base, set(before.numbers))
+    except (OSError, sqlite3.Error, BadRecord):
+        return  # what is kept was told; that the disk is full is told behind it
+    pairs = [frozenset(it) for it in adjourned]
+    lost = [it for it in before.players if frozenset(it) not in pairs]
+    for what, games in (("adjourned at this stop", adjourned), ("not adjourned", lost)):
+        if games:
+            print(f"ficsd: {what}: {', '.join(' - '.join(it) for it in games)}")
 
 
 def tell_lost(why_full: str | None, running: int | None, left: int) -> int:
@@ -182,6 +227,7 @@ def main() -> int:
     words.add_argument("--port", type=port, default=0)
     words.add_argument("--seconds", type=most)
     words.add_argument("--counting", type=most, default=30)
+    words.add_argument("--ended", action="store_true", dest="has_ended")
     words.add_argument("--program", default=program())
     chosen = words.parse_args(namespace=Chosen())
     if "MAINPID" not in os.environ:

@@ -23,7 +23,7 @@ for line in sys.stdin:
     if not words:
         continue
     if words[0] == "uci":
-        if KIND == "mute":
+        if KIND == "mute" and os.path.exists(COUNT) and os.path.getsize(COUNT) > 1:
             time.sleep(3600)
         say("id name Fake \\x1b[31m" + KIND)
         say("option name UCI_Variant type combo default chess var chess var crazyhouse")
@@ -41,7 +41,7 @@ for line in sys.stdin:
         with open(COUNT + ".go", "a") as file:
             file.write(line)
         times = so_often()
-        if KIND == "dies" and times == 2:
+        if KIND in ("dies", "mute") and times == 2:
             os.kill(os.getpid(), signal.SIGKILL)
         elif KIND == "always dies":
             print("no more", file=sys.stderr, flush=True)

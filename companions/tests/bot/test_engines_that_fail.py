@@ -60,6 +60,18 @@ async def test_one_that_is_silent(evening: Evening) -> None:
     assert (game.left("black") or 0) > 0
 
 
+async def test_one_that_hangs_as_it_starts_anew(evening: Evening) -> None:
+    """Its start is within the budget of the half-move, and the game isn't lost by it."""
+    run = evening.fake("mute", "--minutes", "0..5")
+    ann = await evening.guest("Ann")
+    game = await ann.challenges("0 3 white")
+    await ann.plays(game, "e2e4", "d2d4", "c2c3")
+    await ann.turn(game, 6)
+    run.until("has ended by SIGKILL, and is started again")
+    run.until(r"the engine isn't ready within \d+\.\d seconds; the board is ", times=2)
+    assert (game.left("black") or 0) > 0
+
+
 async def test_one_that_always_dies(evening: Evening) -> None:
     run, _, _ = await fails(evening, "always dies")
     run.until("has ended with status 3, behind 'no more'; the board is ", times=3)

@@ -7,6 +7,7 @@ import urllib.request
 from pathlib import Path
 
 from ficsd_companions.club.checks import is_answering
+from ficslink.lines import Challenge
 from tests.club.conftest import Clubs
 from tests.kit import paths
 from tests.kit.ports import free_ports_for_a_club
@@ -47,6 +48,43 @@ async def test_an_evening(clubs: Clubs, tmp_path: Path) -> None:
     for it in ("club.db-house", "club.db-house-games"):
         assert (tmp_path / it).exists(), it
     assert (tmp_path / "club.db-house").stat().st_mode & 0o777 == 0o600
+
+
+async def test_who_comes_by_telnet_keeps_a_game(clubs: Clubs, tmp_path: Path) -> None:
+    """Everybody is told of the end, and two accounts at a telnet have their game on the shelf."""
+    store = tmp_path / "club.db"
+    club = clubs.opened("--store", store)
+    ann, ben = await club.guest("Ann", "swordfish"), await club.guest("Ben", "knight")
+    await ann.does("match Ben 5 0 white")
+    await ben.until(lambda it: isinstance(it, Challenge), "challenged")
+    await ben.does("accept Ann")
+    await ann.plays(await ann.game(), "e2e4")
+    club.process.send_signal(signal.SIGINT)
+    for it in (ann, ben):
+        await it.until(
+            lambda event: str(event).endswith(
+                "shouts: The club closes now. Games between accounts are adjourned and kept."
+            ),
+            "told of the end",
+        )
+    assert club.rest() == 0
+    club.until("^ficsd: kept: 3 accounts and 1 adjourned games; 1 of the 1 that ran", club.out)
+    again = clubs.opened("--store", store)
+    ann = await again.guest("Ann", "swordfish")
+    assert await ann.does("stored") == ["1 Ann Ben 5 0 chess"]
+
+
+async def test_without_a_store(clubs: Clubs) -> None:
+    """That nothing is kept is said at the terminal, to each who comes before an account is made, and at the end."""
+    club = clubs.opened()
+    nothing = "Nothing of this evening is kept: accounts that are registered and games end with it"
+    club.until(f"^{nothing}; with --store FILE they are kept$", club.out)
+    ann = await club.guest("Ann")
+    await ann.hears(f"House tells you: {nothing}.")
+    club.process.send_signal(signal.SIGTERM)
+    await ann.until(lambda it: str(it).endswith(f"shouts: The club closes now. {nothing}."), "told of the end")
+    assert club.rest() == 0
+    club.until("^ficsd: nothing is kept, since there is no --store$", club.out)
 
 
 async def test_before_any_proof_the_program_that_serves_searches_too(clubs: Clubs, tmp_path: Path) -> None:

@@ -85,3 +85,15 @@ def test_a_file_with_games_stays(place: Place) -> None:
     place.file.write_text("other games")
     assert games.write(place.file, place.archive, place.evening) == 0
     assert place.file.read_text() == "other games"
+
+
+def test_a_folder_that_cant_be_reached_is_no_empty_one(place: Place, tmp_path: Path) -> None:
+    place.begin()
+    assert not place.has({BEN_CAT: "0-1"}), "an empty one has no games"
+    (tmp_path / "a_file").touch()
+    for there in (tmp_path / "nowhere", tmp_path / "a_file"):
+        with pytest.raises(OSError):
+            games.are_there(place.file, there, place.evening, {BEN_CAT: "0-1"})
+        with pytest.raises(OSError):
+            games.write(place.file, there, place.evening)
+        assert place.file.read_text() == ""

@@ -67,6 +67,23 @@ async def test_games_of_the_evening(evening: Evening) -> None:
         scribe.end()
 
 
+async def test_an_archive_that_cant_be_reached(evening: Evening) -> None:
+    """Before the evening that is told, and the director doesn't come; at its end, behind the table."""
+    archive, games = evening.folder / "archive", evening.folder / "evening.pgn"
+    evening.direct("--pgn", games, "--archive", archive)
+    assert evening.director.rest() == 1
+    evening.director.until(f"^fics_director: the archive can't be used: .*{archive}")
+    archive.mkdir()
+    evening.direct("--pgn", games, "--archive", archive)
+    await evening.come("Ann", "Ben")
+    await evening.begin(2)
+    archive.rmdir()
+    await evening.until(evening.director.has_told_all)
+    assert evening.director.rest() == 1
+    assert "The round robin is over." in evening.log()
+    evening.director.until(f"^fics_director: the evening is over, and its games can't be written: .*{archive}")
+
+
 async def test_adjourned_and_resumed(evening: Evening) -> None:
     evening.direct("--absent", "5")
     await evening.come_with_accounts("Ann", "Ben")

@@ -2,8 +2,12 @@
 
 import asyncio
 import itertools
+from pathlib import Path
 
 from tests.director.conftest import Evening, table_of
+from tests.kit import paths
+from tests.kit.played import Door
+from tests.kit.running import Run
 
 EIGHT = ("Ann", "Ben", "Cat", "Dan", "Eve", "Fay", "Guy", "Hal")
 
@@ -99,3 +103,21 @@ def look_at_results(evening: Evening) -> None:
             winners[pair] = {"1-0": white, "0-1": black}[score]
     winners.pop(("Guy", "Hal"), None)
     assert winners == {it: it[0] for it in itertools.combinations(EIGHT, 2) if it != ("Guy", "Hal")}, evening.log()
+
+
+async def test_a_server_that_ends_as_the_director_comes(tmp_path: Path) -> None:
+    """It comes again, as it does where none is there."""
+    door = Door()
+    await door.open()
+    where = "--server", f"127.0.0.1:{door.port}", "--file", tmp_path / "evening.tourney", "--program", paths.program
+    director = Run(paths.companion("fics_director"), *where, "--chief", "Zoe")
+    try:
+        end = await door.opened()
+        assert await end.line() == "Director"
+        end.close()
+        await door.end()
+        director.until("not in yet, next try in 1 seconds: the server has closed the link")
+        assert director.process.poll() is None
+    finally:
+        director.end()
+        door.close()

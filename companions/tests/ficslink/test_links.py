@@ -213,3 +213,51 @@ async def test_a_stamped_link(played: Played) -> None:
     await end.say("fics% ")
     await asked
     assert [str(it) for it in await some(link.news(), 1)] == [BOARD]
+
+
+class Failing:
+    """Who listens, and fails at what Ben tells."""
+
+    is_full = False
+
+    async def room(self) -> None:
+        """There is always room."""
+
+    def hear(self, told: tuple[lines.Line, ...]) -> None:
+        if any(isinstance(it, lines.Tell) for it in told):
+            raise OSError(28, "No space left on device")
+
+
+async def test_who_listens_fails_at_news(played: Played, caplog: pytest.LogCaptureFixture) -> None:
+    """The link is closed by that, and whoever has asked hears so, at once."""
+    link, end = await played.linked(listener=Failing())
+    asked = asyncio.create_task(link.ask("who"))
+    assert await end.line() == "who"
+    await end.say("\n\rBen tells you: one\n\rfics% ")
+    with pytest.raises(Closed, match="who listens has failed: .* No space left on device"):
+        await asyncio.wait_for(asked, 10)
+    await asyncio.wait_for(link.ended(), 10)
+    assert not link.is_open
+    assert "who listens to a link has failed" in caplog.text
+
+
+async def test_who_listens_fails_at_an_answer(played: Played) -> None:
+    """The answer is told all the same, before the link is closed."""
+    link, end = await played.linked(listener=Failing())
+    asked = asyncio.create_task(link.ask("who"))
+    assert await end.line() == "who"
+    await end.say("Ann\n\r\n\rBen tells you: one\n\rfics% ")
+    answer = await asyncio.wait_for(asked, 10)
+    assert answer.all(lines.Player) == [lines.Player("Ann")]
+    await asyncio.wait_for(link.ended(), 10)
+
+
+async def test_who_listens_fails_at_what_comes_last(played: Played) -> None:
+    link, end = await played.linked(listener=Failing())
+    asked = asyncio.create_task(link.ask("who"))
+    assert await end.line() == "who"
+    await end.say("\n\rBen tells you: one\n\r")
+    end.close()
+    with pytest.raises(Closed, match="the server has closed the link"):
+        await asyncio.wait_for(asked, 10)
+    await asyncio.wait_for(link.ended(), 10)

@@ -243,6 +243,33 @@ class TestArchives:
         assert len(self.moves()) == 1
         assert list(kept.running.iterdir()) == []
 
+    def test_a_journal_that_somebody_has_taken_away(self) -> None:
+        """It is made anew with all that is known."""
+        kept = self.archive()
+        it = self.played(kept, range(3))
+        it.close()
+        it.path.unlink()
+        it.sitting.hear(board(3), NOON)
+        with pytest.raises(FileNotFoundError):
+            it.keep()
+        it.settle()
+        it.close()
+        [left] = self.archive().left
+        assert [half.short for half in left.sitting.first.half_moves] == ["e4", "e5", "Nf3"]
+
+    def test_disk_is_full_and_then_it_is_killed(self) -> None:
+        """The links for which there was no room at once are on the disk before the game is."""
+        kept = self.archive()
+        it = self.played(kept)
+        self.end(it)
+        with mock.patch("os.fsync", side_effect=OSError(28, "No space left on device")), pytest.raises(OSError):
+            kept.finish(it)
+        with mock.patch("ficsd_companions.scribe.journal.Journal.remove", side_effect=Killed), pytest.raises(Killed):
+            kept.finish(it)
+        self.archive()
+        assert [link for link, _ in self.moves()] == ["2026-11-30/1"]
+        assert list(kept.running.iterdir()) == []
+
     def test_nothing_was_played(self) -> None:
         kept = self.archive()
         it = self.played(kept, range(1))
@@ -287,5 +314,8 @@ class TestArchives:
             (game + '[Event "x"]\n[Res', len(game)),
             (game[:-3], 0),
             ("[Eve", 0),
+            (game + "4 *\n\n", len(game)),
+            (game + "4 *\n\n" + game, 2 * len(game) + len("4 *\n\n")),
+            (game + "4 *\n\n" + game[:-3], len(game)),
         ):
             assert whole_length(text) == wanted, repr(text)

@@ -44,11 +44,11 @@ class TestDesks:
         self.scribe.take_list([listed(game=game)])
         self.scribe.observing[desk_of(game)] = asyncio.create_task(self.scribe.observe(desk_of(game), game))
         await self.scribe.observing[desk_of(game)]
-        await self.scribe.write_all()
+        await self.scribe.disk.do()
 
     async def hear(self, *lines: Line) -> None:
         self.link.hear(lines)
-        await self.scribe.write_all()
+        await self.scribe.disk.do()
 
     def kept(self) -> list[list[str]]:
         return [half_moves_of(text) for _, text in games_of(self.archive.folder)]

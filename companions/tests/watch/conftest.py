@@ -15,6 +15,7 @@ from tests.kit.ports import free_port
 from tests.kit.running import PATIENCE, Run, ended, wait_until
 
 PLAYERS = 24
+MEMBERS = 256
 
 Words = tuple[object, ...]
 Done = subprocess.CompletedProcess[str]
@@ -71,6 +72,11 @@ class Club:
         for it in links:
             it.until("^<12>", PATIENCE)
         return links
+
+    def fill_hall(self, others: int = 0) -> list[Link]:
+        """Guests, until with so many others nobody else can come."""
+        letters = "ABCDEFGHIJKLMNOPQRSTUVWXYZ"
+        return [self.enter(f"Full{letters[it // 26]}{letters[it % 26]}") for it in range(MEMBERS - others)]
 
     def play_all(self) -> list[Link]:
         """A game of each two."""

@@ -3,7 +3,9 @@
 import os
 import time
 
+from tests.kit import paths
 from tests.kit.ports import free_port
+from tests.kit.running import PATIENCE, Run
 
 from .conftest import PLAYERS, Club, full, run, slow
 
@@ -94,3 +96,48 @@ def test_nobody_answers(club: Club) -> None:
     noted = club.act("note", "--port", club.port)
     assert (noted.returncode, "isn't known" in noted.stdout) == (0, True)
     assert club.act("keep").stdout == f"ficsd: kept: {PLAYERS} accounts and 0 adjourned games\n"
+
+
+def test_full_hall(club: Club) -> None:
+    """Nobody can look which games run, so those that were adjourned are named."""
+    club.serve()
+    played = club.play(*club.names[:2])
+    links = [*played, *club.fill_hall(len(played))]
+    noted = club.act("note", "--port", club.port, "--seconds", 2)
+    assert (noted.returncode, noted.stdout) == (
+        0,
+        "ficsd: which games run isn't known: the hall is full: 256 members are in, and nobody else can come\n",
+    )
+    for it in links:
+        it.link.close()
+    assert club.act("keep").stdout.splitlines() == [
+        f"ficsd: kept: {PLAYERS} accounts and 1 adjourned games",
+        f"ficsd: adjourned at this stop: {club.names[0]} - {club.names[1]}",
+    ]
+
+
+def test_full_hall_which_somebody_leaves(club: Club) -> None:
+    """A stop waits a while for a place from which to look."""
+    club.serve()
+    played = club.play(*club.names[:2])
+    links = club.fill_hall(len(played))
+    words = "--port", club.port, "--seconds", PATIENCE, "--store", club.path, "--program", paths.program
+    env = os.environ | {"MAINPID": "1"}
+    note = Run(paths.companion("stop_server"), "note", club.folder / "running", *words, env=env)
+    links.pop().link.close()
+    assert (note.rest(), note.out) == (0, [])
+    for it in (*links, *played):
+        it.link.close()
+    assert "; 1 of the 1 that ran" in club.act("keep").stdout
+
+
+def test_those_that_are_lost_are_named(club: Club) -> None:
+    """Of two games one is adjourned, since its links are cut."""
+    club.serve()
+    kept, _ = club.play(*club.names[:2]), club.play(*club.names[2:4])
+    lines = club.stop(kept).stdout.splitlines()
+    assert lines[1:3] == [
+        f"ficsd: adjourned at this stop: {club.names[0]} - {club.names[1]}",
+        f"ficsd: not adjourned: {club.names[2]} - {club.names[3]}",
+    ]
+    assert "LOST: 1 games that ran" in lines[3]

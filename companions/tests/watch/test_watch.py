@@ -33,6 +33,20 @@ def test_what_is_there(club: Club) -> None:
         assert not says or lines[0].startswith(f"<4>fics_watch: {says}"), lines
 
 
+def test_full_hall(club: Club) -> None:
+    """That nobody else can come is a bound that is crossed, not a hall that can't be looked at."""
+    club.serve()
+    links = club.fill_hall()
+    done = club.look()
+    said, *crossed = done.stdout.splitlines()
+    assert (done.returncode, said.endswith(", 256 members of at most 256")) == (3, True), done.stdout
+    assert crossed == ["<4>fics_watch: the hall is full: 256 members are in, and nobody else can come"]
+    links[0].say("quit")
+    links[0].until("^Goodbye")
+    done = club.look()
+    assert (done.returncode, done.stdout.splitlines()[1:]) == (3, ["<4>fics_watch: more than 230 members"])
+
+
 def test_no_hall_and_no_store(club: Club) -> None:
     done = club.look()
     assert (done.returncode, done.stdout.count("\n")) == (1, 1), done.stdout

@@ -1,0 +1,1 @@
+"""Tests of the launcher, by which a server is run by hand."""
