@@ -160,17 +160,28 @@ def try_port_in_use() -> None:
     all_up("behind a port in use")
 
 
-def try_bad_stores() -> None:
-    shell(f"systemctl stop ficsd; chown root:root {STORE}; chmod 600 {STORE}")
-    start_fails("a store of somebody else", 4, "the store could not be opened")
-    shell(f"chown ficsd:ficsd {STORE}")
-    all_up("behind chown")
-    shell(f"systemctl stop ficsd; sqlite3 {STORE} \"INSERT INTO records VALUES (x'7A', x'00')\"; chown ficsd: {STORE}*")
-    start_fails("a bad record", 5, "`bad record` names its key")
+def rests(name: str) -> None:
+    """No unit is started again for longer than any waits before that."""
     before = [shown(it, "NRestarts") for it in UNITS]
     time.sleep(12)
-    says("a bad record: all units rest", [it in ("failed", "inactive") for it in states()], [True] * 3)
-    says("a bad record: none was started again", [shown(it, "NRestarts") for it in UNITS], before)
+    says(f"{name}: all units rest", [it in ("failed", "inactive") for it in states()], [True] * 3)
+    says(f"{name}: none was started again", [shown(it, "NRestarts") for it in UNITS], before)
+
+
+def try_bad_stores() -> None:
+    shell(f"systemctl stop ficsd; chown root:root {STORE}; chmod 600 {STORE}")
+    start_fails("a store of somebody else", 78, "(not permitted): ficsd may not read and write")
+    rests("a store of somebody else")
+    shell(f"chown ficsd:ficsd {STORE}; systemctl start ficsd")
+    all_up("behind chown")
+    shell(f"systemctl stop ficsd; mv {STORE} {STORE}.good; sqlite3 {STORE} 'CREATE TABLE records (key TEXT, record TEXT)'")
+    start_fails("another table", 78, "(another table)")
+    rests("another table")
+    shell(f"mv {STORE}.good {STORE}; systemctl start ficsd")
+    all_up("behind another table")
+    shell(f"systemctl stop ficsd; sqlite3 {STORE} \"INSERT INTO records VALUES (x'7A', x'00')\"; chown ficsd: {STORE}*")
+    start_fails("a bad record", 5, "`bad record` names its key")
+    rests("a bad record")
     shell(f"sqlite3 {STORE} \"DELETE FROM records WHERE key = x'7A'\"; chown ficsd: {STORE}*; systemctl start ficsd")
     all_up("behind a bad record")
 
