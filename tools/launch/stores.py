@@ -1,5 +1,5 @@
-"""Why a store can't be had, in words for who has to look at it: what is
-seen of its file from beside the server. Nothing is changed, and no lock is taken that a server or another program could find."""
+"""Why a store can't be had, in words for who has to look at it: what is seen of its file from beside the server.
+Nothing is changed, and no lock is taken that a server or another program could find."""
 import enum
 import fcntl
 import glob

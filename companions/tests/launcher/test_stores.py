@@ -70,6 +70,25 @@ def mode(path: Path) -> int:
     return path.stat().st_mode & 0o777
 
 
+@pytest.mark.parametrize("name", ("club.db", "made.db"))
+def test_nobody_else_reads_a_store(tmp_path: Path, name: str) -> None:
+    """Neither a new one nor the log of one that is there, whatever the mask of who starts the server."""
+    store, port = tmp_path / name, free_port()
+    if name == "made.db":
+        made(store, records.TABLE).chmod(0o600)
+    words = "sh", "-c", 'umask 022; exec "$@"', "sh", LAUNCHER, paths.program, "serve", "--port", port
+    server = Run(*words, "--store", store)
+    try:
+        server.begin()
+        link = Link(port)
+        link.say("Ann", "register tuna")
+        link.until("^Ok")
+        assert (mode(store), mode(store.with_name(name + "-wal"))) == (0o600, 0o600)
+        link.link.close()
+    finally:
+        server.terminate()
+
+
 class TestWhy:
     """Each cause has its word."""
 
