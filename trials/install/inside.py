@@ -22,12 +22,16 @@ from .machine import (
     A_MOMENT,
     CLUB,
     CLUB_PAGE,
+    FACE,
     FOLDER,
+    OTHER_PORT,
     PATIENCE,
     PROGRAM,
     SERVER,
     STORE,
     UNITS,
+    WEB,
+    addresses,
     all_up,
     check,
     comes,
@@ -243,6 +247,20 @@ def try_club() -> None:
     comes("a second club: its page is started with it", lambda: is_heard(CLUB_PAGE), True)
 
 
+def try_port() -> None:
+    """The server's port is changed for all units by the lines of the page, and a game is kept meanwhile."""
+    says("the server is open to this machine alone", addresses(SERVER), ["127.0.0.1"])
+    before = check()
+    run_lines("port")
+    comes("another port: it is listened to, on this machine alone", lambda: addresses(OTHER_PORT), ["127.0.0.1"])
+    comes("another port: the go-betweens are there", listening, [FACE, WEB])
+    members.try_doors()
+    says("another port: a watch finds the server", shell("systemctl start fics_watch")[1], 0)
+    says("another port: the store is kept", check(), before)
+    shell(f"sed -i 's/^PORT=.*/PORT={SERVER}/' /etc/default/ficsd; systemctl restart ficsd")
+    all_up("the first port again")
+
+
 def try_accounts() -> None:
     words = "fics_accounts password ann"
     says("a password while the server runs", shell(f"printf 'tuna\\ntuna\\n' | {words}")[1], 1)
@@ -335,6 +353,7 @@ def begin(stops: int) -> int:
         try_full_disk,
         try_accounts,
         try_watch,
+        try_port,
         try_club,
         members.try_members,
         members.try_stop_with_members,

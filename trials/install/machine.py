@@ -10,6 +10,7 @@ from trials.tale import Tale
 
 FOLDER = Path("/root/try")  # where the trial lies in the machine
 SERVER, FACE, WEB, CLUB, CLUB_PAGE = 5000, 5001, 5002, 5010, 5012
+OTHER_PORT = 5900  # to which the lines of the page change the server's
 UNITS = ("ficsd", "fics_face", "fics_web")
 STORE = "/var/lib/ficsd/club.db"
 PROGRAM = "/usr/lib/ficsd/ficsd"
@@ -35,6 +36,12 @@ def listening() -> list[int]:
     """Which of the three ports somebody listens on."""
     text, _ = shell(f"ss -ltnH '( sport = :{SERVER} or sport = :{FACE} or sport = :{WEB} )'")
     return sorted({int(port) for port in re.findall(r":(500[012])\s", text)})
+
+
+def addresses(port: int) -> list[str]:
+    """The addresses of this machine at which somebody listens on a port."""
+    text, _ = shell(f"ss -ltnH 'sport = :{port}'")
+    return sorted(row.split()[3].rpartition(":")[0] for row in text.splitlines())
 
 
 def comes(name: str, found: Callable[[], object], wanted: object, seconds: float = PATIENCE) -> None:

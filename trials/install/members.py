@@ -17,7 +17,7 @@ from .players import adjourn, enter, enter_again, resume
 MEMBERS = ("fics_bot", "fics_director", "fics_scribe")
 WITHOUT_A_STORE = (*MEMBERS, "fics_face", "fics_web")
 MOST_EXPOSED = 2.0  # of the ten points of `systemd-analyze security`
-WORDS = 'FICS_DIRECTOR_WORDS="--server 127.0.0.1:5000 --chief Ann --channel 5"'
+WORDS = 'FICS_DIRECTOR_WORDS="--chief Ann --channel 5"'
 EVENING = "/var/lib/fics_director/evening.tourney"
 PLAYING = FOLDER / "playing"
 

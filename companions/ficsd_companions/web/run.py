@@ -14,7 +14,7 @@ import sys
 from pathlib import Path
 
 from ficsd_companions.cli.program import PAGE
-from ficsd_companions.cli.words import address, count, folder_with, port
+from ficsd_companions.cli.words import COUNTS, address, count, folder_with, port
 
 try:
     from . import logs
@@ -73,6 +73,7 @@ def options() -> argparse.ArgumentParser:
         metavar="DIR",
         help="the folder into which fics_scribe writes: its games are shown below /games/",
     )
+    words.add_argument("--counts", type=Path, metavar="FILE", help=COUNTS)
     words.add_argument("--plain", action="store_true", help="refuse stamped lines: every clock is the server's own")
     return words
 
@@ -114,6 +115,7 @@ def main() -> int:
         tabs_from_one=chosen.tabs_from_one,
         refuses_stamps=chosen.plain,
         archive=chosen.archive,
+        counts=chosen.counts,
     )
     logs.quieten()
     try:
