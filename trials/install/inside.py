@@ -37,6 +37,7 @@ from .machine import (
     comes,
     journal,
     journal_length,
+    journal_of,
     listening,
     main_process,
     run_lines,
@@ -46,6 +47,7 @@ from .machine import (
     shown,
     states,
     tale,
+    text_of,
 )
 from .players import adjourn, come_in_anew, enter, enter_again, play, register, resume
 
@@ -281,6 +283,14 @@ def try_watch() -> None:
     text, status = shell(f"fics_watch --port {SERVER} --shelf 0")
     says("a watch: a bound is crossed", (status, "more than 0 adjourned games" in text), (3, True))
     says("a watch: its timer is on", shown("fics_watch.timer", "ActiveState"), "active")
+    kept = "/run/fics_meter/metrics"
+    comes("a meter: it keeps what Prometheus reads", lambda: "ficsd_up 1\n" in text_of(kept), True)
+    comes("a meter: it has the refusals", lambda: 'by="fics_face",why="wrong password"} 1\n' in text_of(kept), True)
+    comes(
+        "a meter: its lines are in the journal",
+        lambda: "fics_watch: 0 members, 0 games, 1 stored games, 2 accounts" in journal_of("fics_meter"),
+        True,
+    )
 
 
 def version(package: str) -> str:
@@ -352,6 +362,7 @@ def begin(stops: int) -> int:
         try_bad_stores,
         try_full_disk,
         try_accounts,
+        members.try_wrong_password,
         try_watch,
         try_port,
         try_club,

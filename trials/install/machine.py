@@ -1,5 +1,6 @@
 """What is seen of a booted machine: what its shell says, its units, their ports and journal, and the store."""
 
+import glob
 import re
 import subprocess
 import time
@@ -65,9 +66,19 @@ def all_up(name: str) -> None:
     comes(f"{name}: all listen", listening, [SERVER, FACE, WEB])
 
 
+def journal_of(unit: str) -> str:
+    """What the journal has of a unit, once all that was said is in it."""
+    return shell(f"journalctl --sync; journalctl -u {unit} -b --output=cat")[0]
+
+
 def journal(since: int) -> list[str]:
     """What the journal has of the server since that line of it."""
-    return shell("journalctl -u ficsd -b --output=cat")[0].splitlines()[since:]
+    return journal_of("ficsd").splitlines()[since:]
+
+
+def text_of(pattern: str) -> str:
+    """What the files that a pattern names have, one behind the other."""
+    return "".join(Path(it).read_text(encoding="utf-8") for it in glob.glob(pattern))
 
 
 def journal_length() -> int:
