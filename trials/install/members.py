@@ -5,7 +5,6 @@ import re
 import socket
 import time
 import urllib.request
-from pathlib import Path
 from typing import NoReturn
 
 from tests.kit.link import Link
