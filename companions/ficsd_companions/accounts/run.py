@@ -13,6 +13,7 @@ from collections.abc import Callable
 from pathlib import Path
 
 from ficsd_companions.cli.program import program
+from ficsd_companions.cli.version import add_version
 from ficsd_companions.cli.words import count
 
 from . import asking, changes, records
@@ -131,6 +132,7 @@ def read_words() -> Chosen:
     words.add_argument("--store", type=Path, default=STORE, metavar="FILE", help=says)
     says = "the ficsd that checks the store: the one that this belongs to where it is left out"
     words.add_argument("--program", default=program(), metavar="FILE", help=says)
+    add_version(words)
     clearing = add_commands(words)
     chosen = words.parse_args(namespace=Chosen())
     if not chosen.show and chosen.act is clear and not (chosen.oldest or chosen.player or chosen.numbers):

@@ -7,6 +7,7 @@ from datetime import datetime
 from pathlib import Path
 
 from ficsd_companions.cli.program import built_program, program
+from ficsd_companions.cli.version import add_version
 from ficsd_companions.cli.words import Address, address, amount, count, handle, seconds
 from ficslink.terms import Terms
 
@@ -119,6 +120,7 @@ def parser() -> argparse.ArgumentParser:
     add("--name", type=handle, default="Director", metavar="NAME", help="its own name; Director without")
     add("--password-file", type=Path, metavar="FILE", help="a file with that name's password, readable by nobody else")
     add_evening(words)
+    add_version(words)
     return words
 
 

@@ -10,6 +10,7 @@ import asyncio
 import sys
 from pathlib import Path
 
+from ficsd_companions.cli.version import add_version
 from ficsd_companions.cli.words import COUNTS, Address, address, count, port
 from ficsd_companions.limits.refused import Refused
 
@@ -50,6 +51,7 @@ def read_words() -> Chosen:
         metavar="N",
         help="how many links one address may have at a time: 32 where it is left out",
     )
+    add_version(words)
     words.add_argument("--counts", type=Path, metavar="FILE", help=COUNTS)
     return words.parse_args(namespace=Chosen())
 

@@ -10,6 +10,7 @@ from pathlib import Path
 
 from ficsd_companions.accounts import records
 from ficsd_companions.cli.program import program
+from ficsd_companions.cli.version import add_version
 from ficsd_companions.cli.words import count, port, seconds
 
 from . import guest, rounds, shelf
@@ -106,6 +107,7 @@ def read_words() -> Chosen:
         metavar="FILE",
         help="the ficsd that checks the store: the one that this belongs to where it is left out",
     )
+    add_version(words)
     add_metrics(words)
     chosen = words.parse_args(namespace=Chosen())
     if chosen.metrics and not chosen.every:

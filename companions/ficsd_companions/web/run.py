@@ -14,6 +14,7 @@ import sys
 from pathlib import Path
 
 from ficsd_companions.cli.program import PAGE
+from ficsd_companions.cli.version import add_version
 from ficsd_companions.cli.words import COUNTS, address, count, folder_with, port
 
 try:
@@ -73,6 +74,7 @@ def options() -> argparse.ArgumentParser:
         metavar="DIR",
         help="the folder into which fics_scribe writes: its games are shown below /games/",
     )
+    add_version(words)
     words.add_argument("--counts", type=Path, metavar="FILE", help=COUNTS)
     words.add_argument("--plain", action="store_true", help="refuse stamped lines: every clock is the server's own")
     return words
