@@ -31,14 +31,19 @@ def server() -> Iterator[Server]:
     it.end()
 
 
-@pytest.fixture
-def face(server: Server) -> Iterator[Run]:
+class Face(Run):
     """The go-between for telnets; `port` is where it listens."""
-    port = free_port()
-    words = "--server", server.address, "--listen", port, "--links-from-one", 256
-    it = Run(paths.companion("fics_face"), *words)
-    it.port = port  # type: ignore[attr-defined]
-    it.begin()
+
+    def __init__(self, server: Server) -> None:
+        self.port = free_port()
+        words = "--server", server.address, "--listen", self.port, "--links-from-one", 256
+        super().__init__(paths.companion("fics_face"), *words)
+        self.begin()
+
+
+@pytest.fixture
+def face(server: Server) -> Iterator[Face]:
+    it = Face(server)
     yield it
     it.end()
 

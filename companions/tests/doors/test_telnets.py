@@ -14,7 +14,7 @@ from tests.kit import paths
 from tests.kit.ports import free_port
 from tests.kit.running import Run, ended
 
-from .conftest import begun, untrusting
+from .conftest import Face, begun, untrusting
 from .pages import PRINTED, certify, example, replaced
 
 # two machines: what the first one's ports take, in the words of `connects`
@@ -52,12 +52,12 @@ for _ in range(int(count)):
 
 
 @pytest.mark.skipif(not shutil.which("stunnel4"), reason="stunnel4 isn't installed")
-def test_stunnel(face: Run, tmp_path: Path) -> None:
+def test_stunnel(face: Face, tmp_path: Path) -> None:
     port = free_port()
     service = replaced(
         example("OPERATING.md", "ini"),
         (":::5003", f"127.0.0.1:{port}"),
-        ("127.0.0.1:5001", f"127.0.0.1:{face.port}"),  # type: ignore[attr-defined]
+        ("127.0.0.1:5001", f"127.0.0.1:{face.port}"),
         (PRINTED, certify(tmp_path)),
     )
     file = tmp_path / "ficsd.conf"

@@ -10,8 +10,9 @@ from ficslink.texts import LOGIN, PASSWORD
 
 from tests.kit import paths
 from tests.kit.link import Link
-from tests.kit.running import Run, ended, wait_until
+from tests.kit.running import ended, wait_until
 
+from .conftest import Face
 from .pages import example
 
 FILTERS = paths.COMPANIONS / "fail2ban"
@@ -39,12 +40,11 @@ def guess(port: int, address: str, *passwords: str) -> None:
     link.link.close()
 
 
-def test_each_is_logged(face: Run) -> None:
+def test_each_is_logged(face: Face) -> None:
     """With its address, and nothing that was typed; a right one isn't."""
-    port: int = face.port  # type: ignore[attr-defined]
-    guess(port, "127.0.0.2", "wrong", "tuna fish")
-    guess(port, "127.0.0.3", "wrong")
-    guess(port, "127.0.0.4", "tuna")
+    guess(face.port, "127.0.0.2", "wrong", "tuna fish")
+    guess(face.port, "127.0.0.3", "wrong")
+    guess(face.port, "127.0.0.4", "tuna")
     wanted = [f"fics_face: wrong password from 127.0.0.{it}" for it in (2, 2, 3)]
     assert wait_until(lambda: face.log == wanted), face.log
     assert "fics_face: wrong password from 192.0.2.7" in (paths.TOP / "docs/OPERATING.md").read_text(encoding="utf-8")
@@ -68,8 +68,8 @@ class TestFilter:
         _, _, matched = done.stdout.partition("Matched line(s):\n")
         return re.findall(r"^\|  Dec 01 17:00:00 club (.*)$", matched.partition("\n`-")[0], re.M)
 
-    def test_what_is_logged_is_read(self, folder: Path, face: Run) -> None:
-        guess(face.port, "127.0.0.2", "wrong", "wrong")  # type: ignore[attr-defined]
+    def test_what_is_logged_is_read(self, folder: Path, face: Face) -> None:
+        guess(face.port, "127.0.0.2", "wrong", "wrong")
         assert wait_until(lambda: len(face.log) == 2)
         lines = [f"fics_face[12]: {it}" for it in face.log]
         assert self.matched(folder, lines) == lines
