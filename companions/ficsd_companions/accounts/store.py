@@ -14,6 +14,8 @@ from contextlib import closing, contextmanager, suppress
 from pathlib import Path
 from types import TracebackType
 
+from ficsd_companions.cli.program import explained
+
 from . import records
 from .faults import Refused, Spoiled, said_in_words
 from .reading import Reading
@@ -105,7 +107,7 @@ class Store(Reading):
     def checked(self) -> str:
         """What `check` says."""
         try:
-            words = [self.checker, "check", "--store", str(self.path)]
+            words = [*explained(self.checker), "check", "--store", str(self.path)]
             done = subprocess.run(words, stdin=subprocess.DEVNULL, capture_output=True, text=True)
         except OSError as error:
             raise Refused(f"{self.checker}, which checks the store, can't be run: {error.strerror}") from None

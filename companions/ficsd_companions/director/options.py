@@ -1,6 +1,7 @@
 """The command line of fics_director."""
 
 import argparse
+import shutil
 import re
 from dataclasses import dataclass
 from datetime import datetime
@@ -132,6 +133,8 @@ def chosen(arguments: list[str]) -> Chosen:
         words.error("--pgn and --archive go together")
     if not read.at and not read.chief:
         words.error("--at TIME or --chief NAME is wanted, else it never begins")
+    if not shutil.which(read.program):
+        words.error(f"{read.program} is no program that this user can run")
     read.absent *= 60
     read.both_away = Verdict.HALF if read.both_away == "half" else Verdict.NONE
     read.chief = frozenset(it.lower() for it in read.chief)
