@@ -1,8 +1,8 @@
 """The command line of fics_director."""
 
 import argparse
-import shutil
 import re
+import shutil
 from dataclasses import dataclass
 from datetime import datetime
 from pathlib import Path
