@@ -11,7 +11,7 @@ from tests.kit.running import ended
 
 # an address and a port of the server, which stands in etc/default/ficsd alone
 PORT = "5000"
-OF_THE_SERVER = ("ficsd", "fics_face", "fics_web", "fics_bot", "fics_scribe", "fics_director", "fics_watch", "fics_meter")
+OF_THE_SERVER = "ficsd fics_face fics_web fics_bot fics_scribe fics_director fics_watch fics_meter".split()
 
 
 @pytest.fixture(scope="module")
