@@ -55,7 +55,9 @@ meaning() {
       echo "the store could not be opened, read or written. Its folder has to be there, and this user has to be able" \
         "to write it and the file; the file has to be a store; and no other server and no sqlite3 may have it open." \
         "Where \`closed\` was written, what was new at the end isn't in the store" ;;
-    *-4) echo "there is no store at that path, or this user can't read it" ;;
+    *-4)
+      echo "the store could not be read: there is none at that path, or this user may not read it, or the file is no" \
+        "store" ;;
     *-5)
       echo "a record of the store isn't one: \`bad record\` names its key, and nothing was changed. sqlite3 shows the" \
         "record and takes it away ($(page_of_stores "$1")), or start over a copy made earlier" ;;

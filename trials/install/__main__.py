@@ -33,6 +33,7 @@ BLOCKS = {
     "hot": "install -d",
     "restore": "systemctl stop ficsd\nrm",
     "update": "apt-get install",
+    "port": "sed -i 's/^PORT",
     "club": "mkdir -p /etc/ficsd",
     "club_page": "sed 's/ficsd",
 }

@@ -22,17 +22,22 @@ from .machine import (
     A_MOMENT,
     CLUB,
     CLUB_PAGE,
+    FACE,
     FOLDER,
+    OTHER_PORT,
     PATIENCE,
     PROGRAM,
     SERVER,
     STORE,
     UNITS,
+    WEB,
+    addresses,
     all_up,
     check,
     comes,
     journal,
     journal_length,
+    journal_of,
     listening,
     main_process,
     run_lines,
@@ -42,6 +47,7 @@ from .machine import (
     shown,
     states,
     tale,
+    text_of,
 )
 from .players import adjourn, come_in_anew, enter, enter_again, play, register, resume
 
@@ -160,17 +166,29 @@ def try_port_in_use() -> None:
     all_up("behind a port in use")
 
 
-def try_bad_stores() -> None:
-    shell(f"systemctl stop ficsd; chown root:root {STORE}; chmod 600 {STORE}")
-    start_fails("a store of somebody else", 4, "the store could not be opened")
-    shell(f"chown ficsd:ficsd {STORE}")
-    all_up("behind chown")
-    shell(f"systemctl stop ficsd; sqlite3 {STORE} \"INSERT INTO records VALUES (x'7A', x'00')\"; chown ficsd: {STORE}*")
-    start_fails("a bad record", 5, "`bad record` names its key")
+def rests(name: str) -> None:
+    """No unit is started again for longer than any waits before that."""
     before = [shown(it, "NRestarts") for it in UNITS]
     time.sleep(12)
-    says("a bad record: all units rest", [it in ("failed", "inactive") for it in states()], [True] * 3)
-    says("a bad record: none was started again", [shown(it, "NRestarts") for it in UNITS], before)
+    says(f"{name}: all units rest", [it in ("failed", "inactive") for it in states()], [True] * 3)
+    says(f"{name}: none was started again", [shown(it, "NRestarts") for it in UNITS], before)
+
+
+def try_bad_stores() -> None:
+    shell(f"systemctl stop ficsd; chown root:root {STORE}; chmod 600 {STORE}")
+    start_fails("a store of somebody else", 78, "(not permitted): ficsd may not read and write")
+    rests("a store of somebody else")
+    shell(f"chown ficsd:ficsd {STORE}; systemctl start ficsd")
+    all_up("behind chown")
+    shell(f"systemctl stop ficsd; mv {STORE} {STORE}.good")
+    shell(f"sqlite3 {STORE} 'CREATE TABLE records (key TEXT, record TEXT)'; chown ficsd:ficsd {STORE}")
+    start_fails("another table", 78, "(another table)")
+    rests("another table")
+    shell(f"mv {STORE}.good {STORE}; systemctl start ficsd")
+    all_up("behind another table")
+    shell(f"systemctl stop ficsd; sqlite3 {STORE} \"INSERT INTO records VALUES (x'7A', x'00')\"; chown ficsd: {STORE}*")
+    start_fails("a bad record", 5, "`bad record` names its key")
+    rests("a bad record")
     shell(f"sqlite3 {STORE} \"DELETE FROM records WHERE key = x'7A'\"; chown ficsd: {STORE}*; systemctl start ficsd")
     all_up("behind a bad record")
 
@@ -231,6 +249,20 @@ def try_club() -> None:
     comes("a second club: its page is started with it", lambda: is_heard(CLUB_PAGE), True)
 
 
+def try_port() -> None:
+    """The server's port is changed for all units by the lines of the page, and a game is kept meanwhile."""
+    says("the server is open to this machine alone", addresses(SERVER), ["127.0.0.1"])
+    before = check()
+    run_lines("port")
+    comes("another port: it is listened to, on this machine alone", lambda: addresses(OTHER_PORT), ["127.0.0.1"])
+    comes("another port: the go-betweens are there", listening, [FACE, WEB])
+    members.try_doors()
+    says("another port: a watch finds the server", shell("systemctl start fics_watch")[1], 0)
+    says("another port: the store is kept", check(), before)
+    shell(f"sed -i 's/^PORT=.*/PORT={SERVER}/' /etc/default/ficsd; systemctl restart ficsd")
+    all_up("the first port again")
+
+
 def try_accounts() -> None:
     words = "fics_accounts password ann"
     says("a password while the server runs", shell(f"printf 'tuna\\ntuna\\n' | {words}")[1], 1)
@@ -251,6 +283,14 @@ def try_watch() -> None:
     text, status = shell(f"fics_watch --port {SERVER} --shelf 0")
     says("a watch: a bound is crossed", (status, "more than 0 adjourned games" in text), (3, True))
     says("a watch: its timer is on", shown("fics_watch.timer", "ActiveState"), "active")
+    kept = "/run/fics_meter/metrics"
+    comes("a meter: it keeps what Prometheus reads", lambda: "ficsd_up 1\n" in text_of(kept), True)
+    comes("a meter: it has the refusals", lambda: 'by="fics_face",why="wrong password"} 1\n' in text_of(kept), True)
+    comes(
+        "a meter: its lines are in the journal",
+        lambda: "fics_watch: 0 members, 0 games, 1 stored games, 2 accounts" in journal_of("fics_meter"),
+        True,
+    )
 
 
 def version(package: str) -> str:
@@ -322,7 +362,9 @@ def begin(stops: int) -> int:
         try_bad_stores,
         try_full_disk,
         try_accounts,
+        members.try_wrong_password,
         try_watch,
+        try_port,
         try_club,
         members.try_members,
         members.try_evening,

@@ -1,5 +1,6 @@
 """What is seen of a booted machine: what its shell says, its units, their ports and journal, and the store."""
 
+import glob
 import re
 import subprocess
 import time
@@ -10,6 +11,7 @@ from trials.tale import Tale
 
 FOLDER = Path("/root/try")  # where the trial lies in the machine
 SERVER, FACE, WEB, CLUB, CLUB_PAGE = 5000, 5001, 5002, 5010, 5012
+OTHER_PORT = 5900  # to which the lines of the page change the server's
 UNITS = ("ficsd", "fics_face", "fics_web")
 STORE = "/var/lib/ficsd/club.db"
 PROGRAM = "/usr/lib/ficsd/ficsd"
@@ -37,6 +39,12 @@ def listening() -> list[int]:
     return sorted({int(port) for port in re.findall(r":(500[012])\s", text)})
 
 
+def addresses(port: int) -> list[str]:
+    """The addresses of this machine at which somebody listens on a port."""
+    text, _ = shell(f"ss -ltnH 'sport = :{port}'")
+    return sorted(row.split()[3].rpartition(":")[0] for row in text.splitlines())
+
+
 def comes(name: str, found: Callable[[], object], wanted: object, seconds: float = PATIENCE) -> None:
     """Waits until something is as wanted."""
     deadline = time.monotonic() + seconds
@@ -58,9 +66,19 @@ def all_up(name: str) -> None:
     comes(f"{name}: all listen", listening, [SERVER, FACE, WEB])
 
 
+def journal_of(unit: str) -> str:
+    """What the journal has of a unit, once all that was said is in it."""
+    return shell(f"journalctl --sync; journalctl -u {unit} -b --output=cat")[0]
+
+
 def journal(since: int) -> list[str]:
     """What the journal has of the server since that line of it."""
-    return shell("journalctl -u ficsd -b --output=cat")[0].splitlines()[since:]
+    return journal_of("ficsd").splitlines()[since:]
+
+
+def text_of(pattern: str) -> str:
+    """What the files that a pattern names have, one behind the other."""
+    return "".join(Path(it).read_text(encoding="utf-8") for it in glob.glob(pattern))
 
 
 def journal_length() -> int:

@@ -1,17 +1,15 @@
 """What runs beside the server in a booted machine, as its operator enables it: the go-betweens, and members that are
 programs. Each does what it is for, and is stopped and started with the server."""
 
-import glob
 import re
 import socket
 import time
 import urllib.request
-from pathlib import Path
 from typing import NoReturn
 
 from tests.kit.link import Link
 
-from .machine import A_MOMENT, FACE, FOLDER, PATIENCE, WEB, comes, says, shell, shown
+from .machine import A_MOMENT, FACE, FOLDER, PATIENCE, WEB, comes, journal_of, says, shell, shown, text_of
 from .players import adjourn, enter, enter_again, resume
 
 MEMBERS = ("fics_bot", "fics_director", "fics_scribe")
@@ -19,7 +17,7 @@ WITHOUT_A_STORE = (*MEMBERS, "fics_face", "fics_web")
 MOST_EXPOSED = 2.0  # of the ten points of `systemd-analyze security`
 EVENING, GAMES = (f"/var/lib/fics_director/evening.{it}" for it in ("tourney", "pgn"))
 WORDS = (
-    'FICS_DIRECTOR_WORDS="--server 127.0.0.1:5000 --chief Ann --channel 5 '
+    'FICS_DIRECTOR_WORDS="--chief Ann --channel 5 '
     f'--pgn {GAMES} --archive /run/fics_archive"'
 )
 GAME = r'\[White "(.*)"\]\n\[Black "(.*)"\]\n\[Result "(.*)"\]'
@@ -37,11 +35,6 @@ def states_of_members() -> list[str]:
 
 def members_up(name: str) -> None:
     comes(f"{name}: the members are active", states_of_members, ["active"] * 3)
-
-
-def text_of(pattern: str) -> str:
-    """What the files that a pattern names have, one behind the other."""
-    return "".join(Path(it).read_text(encoding="utf-8") for it in glob.glob(pattern))
 
 
 def try_members() -> None:
@@ -117,6 +110,19 @@ def try_doors() -> None:
         says("fics_web: it has the page", (page.status, b"<html" in page.read()), (200, True))
 
 
+def try_wrong_password() -> None:
+    """One that comes by the go-between is in the journal with its address."""
+    link = Link(FACE)
+    link.say("Ann", "no fish")
+    link.until("Invalid password", PATIENCE)
+    link.link.close()
+    comes(
+        "a wrong password is in the journal",
+        lambda: journal_of("fics_face").splitlines().count("fics_face: wrong password from 127.0.0.1"),
+        1,
+    )
+
+
 def try_stop_with_members() -> None:
     """What runs beside the server is stopped with it, ends well, and is started with it."""
     shell("systemctl stop ficsd")
@@ -131,7 +137,7 @@ def try_stop_with_members() -> None:
 
 def try_exposures() -> None:
     """Each unit reaches little of the machine, as systemd counts it."""
-    for unit in (*WITHOUT_A_STORE, "fics_watch", "ficsd", "fics_server@blue"):
+    for unit in (*WITHOUT_A_STORE, "fics_watch", "fics_meter", "ficsd", "fics_server@blue"):
         said = shell(f"systemd-analyze security --no-pager {unit}")[0]
         level = re.search(r"Overall exposure level for \S+: ([\d.]+)", said)
         says(

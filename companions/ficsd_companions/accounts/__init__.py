@@ -1,1 +1,2 @@
-"""The parts of fics_accounts: records, the store with its copies, what is changed in it, and what is asked for."""
+"""The parts of fics_accounts: records, what is read of a store or of its copy, the store with its changes, who works in
+its folder, and what is asked for."""

@@ -4,7 +4,7 @@ import getpass
 import sys
 from collections.abc import Sequence
 
-from .store import Refused
+from .faults import Refused
 
 MOST_PASSWORD = 800  # bytes
 

@@ -3,10 +3,12 @@
 from collections.abc import Sequence
 
 from . import records
+from .faults import Refused
 from .records import Account, Game
-from .store import Change, Refused, Store
+from .store import Change, Store
 
 PUT = "UPDATE records SET key = ?, record = ? WHERE key = ?"
+INSERT = "INSERT INTO records (key, record) VALUES (?, ?)"
 DELETE = "DELETE FROM records WHERE key = ?"
 
 
@@ -26,13 +28,19 @@ def put_game(game: Game) -> Change:
     return PUT, (game.key(), game.text(), game.key())
 
 
-def games_of(store: Store, name: str) -> list[Game]:
-    """The games that a player is in, oldest first."""
-    return [it for it in store.games() if it.has(name)]
-
-
 def set_password(store: Store, account: Account, password: str) -> None:
     store.change([put_account(account, Account(account.name, records.digest_of(password)))])
+
+
+def add(store: Store, name: str, password: str) -> None:
+    """Makes an account."""
+    store.change([(INSERT, (records.account_key(name), Account(name, records.digest_of(password)).text()))], accounts=1)
+
+
+def check_room(store: Store) -> None:
+    """Refuses an account more than a store may have."""
+    if len(store.accounts()) >= records.MOST_ACCOUNTS:
+        raise Refused(f"there are {records.MOST_ACCOUNTS} accounts, the most that there may be; `remove` makes room")
 
 
 def check_new_name(store: Store, old: str, new: str) -> None:
@@ -43,7 +51,7 @@ def check_new_name(store: Store, old: str, new: str) -> None:
         return
     if any(it.name.lower() == new.lower() for it in store.accounts()):
         raise Refused(f"{new} is somebody's account already")
-    if left := games_of(store, new):
+    if left := store.games_of(new):
         raise Refused(
             f"{len(left)} adjourned games are of somebody who was {new}, whose games these then would be; "
             f"`clear --player {new}` takes them away"
@@ -53,7 +61,7 @@ def check_new_name(store: Store, old: str, new: str) -> None:
 def rename(store: Store, account: Account, new: str) -> int:
     """Gives an account, and its place in each game, another name; answers how many games."""
     check_new_name(store, account.name, new)
-    games = games_of(store, account.name)
+    games = store.games_of(account.name)
     store.change(
         [
             put_account(account, Account(new, account.digest)),
@@ -74,7 +82,7 @@ def remove(store: Store, account: Account, games: Sequence[Game]) -> None:
 
 def chosen_games(store: Store, player: str | None, oldest: int | None, numbers: tuple[int, int] | None) -> list[Game]:
     """The games that are meant, oldest first: those of a player, of numbers, and of these so many of the oldest."""
-    games = games_of(store, player) if player else store.games()
+    games = store.games_of(player) if player else store.games()
     if numbers:
         games = [it for it in games if numbers[0] <= it.number <= numbers[1]]
     return games if oldest is None else games[:oldest]

@@ -1,20 +1,26 @@
-"""Shows and mends the accounts and adjourned games of a store that no server has open: a lost password, a name, an
-account, games that fill the shelf.
+"""Shows the accounts and adjourned games of a store, and mends them while no server has it open: a lost password, a
+name, an account, games that fill the shelf.
 
-It is no part of what is proved. Each change is one transaction, before which the store is copied to a file beside it
-(its name and .before), and behind which `ficsd check` has to say that all is well; else the copy comes back.
+It is no part of what is proved. What is shown is read from a copy, so that a server may run. Each change is one
+transaction, before which the store is copied to a file beside it (its name and .before), and behind which `ficsd check`
+has to say that all is well; else the copy comes back.
 """
 
 import argparse
 import sys
+from collections import Counter
 from collections.abc import Callable
 from pathlib import Path
 
 from ficsd_companions.cli.program import program
+from ficsd_companions.cli.version import add_version
 from ficsd_companions.cli.words import count
 
 from . import asking, changes, records
-from .store import Refused, Spoiled, Store
+from .faults import Refused, Spoiled
+from .owner import become_owner
+from .reading import Copy, copied
+from .store import Store
 
 STORE = Path("/var/lib/ficsd/club.db")
 KEPT_GAMES = "whoever enters under that name then can go on with them"
@@ -28,6 +34,7 @@ class Chosen(argparse.Namespace):
 
     store: Path
     program: str
+    show: "Show | None"
     act: "Act"
     name: str
     old: str
@@ -39,6 +46,7 @@ class Chosen(argparse.Namespace):
     yes: bool
 
 
+Show = Callable[[Copy, Chosen], None]
 Act = Callable[[Store, Chosen], None]
 
 
@@ -51,19 +59,27 @@ def numbers(word: str) -> tuple[int, int]:
     return low, high
 
 
-def show_accounts(store: Store, chosen: Chosen) -> None:
-    accounts, games = store.accounts(), store.games()
+def show_accounts(copy: Copy, chosen: Chosen) -> None:
+    accounts, games = copy.accounts(), copy.games()
+    of_each = Counter(name for it in games for name in {name.lower() for name in it.names})
     for account in accounts:
-        print(account.name, sum(it.has(account.name) for it in games))
+        print(account.name, of_each[account.name.lower()])
     print(
         f"{len(accounts)} accounts of at most {records.MOST_ACCOUNTS}, "
         f"{len(games)} adjourned games of at most {records.MOST_GAMES}"
     )
 
 
-def show_games(store: Store, chosen: Chosen) -> None:
-    for game in changes.games_of(store, chosen.name) if chosen.name else store.games():
+def show_games(copy: Copy, chosen: Chosen) -> None:
+    for game in copy.games_of(chosen.name) if chosen.name else copy.games():
         print(game.line())
+
+
+def add(store: Store, chosen: Chosen) -> None:
+    changes.check_new_name(store, "", chosen.name)
+    changes.check_room(store)
+    changes.add(store, chosen.name, asking.password(chosen.name))
+    print(f"{chosen.name} has an account")
 
 
 def set_password(store: Store, chosen: Chosen) -> None:
@@ -80,7 +96,7 @@ def rename(store: Store, chosen: Chosen) -> None:
 
 def remove(store: Store, chosen: Chosen) -> None:
     account = changes.account_of(store, chosen.name)
-    games = changes.games_of(store, account.name)
+    games = store.games_of(account.name)
     what = chosen.games
     if games and not what:
         what = asking.one_of(
@@ -116,9 +132,10 @@ def read_words() -> Chosen:
     words.add_argument("--store", type=Path, default=STORE, metavar="FILE", help=says)
     says = "the ficsd that checks the store: the one that this belongs to where it is left out"
     words.add_argument("--program", default=program(), metavar="FILE", help=says)
+    add_version(words)
     clearing = add_commands(words)
     chosen = words.parse_args(namespace=Chosen())
-    if chosen.act is clear and not (chosen.oldest or chosen.player or chosen.numbers):
+    if not chosen.show and chosen.act is clear and not (chosen.oldest or chosen.player or chosen.numbers):
         clearing.error("which games? --oldest, --player or --numbers say it")
     return chosen
 
@@ -127,15 +144,22 @@ def add_commands(words: argparse.ArgumentParser) -> argparse.ArgumentParser:
     """Gives a command line its commands; that of the last one, `clear`."""
     commands = words.add_subparsers(required=True, metavar="COMMAND")
 
-    def command(name: str, act: Act, says: str) -> argparse.ArgumentParser:
+    def shown(name: str, show: Show, says: str) -> argparse.ArgumentParser:
         it = commands.add_parser(name, help=says, description=says)
-        it.set_defaults(act=act)
+        it.set_defaults(show=show)
         return it
 
-    command("list", show_accounts, "who has an account, and in how many adjourned games each is")
+    def command(name: str, act: Act, says: str) -> argparse.ArgumentParser:
+        it = commands.add_parser(name, help=says, description=says)
+        it.set_defaults(show=None, act=act)
+        return it
+
+    shown("list", show_accounts, "who has an account, and in how many adjourned games each is")
     says = "adjourned games, those that lie longest first: number, players, minutes, increment, variant, half-moves"
-    it = command("games", show_games, says)
+    it = shown("games", show_games, says)
     it.add_argument("name", nargs="?", default="", help="those of this player alone")
+    it = command("add", add, "makes an account, whose password is asked for twice")
+    it.add_argument("name")
     it = command("password", set_password, "sets a password, which is asked for twice")
     it.add_argument("name")
     it = command("rename", rename, "gives an account another name, in its adjourned games too")
@@ -157,8 +181,13 @@ def add_commands(words: argparse.ArgumentParser) -> argparse.ArgumentParser:
 def main() -> int:
     chosen = read_words()
     try:
-        with Store(chosen.store, chosen.program) as store:
-            chosen.act(store, chosen)
+        become_owner(chosen.store)
+        if chosen.show:
+            with copied(chosen.store) as copy:
+                chosen.show(copy, chosen)
+        else:
+            with Store(chosen.store, chosen.program) as store:
+                chosen.act(store, chosen)
     except (Refused, Spoiled) as why:
         print(f"fics_accounts: {why}", file=sys.stderr)
         return 1 if isinstance(why, Refused) else 3

@@ -9,53 +9,19 @@ import os
 import signal
 import sqlite3
 import subprocess
-from collections.abc import Callable, Iterator, Sequence
+from collections.abc import Iterator, Sequence
 from contextlib import closing, contextmanager, suppress
 from pathlib import Path
 from types import TracebackType
-from typing import TypeVar
+
+from ficsd_companions.cli.program import explained
 
 from . import records
-from .records import Account, Game
+from .faults import Refused, Spoiled, said_in_words
+from .reading import Reading
+from .records import Game
 
-Read = TypeVar("Read")
 Change = tuple[str, tuple[bytes, ...]]  # a line of SQL and its values
-
-WHO_HAS_IT = (
-    "database is locked: a server has it open, or a sqlite3. Stop the server first, as by "
-    "`systemctl stop ficsd`, and start it again behind the change"
-)
-
-
-class Refused(Exception):
-    """Why nothing was changed."""
-
-
-class Spoiled(Exception):
-    """A change that could neither be kept nor be taken back."""
-
-
-def words_of(error: sqlite3.Error, path: Path) -> str:
-    """What an error of SQLite means to an operator."""
-    code = getattr(error, "sqlite_errorname", "") or ""
-    if code.startswith(("SQLITE_BUSY", "SQLITE_LOCKED")):
-        return f"{path}: {WHO_HAS_IT}"
-    if code.startswith(("SQLITE_FULL", "SQLITE_IOERR")):
-        return f"{path}: {error}: the disk is full, or doesn't take what is written. `df` shows how much room there is"
-    if code.startswith(("SQLITE_READONLY", "SQLITE_CANTOPEN", "SQLITE_PERM")):
-        return f"{path}: {error}: this user may not write it or its folder; the user that serves may, and root"
-    return f"{path}: {error}"
-
-
-@contextmanager
-def said_in_words(path: Path) -> Iterator[None]:
-    """Errors of SQLite and of the system become a refusal."""
-    try:
-        yield
-    except sqlite3.Error as error:
-        raise Refused(words_of(error, path)) from None
-    except OSError as error:
-        raise Refused(f"{error.filename or path}: {error.strerror}") from None
 
 
 @contextmanager
@@ -81,7 +47,18 @@ def flush(path: Path) -> None:
         os.close(handle)
 
 
-class Store:
+def make_like(path: Path, like: os.stat_result) -> None:
+    """Makes an empty file with the owner and the mode of another; by its descriptor, since its name may be led
+    elsewhere meanwhile."""
+    handle = os.open(path, os.O_CREAT | os.O_EXCL | os.O_WRONLY, 0o600)
+    try:
+        os.fchown(handle, like.st_uid, like.st_gid)
+        os.fchmod(handle, like.st_mode & 0o777)
+    finally:
+        os.close(handle)
+
+
+class Store(Reading):
     """A store that is open and locked; `checker` is the program that checks one."""
 
     def __init__(self, path: Path, checker: str) -> None:
@@ -102,9 +79,7 @@ class Store:
         with said_in_words(self.path):
             for line in ("PRAGMA locking_mode = EXCLUSIVE", "PRAGMA synchronous = FULL", "BEGIN EXCLUSIVE", "COMMIT"):
                 self.base.execute(line)
-            columns = [(name, kind) for _, name, kind, *_ in self.base.execute("PRAGMA table_info(records)")]
-        if columns != [("key", "BLOB"), ("record", "BLOB")]:
-            raise Refused(f"{self.path} isn't a store of ficsd: it has no such table of records")
+            self.check_table()
 
     def close(self) -> None:
         """Copies the log into the file, as far as there is room, and gives the lock back."""
@@ -117,25 +92,6 @@ class Store:
         self, kind: type[BaseException] | None, error: BaseException | None, trace: TracebackType | None
     ) -> None:
         self.close()
-
-    def rows(
-        self, wanted: str, read: Callable[[bytes, bytes], Read], what: str = "record", values: tuple[bytes, ...] = ()
-    ) -> list[Read]:
-        """The records that a condition names, oldest first: a row keeps its place for as long as it is there."""
-        line = f"SELECT key, {what} FROM records WHERE {wanted} ORDER BY rowid"
-        with said_in_words(self.path):
-            rows = self.base.execute(line, values).fetchall()
-        try:
-            return [read(*row) for row in rows]
-        except records.BadRecord:
-            raise Refused(f"{self.path} has a bad record; `ficsd check --store` names it") from None
-
-    def accounts(self) -> list[Account]:
-        return sorted(self.rows("key < x'67'", records.read_account), key=lambda it: it.name.lower())
-
-    def games(self) -> list[Game]:
-        """The heads of the games, without their half-moves, of which a store may have a gigabyte."""
-        return self.rows("key >= x'67'", records.read_game, f"substr(record, 1, {records.MOST_OF_A_HEAD})")
 
     def whole(self, game: Game) -> Game:
         """The game of this head with its half-moves."""
@@ -151,7 +107,7 @@ class Store:
     def checked(self) -> str:
         """What `check` says."""
         try:
-            words = [self.checker, "check", "--store", str(self.path)]
+            words = [*explained(self.checker), "check", "--store", str(self.path)]
             done = subprocess.run(words, stdin=subprocess.DEVNULL, capture_output=True, text=True)
         except OSError as error:
             raise Refused(f"{self.checker}, which checks the store, can't be run: {error.strerror}") from None
@@ -162,9 +118,7 @@ class Store:
         new, like = beside(self.copy, ".new"), self.path.stat()
         new.unlink(missing_ok=True)
         try:
-            os.close(os.open(new, os.O_CREAT | os.O_EXCL | os.O_WRONLY, 0o600))
-            os.chown(new, like.st_uid, like.st_gid)
-            new.chmod(like.st_mode & 0o777)
+            make_like(new, like)
             with closing(sqlite3.connect(new)) as copy:
                 self.base.backup(copy)
             flush(new)

@@ -5,6 +5,7 @@ import re
 from dataclasses import dataclass
 from pathlib import Path
 
+from ficsd_companions.cli.version import add_version
 from ficsd_companions.cli.words import Address, address, count, handle
 
 from .terms import VARIANTS, Span, Terms, Wanted
@@ -218,6 +219,7 @@ def parser() -> argparse.ArgumentParser:
     add_engine(words)
     add_games(words)
     add_stay(words)
+    add_version(words)
     return words
 
 

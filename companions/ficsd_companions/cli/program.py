@@ -30,6 +30,13 @@ def program() -> str:
     return str(first((*INSTALLED, REPOSITORY / "ficsd")) or "ficsd")
 
 
+def explained(program: str) -> list[str]:
+    """The words that run a program which says what its status means: an installed one does where it is run by what lies
+    beside it, the launcher does by itself."""
+    runs = Path(program).with_name("run")
+    return [str(runs), "--called", "ficsd", program] if runs.is_absolute() and is_program(runs) else [program]
+
+
 def built_program() -> Path | None:
     """The program itself, for who starts it for each question: the installed one, or what the launcher has built; none
     where there is neither."""

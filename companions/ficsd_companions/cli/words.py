@@ -8,6 +8,7 @@ from pathlib import Path
 from typing import NamedTuple
 
 MOST_PORT = 65535
+COUNTS = "a file that is kept at how much was refused, and why; fics_watch --metrics tells it"
 
 
 class Address(NamedTuple):

@@ -4,6 +4,11 @@ import socket
 import subprocess
 from pathlib import Path
 
+from ficsd_companions.accounts.faults import Refused
+from ficsd_companions.accounts.reading import copied
+from ficsd_companions.bot.options import HOUSE as SEARCH
+from ficsd_companions.bot.uci import NoEngine, path_of
+
 PAGE_PYTHON = "/usr/bin/python3"  # the one by which companions/fics_web runs
 
 
@@ -54,3 +59,30 @@ def check_folder(store: Path) -> None:
         probe.unlink()
     except OSError as fault:
         raise Missing(f"{folder} can't be written: {fault.strerror}") from fault
+
+
+def check_engine(name: str) -> None:
+    """House's engine is the house's search, or a program that is there."""
+    if SEARCH.fullmatch(name):
+        return
+    try:
+        path_of(name)
+    except NoEngine as fault:
+        raise Missing(f"House can't begin: {fault}, and it is none of house:1 to house:4") from fault
+
+
+def check_password(store: Path, house: str) -> None:
+    """A House that has an account has its password beside the store."""
+    password = store.with_name(f"{store.name}-house")
+    if password.exists() or not store.exists():
+        return
+    try:
+        with copied(store) as copy:
+            names = [it.name for it in copy.accounts()]
+    except Refused:
+        return  # of which the server tells
+    if house in names:
+        raise Missing(
+            f"{house} has an account in {store}, and {password}, its password, isn't there. Put that file back, or set "
+            f"another password by `companions/fics_accounts --store {store} password {house}` and write it there"
+        )

@@ -4,6 +4,8 @@ import argparse
 from dataclasses import dataclass
 from pathlib import Path
 
+from ficsd_companions.cli.program import is_program
+from ficsd_companions.cli.version import add_version
 from ficsd_companions.cli.words import MOST_PORT, count
 
 PAGE_BEHIND = 2  # the page's port is so far behind the server's
@@ -38,8 +40,8 @@ def store(word: str) -> Path:
 def program(word: str) -> Path:
     """A built program."""
     path = Path(word)
-    if not path.is_file():
-        raise argparse.ArgumentTypeError(f"{word} is no program")
+    if not is_program(path):
+        raise argparse.ArgumentTypeError(f"{word} is no program that this user can run")
     return path.absolute()
 
 
@@ -79,4 +81,5 @@ def chosen(arguments: list[str]) -> Chosen:
         help="serves before any proof, after some minutes; for a first look",
     )
     built.add_argument("--program", type=program, metavar="FILE", help="serves by a program that was built elsewhere")
+    add_version(words)
     return Chosen(**vars(words.parse_args(arguments)))

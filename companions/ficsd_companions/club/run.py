@@ -15,10 +15,12 @@ def main() -> int:
     chosen = options.chosen(sys.argv[1:])
     try:
         checks.check_page()
+        checks.check_engine(chosen.engine)
         for port in (chosen.port, chosen.page_port):
             checks.check_port(port)
         if chosen.store:
             checks.check_folder(chosen.store)
+            checks.check_password(chosen.store.absolute(), evening.HOUSE)
         with tempfile.TemporaryDirectory(prefix="club-") as folder:
             asyncio.run(evening.spend(chosen, REPOSITORY, Path(folder)))
     except checks.Missing as missing:

@@ -2,11 +2,13 @@
 
 import argparse
 import re
+import shutil
 from dataclasses import dataclass
 from datetime import datetime
 from pathlib import Path
 
 from ficsd_companions.cli.program import built_program, program
+from ficsd_companions.cli.version import add_version
 from ficsd_companions.cli.words import Address, address, amount, count, handle, seconds
 from ficslink.terms import Terms
 
@@ -119,6 +121,7 @@ def parser() -> argparse.ArgumentParser:
     add("--name", type=handle, default="Director", metavar="NAME", help="its own name; Director without")
     add("--password-file", type=Path, metavar="FILE", help="a file with that name's password, readable by nobody else")
     add_evening(words)
+    add_version(words)
     return words
 
 
@@ -130,6 +133,8 @@ def chosen(arguments: list[str]) -> Chosen:
         words.error("--pgn and --archive go together")
     if not read.at and not read.chief:
         words.error("--at TIME or --chief NAME is wanted, else it never begins")
+    if not shutil.which(read.program):
+        words.error(f"{read.program} is no program that this user can run")
     read.absent *= 60
     read.both_away = Verdict.HALF if read.both_away == "half" else Verdict.NONE
     read.chief = frozenset(it.lower() for it in read.chief)

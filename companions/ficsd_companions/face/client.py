@@ -7,6 +7,7 @@ from collections.abc import AsyncIterator
 
 from ficsd_companions.limits.pace import Flood, Pace
 from ficsd_companions.limits.pieces import PIECE
+from ficsd_companions.limits.refused import Why
 
 from . import texts
 from .wire import IAC
@@ -23,7 +24,11 @@ KEEPALIVE_TIMES = ((socket.TCP_KEEPIDLE, 60), (socket.TCP_KEEPINTVL, 15), (socke
 
 
 class Cut(Exception):
-    """The client is cut off; the text is what it is told, perhaps nothing."""
+    """The client is cut off; the text is what it is told, perhaps nothing, and `why` is set where it is refused."""
+
+    def __init__(self, text: str, why: Why | None = None) -> None:
+        super().__init__(text)
+        self.why = why
 
 
 class Client:
@@ -70,14 +75,14 @@ class Client:
                     yield line
                 await asyncio.sleep(0)
         except Flood as flood:
-            raise Cut(texts.CUT.format(flood)) from None
+            raise Cut(texts.CUT.format(flood), Why.FLOOD) from None
 
     def look(self, piece: bytes) -> None:
         """Cuts a browser off before anything of it is a line."""
         if len(self.first) <= LONGEST_METHOD:
             self.first += piece[: LONGEST_METHOD + 1]
             if REQUEST.match(self.first):
-                raise Cut("")
+                raise Cut("", Why.BROWSER)
 
     async def taken(self) -> None:
         """Waits until it has taken enough of what was said."""

@@ -8,8 +8,11 @@ writes `closed`. It keeps one link of its own to the server, which stays at the 
 import argparse
 import asyncio
 import sys
+from pathlib import Path
 
-from ficsd_companions.cli.words import Address, address, count, port
+from ficsd_companions.cli.version import add_version
+from ficsd_companions.cli.words import COUNTS, Address, address, count, port
+from ficsd_companions.limits.refused import Refused
 
 from .server import LINKS, GoBetween
 
@@ -21,6 +24,7 @@ class Chosen(argparse.Namespace):
     listen: int
     bind: str
     links_from_one: int
+    counts: Path | None
 
 
 def read_words() -> Chosen:
@@ -47,13 +51,16 @@ def read_words() -> Chosen:
         metavar="N",
         help="how many links one address may have at a time: 32 where it is left out",
     )
+    add_version(words)
+    words.add_argument("--counts", type=Path, metavar="FILE", help=COUNTS)
     return words.parse_args(namespace=Chosen())
 
 
 def main() -> int:
     chosen = read_words()
     try:
-        asyncio.run(GoBetween(chosen.server, chosen.links_from_one).serve(chosen.bind, chosen.listen))
+        refused = Refused("fics_face", chosen.counts)
+        asyncio.run(GoBetween(chosen.server, chosen.links_from_one, refused).serve(chosen.bind, chosen.listen))
     except OSError as error:
         print(f"fics_face: {error}", file=sys.stderr)
         return 1

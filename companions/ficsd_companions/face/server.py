@@ -9,6 +9,7 @@ from ficsd_companions.cli.words import Address as Place
 from ficsd_companions.limits import descriptors
 from ficsd_companions.limits.addresses import Address, Addresses
 from ficsd_companions.limits.pieces import Pieces
+from ficsd_companions.limits.refused import Refused, Why
 
 from . import texts
 from .client import Client, Cut
@@ -24,14 +25,16 @@ SERVER_SECONDS = 10  # for the server to take a link
 POLL_SECONDS = 4
 ENDING_SECONDS = 10  # for what is due to be answered and passed on, once one side has ended
 
+REFUSALS = {Why.FULL: texts.FULL, Why.MANY_LINKS: texts.MANY_LINKS, Why.TOO_OFTEN: texts.TOO_OFTEN}
+
 Streams = tuple[asyncio.StreamReader, asyncio.StreamWriter]
 
 
 class GoBetween:
     """The go-between of one server. A link of its own, which stays at the login, tells when the server has ended."""
 
-    def __init__(self, place: Place, links_from_one: int = 32) -> None:
-        self.place = place
+    def __init__(self, place: Place, links_from_one: int = 32, refused: Refused | None = None) -> None:
+        self.place, self.refused = place, refused or Refused("fics_face")
         self.addresses = Addresses(links_from_one)
         self.shared = Shared()
         self.links: set[asyncio.Task[None]] = set()
@@ -43,9 +46,11 @@ class GoBetween:
         loop = asyncio.get_running_loop()
         door = await loop.create_server(self.newcomer, address, port, backlog=BACKLOG)
         print("ready", flush=True)
+        telling = asyncio.create_task(self.refused.tell())
         with suppress(OSError):
             while await reader.read(PIECE):
                 pass
+        telling.cancel()
         writer.close()
         door.close()
         if self.links:
@@ -55,20 +60,21 @@ class GoBetween:
         """The protocol of one client."""
         return Pieces(asyncio.StreamReaderProtocol(asyncio.StreamReader(limit=PIECE), self.take))
 
-    def refusal(self, address: Address) -> str | None:
+    def refusal(self, address: Address) -> Why | None:
         """Why the address gets no link now; none where it does."""
         if len(self.links) >= LINKS:
-            return texts.FULL
+            return Why.FULL
         if address.has_many_links:
-            return texts.MANY_LINKS
-        return None if address.coming.take() else texts.TOO_OFTEN
+            return Why.MANY_LINKS
+        return None if address.coming.take() else Why.TOO_OFTEN
 
     async def take(self, reader: asyncio.StreamReader, writer: asyncio.StreamWriter) -> None:
         """One client, from its coming to its end."""
         client = Client(reader, writer)
         address = self.addresses.of(client.address)
         if why := self.refusal(address):
-            client.say_lines(why)
+            self.refused.count(why)
+            client.say_lines(REFUSALS[why])
             writer.close()
             return
         task = asyncio.current_task()
@@ -78,6 +84,8 @@ class GoBetween:
         try:
             await self.link(client, address, *await self.server_end())
         except Cut as cut:
+            if cut.why:
+                self.refused.count(cut.why)
             await client.cut(str(cut))
         except asyncio.CancelledError:
             pass  # the go-between itself ends, and waits for its links no longer
@@ -99,6 +107,7 @@ class GoBetween:
         """Both directions of one link. It ends once the server has closed it and all that it wrote is passed on."""
         server, later = ServerEnd(reader, writer), asyncio.get_running_loop().call_later
         session = Session(self.shared, client.say, server.say, server.say_no_more, later, address.guesses)
+        session.wrong_password = lambda: self.refused.wrong_password(client.address)
         up, down, login, _ = tasks = [
             asyncio.create_task(it)
             for it in (go_up(client, session, server), go_down(client, session, server), log_in(session), poll(session))
@@ -144,7 +153,7 @@ async def log_in(session: Session) -> None:
     """Lets the login take its time and no more."""
     await asyncio.sleep(LOGIN_SECONDS)
     if not session.is_in:
-        raise Cut(texts.NO_LOGIN)
+        raise Cut(texts.NO_LOGIN, Why.NO_LOGIN)
     await asyncio.get_running_loop().create_future()
 
 

@@ -6,6 +6,7 @@ from enum import Enum, auto
 
 from ficslink.board import MINE
 from ficslink.lines import Entered, GameListed, Refused, listed, parse
+from ficslink.refusals import Refusal
 from ficslink.stamps import ACKNOWLEDGEMENT
 from ficslink.terms import Terms
 from ficslink.texts import LOGIN, PASSWORD, READY, Part, Parts
@@ -55,6 +56,7 @@ class Session:
     ) -> None:
         self.shared, self.to_client, self.to_server = shared, to_client, to_server
         self.end_to_server, self.later, self.guesses = end_to_server, later, guesses
+        self.wrong_password: Callable[[], object] = lambda: None  # which is told of each
         self.name = self.typed_name = ""
         self.stage = Stage.GREETING
         self.with_password = self.client_has_ended = False
@@ -176,6 +178,8 @@ class Session:
             text = texts.BANNER
         elif part.lines and isinstance(refused := parse(part.lines[0]), Refused):
             known = refused.refusal.refusal
+            if known is Refusal.WRONG_PASSWORD:
+                self.wrong_password()
             text = texts.LOGIN_REFUSALS.get(known, text) if known else text
             text = text.format(name=self.typed_name) + self.drop_ahead()
         self.stage = Stage.NAME

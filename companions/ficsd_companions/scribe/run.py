@@ -13,6 +13,7 @@ from pathlib import Path
 
 from ficslink.secret import BadSecret, password_in
 
+from ficsd_companions.cli.version import add_version
 from ficsd_companions.cli.words import Address, address, handle, seconds
 
 from .archive import Archive
@@ -70,6 +71,7 @@ def read_words() -> Chosen:
         metavar="S",
         help="how often it asks which games there are: each 0.02 seconds without",
     )
+    add_version(words)
     return words.parse_args(namespace=Chosen())
 
 

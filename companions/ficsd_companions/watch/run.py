@@ -1,5 +1,6 @@
 """Looks whether a server comes near one of its limits: adjourned games, accounts, members, and room on the disk of its
-store. It says what it has found on one line, and each bound that is crossed on a line of its own.
+store. It says what it has found on one line, and each bound that is crossed on a line of its own. With --metrics it
+tells what there is in the form that Prometheus reads, and with --every it goes on, a line each time.
 
 It is no part of what is proved. It reads the store beside the server and enters the hall as a guest for a moment.
 """
@@ -9,13 +10,16 @@ from pathlib import Path
 
 from ficsd_companions.accounts import records
 from ficsd_companions.cli.program import program
-from ficsd_companions.cli.words import count, port
+from ficsd_companions.cli.version import add_version
+from ficsd_companions.cli.words import count, port, seconds
 
-from . import guest, shelf
+from . import guest, rounds, shelf
+from .seen import Places
 
 CROSSED = 3
 WARNING = "<4>"  # by which the journal knows a line of a warning
 STORE = Path("/var/lib/ficsd/club.db")
+KEPT = Path("/run/fics_meter/metrics")  # where the unit that goes on keeps what it has seen
 
 
 class Chosen(argparse.Namespace):
@@ -28,6 +32,10 @@ class Chosen(argparse.Namespace):
     members: int
     disk: int
     program: str
+    metrics: str | None
+    every: float | None
+    archive: Path | None
+    counts: list[Path]
 
 
 def look(chosen: Chosen) -> tuple[list[str], list[str]]:
@@ -102,15 +110,57 @@ def read_words() -> Chosen:
         metavar="FILE",
         help="the ficsd that checks the store: the one that this belongs to where it is left out",
     )
-    return words.parse_args(namespace=Chosen())
+    add_version(words)
+    add_metrics(words)
+    chosen = words.parse_args(namespace=Chosen())
+    if chosen.metrics and not chosen.every:
+        words.error("a file of metrics is kept with --every")
+    return chosen
+
+
+def add_metrics(words: argparse.ArgumentParser) -> None:
+    """What is told of a club that runs."""
+    words.add_argument(
+        "--metrics",
+        nargs="?",
+        const="",
+        metavar="FILE",
+        help="the form that Prometheus reads, in place of bounds: on the standard output, or with --every kept in FILE",
+    )
+    words.add_argument(
+        "--every",
+        type=seconds(1, 86400),
+        metavar="SECONDS",
+        help="goes on until it is ended: a line each time, and a warning at once where the disk takes nothing",
+    )
+    words.add_argument(
+        "--archive", type=Path, metavar="DIR", help="the folder into which fics_scribe writes, whose bytes are counted"
+    )
+    words.add_argument(
+        "--counts",
+        type=Path,
+        action="append",
+        default=[],
+        metavar="FILE",
+        help="what a go-between keeps by its own --counts; as often as wanted",
+    )
 
 
 def main() -> int:
+    chosen = read_words()
+    places = Places(chosen.store, chosen.port, chosen.archive, chosen.counts)
     try:
-        found, crossed = look(read_words())
+        if chosen.every:
+            rounds.go_on(places, chosen.every, Path(chosen.metrics) if chosen.metrics else None)
+        if chosen.metrics is not None:
+            rounds.print_once(places, KEPT if chosen.store == STORE else None)
+            return 0
+        found, crossed = look(chosen)
     except (guest.NoAnswer, shelf.Unreadable, OSError) as why:
         print(f"{WARNING}fics_watch: {why}")
         return 1
+    except KeyboardInterrupt:
+        return 130
     print(f"fics_watch: {', '.join(found)}")
     for it in crossed:
         print(f"{WARNING}fics_watch: {it}")

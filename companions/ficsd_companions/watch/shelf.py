@@ -11,6 +11,7 @@ from contextlib import closing, contextmanager, suppress
 from pathlib import Path
 
 from ficsd_companions.accounts import records
+from ficsd_companions.cli.program import explained
 
 ROOM = 65536  # bytes; some records of a store
 TRIES = 5  # to copy a store while nothing is put into it
@@ -24,7 +25,8 @@ class Unreadable(Exception):
 
 def counts(program: str, path: Path) -> tuple[int, int]:
     """How many accounts and adjourned games the store has."""
-    done = subprocess.run([program, "check", "--store", path], stdin=subprocess.DEVNULL, capture_output=True, text=True)
+    words = [*explained(program), "check", "--store", str(path)]
+    done = subprocess.run(words, stdin=subprocess.DEVNULL, capture_output=True, text=True)
     found = re.fullmatch(r"ok: (\d+) accounts, (\d+) games\n", done.stdout)
     if not found:
         raise Unreadable(done.stdout.strip() or done.stderr.strip() or f"`check` ended with {done.returncode}")

@@ -10,6 +10,7 @@ from typing import Protocol
 
 from aiohttp import web
 from ficsd_companions.limits.pace import Flood, Pace
+from ficsd_companions.limits.refused import Refused
 
 PIECE, TAB_PIECE = 256, 96  # bytes; a tab's may be as many messages as a sixth of that
 MOST_IN_PIECES = 8192  # bytes without a whole message, which is longer than the longest one
@@ -20,7 +21,9 @@ ANSWERED_SECONDS = 60  # for its answer to go, and the next request to come
 
 
 class Doorkeeper(Protocol):
-    """Who lets connections in, and is told of them."""
+    """Who lets connections in, is told of them, and counts what is refused."""
+
+    refused: Refused
 
     def lets_in(self, gate: "Gate") -> bool:
         """Whether a connection may come."""
@@ -40,6 +43,7 @@ class Gate(asyncio.BufferedProtocol):
     transport: asyncio.Transport
     socket: socket.socket
     peer: str  # its address
+    visitor: str  # the address of who asks by it, behind a proxy
     pace: Pace  # of a tab
     flooded: asyncio.Future[None] | None = None  # which ends where a tab has sent too much
 

@@ -6,6 +6,8 @@ from collections.abc import Awaitable
 from aiohttp import WSCloseCode, WSMessage, WSMsgType, web
 from ficsd_companions.limits.addresses import Address
 from ficsd_companions.limits.pace import Flood, Pace
+from ficsd_companions.limits.refused import Why
+from ficslink.refusals import Refusal
 
 from . import closes, seats
 from .closes import Closed
@@ -77,6 +79,7 @@ class Link:
         if isinstance(why, Closed):
             await goodbye(self.tab, self.gate, why.code, str(why))
         elif isinstance(why, Flood):
+            self.gate.porter.refused.count(Why.FLOOD)
             await goodbye(self.tab, self.gate, closes.FLOOD.code, str(why))
         elif why is None:
             await goodbye(self.tab, self.gate, self.code, "")
@@ -145,6 +148,8 @@ class Link:
             await self.settle()
             if self.talk.name:
                 self.address.guesses.give_back()
+            elif self.talk.refusal is Refusal.WRONG_PASSWORD:
+                self.gate.porter.refused.wrong_password(self.gate.visitor)
 
     async def settle(self) -> None:
         """Waits until the server owes no answer."""
@@ -209,6 +214,7 @@ class Link:
         """Lets the login take its time and no more."""
         await asyncio.sleep(LOGIN_SECONDS)
         if not self.talk.name:
+            self.gate.porter.refused.count(Why.NO_LOGIN)
             raise closes.closed(closes.NO_LOGIN)
         await asyncio.get_running_loop().create_future()
 

@@ -3,6 +3,7 @@
 from aiohttp import web
 from ficsd_companions.limits import descriptors
 from ficsd_companions.limits.addresses import Address, Addresses
+from ficsd_companions.limits.refused import Refused, Why
 
 from . import closes
 from .closes import Close
@@ -13,14 +14,15 @@ PLACES = 256
 WAITING = 512  # connections that are no tabs
 REFUSED_REQUESTS = 32  # as which a tab counts that isn't let in
 SPARE = 48  # files for the program itself, and for connections that are being closed
+REASONS = {closes.FULL: Why.FULL, closes.MANY_TABS: Why.MANY_LINKS, closes.TOO_OFTEN: Why.TOO_OFTEN}
 
 
 class Porter:
     """Counts connections and places. A connection of a trusted proxy counts for no address, and a place for the one
     that the proxy names."""
 
-    def __init__(self, proxies: Proxies, most_from_one: int) -> None:
-        self.proxies, self.addresses = proxies, Addresses(most_from_one)
+    def __init__(self, proxies: Proxies, most_from_one: int, refused: Refused) -> None:
+        self.proxies, self.addresses, self.refused = proxies, Addresses(most_from_one), refused
         self.places = PLACES
         # the gates of connections that are no tabs, the oldest first, and the addresses for which they count
         self.waiting: dict[Gate, Address | None] = {}
@@ -33,6 +35,7 @@ class Porter:
         """Whether a connection may come. Where too many wait that are no tabs, the one that waits longest goes."""
         address = self.counted(gate)
         if address and (address.has_many_connections or not address.requests.has_one):
+            self.refused.count(Why.CONNECTIONS)
             return False
         if len(self.waiting) >= self.most_waiting:
             next(iter(self.waiting)).abort()
@@ -56,7 +59,8 @@ class Porter:
 
     def visitor(self, request: web.BaseRequest, gate: Gate) -> Address:
         """The address of who asks."""
-        return self.addresses.of(self.proxies.visitor(gate.peer, request.headers))
+        gate.visitor = self.proxies.visitor(gate.peer, request.headers)
+        return self.addresses.of(gate.visitor)
 
     # ---- places ----
 
@@ -66,6 +70,7 @@ class Porter:
         why = self.why_not(address)
         if why:
             address.requests.take(REFUSED_REQUESTS)
+            self.refused.count(REASONS[why])
         return why
 
     def why_not(self, address: Address) -> Close | None:

@@ -14,7 +14,8 @@ import sys
 from pathlib import Path
 
 from ficsd_companions.cli.program import PAGE
-from ficsd_companions.cli.words import address, count, folder_with, port
+from ficsd_companions.cli.version import add_version
+from ficsd_companions.cli.words import COUNTS, address, count, folder_with, port
 
 try:
     from . import logs
@@ -73,6 +74,8 @@ def options() -> argparse.ArgumentParser:
         metavar="DIR",
         help="the folder into which fics_scribe writes: its games are shown below /games/",
     )
+    add_version(words)
+    words.add_argument("--counts", type=Path, metavar="FILE", help=COUNTS)
     words.add_argument("--plain", action="store_true", help="refuse stamped lines: every clock is the server's own")
     return words
 
@@ -114,6 +117,7 @@ def main() -> int:
         tabs_from_one=chosen.tabs_from_one,
         refuses_stamps=chosen.plain,
         archive=chosen.archive,
+        counts=chosen.counts,
     )
     logs.quieten()
     try:

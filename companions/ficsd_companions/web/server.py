@@ -6,6 +6,7 @@ from asyncio import StreamReader, StreamWriter
 
 from aiohttp import web
 from aiohttp.typedefs import Handler
+from ficsd_companions.limits.refused import Refused, Why
 
 from .archived import Archived
 from .gate import Gate, gate_of
@@ -30,7 +31,8 @@ class GoBetween:
     def __init__(self, settings: Settings) -> None:
         self.server = settings.server
         self.hosts, self.pages = Hosts(settings.hosts), Pages(settings.folder)
-        self.porter = Porter(Proxies(settings.proxies), settings.tabs_from_one)
+        self.refused = Refused("fics_web", settings.counts)
+        self.porter = Porter(Proxies(settings.proxies), settings.tabs_from_one, self.refused)
         self.archived = Archived(settings.archive, self.pages, self.counts) if settings.archive else None
         self.tabs = Tabs(settings, self.porter)
 
@@ -46,7 +48,12 @@ class GoBetween:
         await runner.setup()
         assert runner.server
         serving: web.Server = runner.server
-        work = [self.watch(*watch), self.tabs.lists.run(), *([self.archived.begin()] if self.archived else [])]
+        work = [
+            self.watch(*watch),
+            self.refused.tell(),
+            self.tabs.lists.run(),
+            *([self.archived.begin()] if self.archived else []),
+        ]
         tasks = [asyncio.create_task(it) for it in work]
         try:
             door = await loop.create_server(lambda: Gate(self.porter, serving()), address, port, backlog=BACKLOG)
@@ -102,6 +109,7 @@ class GoBetween:
         if not self.hosts.has(request.headers.get("Host", "")):
             raise web.HTTPMisdirectedRequest(text="no page is served under this name; --host names one")
         if not self.porter.visitor(request, gate).requests.take():
+            self.refused.count(Why.REQUESTS)
             refusal = web.HTTPTooManyRequests(text="too many requests from this address")
             refusal.force_close()
             raise refusal

@@ -19,3 +19,4 @@ class Settings:
     tabs_from_one: int = 32
     refuses_stamps: bool = False
     archive: Path | None = None  # the folder of the scribe's
+    counts: Path | None = None  # the file in which stands what was refused

@@ -6,7 +6,8 @@ from collections.abc import Iterable
 from enum import Enum
 
 from ficslink import stamps
-from ficslink.lines import Entered, parse
+from ficslink.lines import Entered, Refused, parse
+from ficslink.refusals import Refusal
 from ficslink.texts import NEWS_BEGIN, PASSWORD, PROMPTS, Message, Messages, spelled
 
 from . import lines
@@ -42,6 +43,7 @@ class Talk:
         self.has_sent = self.is_stamped = False
         self.taken = 0  # lines of the tab, as it counts them
         self.name: str | None = None
+        self.refusal: Refusal | None = None  # the last one before the login is done
         self.prompt: str | None = None
 
     # ---- from the tab ----
@@ -130,6 +132,7 @@ class Talk:
         if self.name is None and self.asked_by is Asker.THE_TAB:
             read = parse(line)
             self.name = read.who if isinstance(read, Entered) else None
+            self.refusal = read.refusal.refusal if isinstance(read, Refused) else None
 
 
 def as_news(messages: Iterable[str], is_within: bool) -> list[str]:

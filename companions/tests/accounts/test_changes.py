@@ -34,6 +34,25 @@ class TestLists:
         assert os.listdir(store.path.parent) == ["club.db"]
 
 
+class TestAdditions:
+    def test_add(self, store: Store) -> None:
+        store.done("add", "Eve", given="new one\nnew one\n")
+        assert rows_of(store.path) == [*store.rows, records.account("Eve", "new one")]
+        assert checked(store.path) == "ok: 5 accounts, 5 games"
+
+    def test_add_refused(self, store: Store) -> None:
+        for name in ("Al", "A" * 18, "Eve1", "Guest", "", "Éve"):
+            store.refused("add", name, given="a\na\n", said="can't be a name")
+        store.refused("add", "aNN", given="a\na\n", said="somebody's account already")
+        store.refused("add", "Eve", given="a\nb\n", said="differ")
+        store.done("remove", "dan", "--games", "keep")
+        store.refused("add", "Dan", given="a\na\n", said="3 adjourned games are of somebody who was Dan")
+
+    def test_no_more_than_there_may_be(self, store: Store) -> None:
+        store.fill(records.account(records.handle_of(n), "secret") for n in range(4096))
+        store.refused("add", "Eve", given="a\na\n", said="there are 4096 accounts")
+
+
 class TestPasswords:
     def test_password(self, store: Store) -> None:
         store.done("password", "aNN", given="new one\nnew one\n")

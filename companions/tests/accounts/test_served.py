@@ -76,16 +76,34 @@ def serving(store: Store) -> Iterator[Serving]:
         yield Serving(store, ends)
 
 
+def test_what_is_there_while_it_runs(store: Store) -> None:
+    """Also what is in the log alone."""
+    with serving(store) as club:
+        club.play()
+        club.until_kept("ok: 2 accounts, 1 games")
+        lines = ["Ann 1", "Ben 1", "2 accounts of at most 4096, 1 adjourned games of at most 10000"]
+        assert store.tool("list").stdout.splitlines() == lines
+        assert store.tool("games", "ann").stdout == "1 Ann Ben 2 12 chess, 3 half-moves\n"
+
+
+def test_add_and_enter(store: Store) -> None:
+    with serving(store) as club:
+        club.registered("Ann")
+        club.until_kept("ok: 1 accounts, 0 games")
+    store.done("add", "Eve", given="the word of Eve\nthe word of Eve\n")
+    with serving(store) as club:
+        club.enter("Eve", "the word of Eve")
+
+
 def test_locked_while_it_runs(store: Store) -> None:
     with serving(store) as club:
         club.registered("Ann")
         club.until_kept("ok: 1 accounts, 0 games")
         for words in (
-            ["list"],
+            ["add", "eve"],
             ["password", "ann"],
             ["rename", "ann", "Xenia"],
             ["remove", "ann"],
-            ["games"],
             ["clear", "--oldest", "1"],
         ):
             it = store.tool(*words, given="a\na\n")

@@ -1,8 +1,10 @@
 """Which stores are taken, how their files stay, and what becomes of a store that `check` doesn't find good."""
 
 import os
+import sqlite3
 import subprocess
 import sys
+from contextlib import closing
 from pathlib import Path
 
 import pytest
@@ -44,6 +46,14 @@ class TestTaken:
         store.fill([*store.rows, records.game(6, "Ann", "Ben", ["e2e5"])])
         store.refused("password", "ann", given="a\na\n", said="bad record 67")
 
+    def test_another_table(self, store: Store) -> None:
+        store.path.unlink()
+        with closing(sqlite3.connect(store.path)) as base:
+            base.execute("CREATE TABLE records (key TEXT PRIMARY KEY, record TEXT)")
+        for words in (["list"], ["password", "ann"]):
+            it = store.tool(*words, given="a\na\n")
+            assert (it.returncode, "isn't a store of ficsd" in it.stderr) == (1, True), it.stderr
+
     @pytest.mark.root
     def test_files_stay_as_they_are(self, store: Store) -> None:
         store.path.chmod(0o640)
@@ -62,8 +72,9 @@ class TestTaken:
         with subprocess.Popen(words, stdin=subprocess.PIPE, stdout=subprocess.PIPE, text=True) as other:
             assert other.stdin and other.stdout
             assert other.stdout.readline() == "has it\n"
-            store.refused("list", said="database is locked")
+            store.refused("password", "ann", given="a\na\n", said="database is locked")
             store.refused("password", "ann", given="a\na\n", said="Stop the server first")
+            assert store.tool("list").stdout.splitlines()[-1].startswith("4 accounts ")
             other.stdin.close()
         store.done("password", "ann", given="a\na\n")
 

@@ -9,7 +9,7 @@ from pathlib import Path
 from ficsd_companions.club.checks import is_answering
 from ficslink.lines import Challenge
 from tests.club.conftest import Clubs
-from tests.kit import paths
+from tests.kit import paths, records
 from tests.kit.ports import free_ports_for_a_club
 from tests.kit.running import PATIENCE, Run, async_wait_until
 
@@ -149,8 +149,29 @@ def test_what_isnt_there(clubs: Clubs, tmp_path: Path) -> None:
             run.until(rf"^club: port {port + behind} can't be had \(Address already in use\); ss -ltnp says who")
     club = clubs.begun("--program", paths.program, "--engine", "/nonexistent")
     assert club.rest() == 1
-    club.until("there is no engine /nonexistent", club.out)
-    club.until("^club: House can't begin, with status 2$")
+    club.until("^club: House can't begin: there is no engine /nonexistent: ")
+    assert club.out == []
+    program = tmp_path / "program"
+    program.write_bytes(b"")
+    assert clubs.begun("--program", program).rest() == 2
+
+
+def test_the_engine_is_looked_for_before_anything_is_built(clubs: Clubs, tmp_path: Path) -> None:
+    """Without a program or a toolchain, as where the build would come first."""
+    club = clubs.begun("--engine", "stokfish", env={**os.environ, "PATH": "/usr/bin:/bin"})
+    assert club.rest() == 1
+    assert (len(club.log), club.out) == (1, [])
+    club.until("^club: House can't begin: there is no engine stokfish: no such program")
+
+
+def test_a_password_of_house_that_is_lost(clubs: Clubs, tmp_path: Path) -> None:
+    """The file is named."""
+    store = tmp_path / "club.db"
+    records.make_store(store, [records.account("House", "secret")])
+    club = clubs.begun("--program", paths.program, "--store", store)
+    assert club.rest() == 1
+    club.until(f"^club: House has an account in {store}, and {store}-house, its password, isn't there")
+    assert club.out == []
 
 
 def test_a_store_that_is_none(clubs: Clubs, tmp_path: Path) -> None:

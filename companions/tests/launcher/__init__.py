@@ -1,0 +1,1 @@
+"""The command `ficsd`, as the repository's launcher and the installed one run the program."""
