@@ -54,6 +54,8 @@ class Index:
         self.players: dict[str, Player] = {}
         self.pairs: dict[str, Span] = {}  # by the link of the first board
         self.count = 0
+        self.serial = 0  # of the last look that has found something
+        self._changed: dict[str, int] = {}  # of each day that of the last look that has changed it
         self._reads: dict[str, Read] = {}
         self._texts = Texts()
         self._looked = -AT_LEAST_SECONDS
@@ -85,6 +87,10 @@ class Index:
     def player(self, name: str) -> Player | None:
         return self.players.get(name.casefold())
 
+    def changed_since(self, serial: int) -> list[str]:
+        """The days with other games than behind an earlier look."""
+        return [day for day, it in self._changed.items() if it > serial] if serial != self.serial else []
+
     # ---- reading ----
 
     def refresh(self) -> None:
@@ -100,6 +106,7 @@ class Index:
         if not faults:  # else what isn't seen may be there all the same
             self._forget(set(self._reads) - seen)
         self._add(sorted(fresh))
+        self.serial = max(self._changed.values(), default=0)
         self._tell("; ".join(map(str, faults[:1])))
         self._looked = time.monotonic()
 
@@ -162,6 +169,7 @@ class Index:
                 self.days[it.day] = []
                 insort(self.known_days, it.day)
             put(self.days[it.day], it)
+            self._changed[it.day] = self.serial + 1
             for name in {name.casefold(): name for name in it.players}.values():
                 player = self.players.setdefault(name.casefold(), Player(name))
                 put(player.games, it)
@@ -179,6 +187,7 @@ class Index:
                     gone[name].append(it)
                 self.count -= 1
             self.days[day] = [it for it in self.days[day] if it.span.path not in paths]
+            self._changed[day] = self.serial + 1
             if not self.days[day]:
                 del self.days[day]
                 self.known_days.remove(day)
