@@ -14,6 +14,7 @@ from pathlib import Path
 from ficslink.secret import BadSecret, password_in
 
 from ficsd_companions.cli.words import Address, address, handle, seconds
+from ficsd_companions.names.known import Names
 
 from .archive import Archive
 from .scribe import Fault, Scribe
@@ -29,13 +30,15 @@ class Chosen(argparse.Namespace):
     name: str
     password_file: str | None
     site: str | None
+    accounts: Path | None
     every: float
 
 
 async def work(chosen: Chosen) -> None:
     """Keeps games until a signal comes."""
     password = password_in(chosen.password_file) if chosen.password_file else None
-    archive = Archive(chosen.archive, chosen.site or chosen.server.host)
+    names = Names(chosen.accounts) if chosen.accounts else None
+    archive = Archive(chosen.archive, chosen.site or chosen.server.host, names)
     scribe = asyncio.create_task(Scribe(chosen.server, chosen.name, password, archive, chosen.every).run())
     for it in (signal.SIGINT, signal.SIGTERM):
         asyncio.get_running_loop().add_signal_handler(it, scribe.cancel)
@@ -59,6 +62,13 @@ def read_words() -> Chosen:
         "--password-file", metavar="FILE", help="a file with that member's password, readable by nobody else"
     )
     words.add_argument("--site", metavar="TEXT", help="what the games' tag Site says; the server's host without")
+    words.add_argument(
+        "--accounts",
+        type=Path,
+        metavar="FILE",
+        help="who has an account, which the games' tags say then: the server's store, or a list of names, a line each, "
+        "as fics_names keeps one",
+    )
     words.add_argument(
         "--every",
         type=seconds(0.01, 60),
