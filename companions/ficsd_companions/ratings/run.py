@@ -93,8 +93,8 @@ def read_words() -> Chosen:
     it = argparse.ArgumentParser(
         prog="fics_ratings",
         description=(__doc__ or "").split("\n\n", maxsplit=1)[0],
-        epilog="Statuses: 0 done, or Ctrl-C or SIGTERM; 1 the archive can't be read, the server refuses it, or messages "
-        "can't be kept; 2 other words than these.",
+        epilog="Statuses: 0 done, or Ctrl-C or SIGTERM; 1 the archive can't be read, the server refuses it, or "
+        "messages can't be kept; 2 other words than these.",
     )
     it.add_argument(
         "--archive", type=Path, required=True, metavar="DIR", help="the folder into which fics_scribe writes"

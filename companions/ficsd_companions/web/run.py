@@ -73,6 +73,11 @@ def options() -> argparse.ArgumentParser:
         metavar="DIR",
         help="the folder into which fics_scribe writes: its games are shown below /games/",
     )
+    words.add_argument(
+        "--ratings",
+        action="store_true",
+        help="show the ratings that the archive makes: beside names, on players' pages, as ladders",
+    )
     words.add_argument("--plain", action="store_true", help="refuse stamped lines: every clock is the server's own")
     return words
 
@@ -105,7 +110,10 @@ def add_visitors(words: argparse.ArgumentParser) -> None:
 
 
 def main() -> int:
-    chosen = options().parse_args()
+    words = options()
+    chosen = words.parse_args()
+    if chosen.ratings and not chosen.archive:
+        words.error("--ratings wants --archive: they are made of its games")
     settings = Settings(
         chosen.server,
         chosen.web,
@@ -114,6 +122,7 @@ def main() -> int:
         tabs_from_one=chosen.tabs_from_one,
         refuses_stamps=chosen.plain,
         archive=chosen.archive,
+        rates=chosen.ratings,
     )
     logs.quieten()
     try:

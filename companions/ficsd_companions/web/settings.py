@@ -19,3 +19,4 @@ class Settings:
     tabs_from_one: int = 32
     refuses_stamps: bool = False
     archive: Path | None = None  # the folder of the scribe's
+    rates: bool = False  # whether the ratings that it makes are shown
