@@ -5,7 +5,7 @@ import logging
 import time
 
 from ficslink import lines
-from ficslink.errors import LinkError, NoServer, RefusalError
+from ficslink.errors import LinkError, PasswordWanted, RefusalError
 from ficslink.member import Member
 from ficslink.refusals import WAITABLE
 
@@ -64,10 +64,10 @@ class Teller:
                 if refusal.refusal not in WAITABLE:
                     raise Fault(f"the server refuses {self.name}: {refusal}") from refusal
                 why: LinkError = refusal
-            except NoServer as fault:
-                why = fault
-            except LinkError as fault:
+            except PasswordWanted as fault:
                 raise Fault(str(fault)) from fault
+            except LinkError as fault:  # the server isn't there, or has ended meanwhile
+                why = fault
             logger.warning("not in yet, next try in %g seconds: %s", pause, why)
             await asyncio.sleep(pause)
             pause = min(2 * pause, LONGEST_PAUSE)

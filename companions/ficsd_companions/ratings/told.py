@@ -40,9 +40,7 @@ def of_player(ratings: Ratings, name: str) -> list[Told]:
 def points(ratings: Ratings, it: Standing) -> list[list[object]]:
     """A curve: of each day the rating behind it and its deviation."""
     curve = thinned(ratings.curve(it.pool, it.name))
-    return [
-        [date.fromordinal(at.day).isoformat(), round(at.rating.rating), round(at.rating.deviation)] for at in curve
-    ]
+    return [[date.fromordinal(at.day).isoformat(), round(at.rating.rating), round(at.rating.deviation)] for at in curve]
 
 
 def of_pools(ratings: Ratings) -> list[list[object]]:

@@ -69,10 +69,7 @@ async def test_players_ladders_and_games(served: Played, archive: Path) -> None:
     assert [it["isProvisional"] for it in ladder["rows"]] == sorted(it["isProvisional"] for it in ladder["rows"])
     last = (await told(served, "/games/found.json"))["games"]
     verdicts = [(await told(served, f"/games/{it['link']}.json"))["rated"] for it in last[:2]]
-    assert verdicts == [
-        {"why": "PROGRAM", "who": "House", "pool": ""},
-        {"why": "RATED", "who": "", "pool": "blitz"},
-    ]
+    assert verdicts == [{"why": "PROGRAM", "who": "House", "pool": ""}, {"why": "RATED", "who": "", "pool": "blitz"}]
     assert (await asked(served.go_between.port, "/games/ladder/blitz")).status == 200
     assert (await asked(served.go_between.port, "/games/ladder/chess")).status == 404
     assert (await asked(served.go_between.port, "/games/ladder/chess.json")).status == 404
