@@ -13,7 +13,7 @@ from collections.abc import Iterable
 from .files import DayFile, bytes_of, files_of, games_of
 from .kept import RESULTS, Kept, Span, Texts, kept_of, pair_of
 
-logger = logging.getLogger("fics_web")
+logger = logging.getLogger("archive")
 AT_LEAST_SECONDS = 1.0  # between two looks at the folder, however many ask
 TAIL = 64  # bytes by which a file that has grown is told from one that was written anew
 
@@ -113,7 +113,7 @@ class Index:
     def _tell(self, fault: str) -> None:
         """Says once why the archive can't be read, or can't be read whole."""
         if fault and fault != self._fault:
-            logger.error("fics_web: the archive can't be read: %s", fault)
+            logger.error("the archive can't be read: %s", fault)
         self._fault = fault
 
     def _read(self, file: DayFile, faults: list[OSError]) -> list[Kept]:

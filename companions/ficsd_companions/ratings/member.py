@@ -59,7 +59,7 @@ class Teller:
         pause = FIRST_PAUSE
         while True:
             try:
-                return await Member.enter(*self.server, self.name, self.password, settings=SETTINGS)
+                return await self._enter()
             except RefusalError as refusal:
                 if refusal.refusal not in WAITABLE:
                     raise Fault(f"the server refuses {self.name}: {refusal}") from refusal
@@ -71,6 +71,16 @@ class Teller:
             logger.warning("not in yet, next try in %g seconds: %s", pause, why)
             await asyncio.sleep(pause)
             pause = min(2 * pause, LONGEST_PAUSE)
+
+    async def _enter(self) -> Member:
+        """Goes in, and makes an account of the name where there is none and a password was given."""
+        member = await Member.enter(*self.server, self.name, self.password, settings=SETTINGS)
+        if self.password and not member.is_registered:
+            try:
+                await member.register(self.password)
+            except RefusalError as refusal:
+                logger.warning("%s gets no account: %s", self.name, refusal)
+        return member
 
     async def tell(self, who: str, text: str) -> bool:
         """Tells a member something; whether that was taken."""

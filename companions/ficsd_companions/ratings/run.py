@@ -16,7 +16,7 @@ from ficsd_companions.archive.index import Index
 from ficsd_companions.cli import log
 from ficsd_companions.cli.words import Address, address, handle, seconds
 from ficsd_companions.names.known import Names
-from ficslink.secret import BadSecret, password_in
+from ficslink.secret import BadSecret, kept_password
 
 from . import words
 from .answers import Answers
@@ -38,7 +38,7 @@ class Chosen(argparse.Namespace):
     name: str
     day: str | None
     server: Address
-    password_file: Path | None
+    password: Path | None
     accounts: Path | None
     messages: Path | None
     every: float
@@ -78,7 +78,7 @@ def serve(chosen: Chosen, ratings: Ratings) -> None:
 
 async def work(chosen: Chosen, ratings: Ratings) -> None:
     """Answers until a signal comes."""
-    password = password_in(chosen.password_file) if chosen.password_file else None
+    password = kept_password(chosen.password) if chosen.password else None
     names = Names(chosen.accounts) if chosen.accounts else None
     box = Box(chosen.messages) if chosen.messages else None
     teller = Teller(chosen.server, chosen.name, password, Answers(ratings, box, names), chosen.every, box)
@@ -133,7 +133,8 @@ def add_serving(words: argparse.ArgumentParser) -> None:
     add = words.add_argument
     add("--server", type=address, required=True, metavar="HOST:PORT", help="the server, as localhost:5000")
     add("--name", type=handle, default="Scribe", metavar="NAME", help="its own name; Scribe without")
-    add("--password-file", type=Path, metavar="FILE", help="a file with that name's password, readable by nobody else")
+    says = "the password of its account, in a file that only its user reads; where there is no such file it is made, "
+    add("--password", type=Path, metavar="FILE", help=says + "and so is the account. Without it that is a guest's name")
     says = "who has an account: the server's store, or a list of names, a line each, as fics_names keeps one"
     add("--accounts", type=Path, metavar="FILE", help=says)
     add(

@@ -5,6 +5,7 @@ from collections.abc import AsyncIterator
 from pathlib import Path
 
 import pytest
+from ficslink.errors import PasswordWanted
 from ficslink.lines import Tell
 from ficslink.member import Member
 
@@ -206,6 +207,18 @@ async def test_a_full_disk_is_said(club: Club) -> None:
     assert len(list(club.messages.iterdir())) == 1
     await club.come("Ann")
     assert (await club.next_tell("Ann")).endswith(": first")
+
+
+async def test_its_name_is_its_own(club: Club, tmp_path: Path) -> None:
+    """It makes an account of it, and comes again by the password that it has kept."""
+    for _ in range(2):
+        club.scribe.terminate(signal.SIGTERM)
+        club.scribe.end()
+        club.scribe = club.run("--password", tmp_path / "password")
+    assert (tmp_path / "password").stat().st_mode & 0o777 == 0o600
+    club.scribe.terminate(signal.SIGTERM)
+    with pytest.raises(PasswordWanted):
+        await club.come("Scribe")
 
 
 async def test_without_a_folder_none_are_kept(tmp_path: Path) -> None:
