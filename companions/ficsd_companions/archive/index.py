@@ -8,14 +8,19 @@ import os
 import time
 from bisect import bisect_left, insort
 from collections import defaultdict
-from collections.abc import Iterable
+from collections.abc import Callable, Iterable
 
 from .files import DayFile, bytes_of, files_of, games_of
 from .kept import RESULTS, Kept, Span, Texts, kept_of, pair_of
 
-logger = logging.getLogger("archive")
+logger = logging.getLogger("fics_web")
 AT_LEAST_SECONDS = 1.0  # between two looks at the folder, however many ask
 TAIL = 64  # bytes by which a file that has grown is told from one that was written anew
+
+
+def complain(fault: str) -> None:
+    """Says to the log of the page what is wrong."""
+    logger.error("fics_web: %s", fault)
 
 
 class Player:
@@ -47,8 +52,9 @@ class Read:
 class Index:
     """The games of a folder, which needn't be there yet."""
 
-    def __init__(self, folder: str | os.PathLike[str]) -> None:
-        self.folder = os.fspath(folder)
+    def __init__(self, folder: str | os.PathLike[str], complains: Callable[[str], None] = complain) -> None:
+        """`complains` takes why the archive can't be read."""
+        self.folder, self._complains = os.fspath(folder), complains
         self.days: dict[str, list[Kept]] = {}
         self.known_days: list[str] = []  # in their order
         self.players: dict[str, Player] = {}
@@ -113,7 +119,7 @@ class Index:
     def _tell(self, fault: str) -> None:
         """Says once why the archive can't be read, or can't be read whole."""
         if fault and fault != self._fault:
-            logger.error("the archive can't be read: %s", fault)
+            self._complains(f"the archive can't be read: {fault}")
         self._fault = fault
 
     def _read(self, file: DayFile, faults: list[OSError]) -> list[Kept]:

@@ -59,8 +59,9 @@ def expected(mu: float, met: Met) -> float:
 
 def updated(known: Rating, opponents: Sequence[Met]) -> Rating:
     """The rating behind a period in which these were met, one at least."""
-    inverse = sum(g(it.phi) ** 2 * expected(known.mu, it) * (1 - expected(known.mu, it)) for it in opponents)
-    surplus = sum(g(it.phi) * (it.score - expected(known.mu, it)) for it in opponents)
+    games = [(g(it.phi), expected(known.mu, it), it.score) for it in opponents]
+    inverse = sum(weight**2 * chance * (1 - chance) for weight, chance, _ in games)
+    surplus = sum(weight * (score - chance) for weight, chance, score in games)
     v = 1 / inverse
     volatility = new_volatility(known, v, v * surplus)
     phi = 1 / math.sqrt(1 / (known.phi**2 + volatility**2) + inverse)

@@ -7,6 +7,7 @@ It is no part of what is proved. It only reads the archive.
 import argparse
 import asyncio
 import logging
+import os
 import signal
 from collections.abc import Callable
 from contextlib import suppress
@@ -147,8 +148,10 @@ def add_serving(words: argparse.ArgumentParser) -> None:
 def main() -> int:
     chosen = read_words()
     log.begin("fics_ratings: %(message)s")
-    ratings = Ratings(Index(chosen.archive))
+    ratings = Ratings(Index(chosen.archive, logger.error))
     try:
+        if chosen.act is not serve:  # a member may be there before its archive is
+            os.listdir(chosen.archive)
         ratings.refresh()
         chosen.act(chosen, ratings)
     except (Fault, Taken, BadSecret, OSError) as fault:

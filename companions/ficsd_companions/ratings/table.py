@@ -89,9 +89,11 @@ class Table:
         """Counts the games of a day behind all those that it has."""
         met: defaultdict[tuple[Pool, str], list[Met]] = defaultdict(list)
         for bout in bouts:
-            for at, side in enumerate(bout.sides):
-                own, others = ([self.before(bout.pool, it, day) for it in its] for its in (side, bout.sides[1 - at]))
-                score = bout.score if at == 0 else 1 - bout.score
+            first, second = ([self.before(bout.pool, it, day) for it in side] for side in bout.sides)
+            for side, own, others, score in (
+                (bout.sides[0], first, second, bout.score),
+                (bout.sides[1], second, first, 1 - bout.score),
+            ):
                 for name, known in zip(side, own):
                     met[bout.pool, name].append(met_by(known, own, others, score))
         behind = {key: updated(self.before(*key, day), games) for key, games in met.items()}

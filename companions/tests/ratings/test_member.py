@@ -260,5 +260,6 @@ def test_what_is_shown_at_a_shell(tmp_path: Path) -> None:
     assert ended(program, "--archive", tmp_path, "rating", "ann").stdout == "blitz Ann 1662? 290 1\n"
     assert ended(program, "--archive", tmp_path, "history", "House").stdout.startswith("2026-11-30/2 ")
     assert ended(program, "--archive", tmp_path, "ladder", "chess").returncode == 2
+    assert ended(program, "--archive", tmp_path / "none", "games").returncode == 1
     words = "serve", "--server", "localhost:5000", "--messages", tmp_path
     assert ended(program, "--archive", tmp_path, *words).returncode == 2
