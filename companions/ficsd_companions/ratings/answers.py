@@ -75,7 +75,7 @@ class Answers:
             return NOT_KNOWN
         if who.casefold() not in known:
             return "Messages are for members with an account: type register and a password."
-        if to.casefold() not in known:
+        if not HANDLE.fullmatch(to) or to.casefold() not in known:
             return f"{to[:17]} has no account."
         if len(text) > MOST_TEXT:
             return f"A message has at most {MOST_TEXT} characters."

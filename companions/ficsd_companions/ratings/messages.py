@@ -20,6 +20,11 @@ ENDING, UNFINISHED = ".json", ".new"
 logger = logging.getLogger("fics_ratings")
 
 
+def private(path: str, flags: int) -> int:
+    """Opens a file that nobody else reads."""
+    return os.open(path, flags, 0o600)
+
+
 class Full(Exception):
     """As many messages wait for somebody as may."""
 
@@ -49,7 +54,7 @@ class Box:
         """`Taken` where another program has it, `OSError` where it can't be read."""
         self.folder = folder
         self._changing = threading.Lock()
-        folder.mkdir(parents=True, exist_ok=True)
+        folder.mkdir(mode=0o700, parents=True, exist_ok=True)
         self._folder = os.open(folder, os.O_RDONLY)
         try:
             fcntl.flock(self._folder, fcntl.LOCK_EX | fcntl.LOCK_NB)
@@ -89,7 +94,7 @@ class Box:
         new = it.path.with_suffix(UNFINISHED)
         kept = {"sender": it.sender, "to": it.to, "when": it.when.isoformat(), "text": it.text}
         try:
-            with open(new, "wb", buffering=0) as file:
+            with open(new, "wb", buffering=0, opener=private) as file:
                 text = memoryview(json.dumps(kept).encode())
                 while text:
                     text = text[file.write(text) :]

@@ -48,6 +48,12 @@ def test_messages_are_kept_in_their_order(kept: Kept) -> None:
     }
 
 
+def test_nobody_else_reads_them(kept: Kept) -> None:
+    kept.box.keep("Ben", "Ann", "first", at(15))
+    [file] = kept.folder.iterdir()
+    assert (file.stat().st_mode & 0o777, kept.folder.stat().st_mode & 0o777) == (0o600, 0o700)
+
+
 def test_what_was_handed_on_is_gone(kept: Kept) -> None:
     kept.box.keep("Ben", "Ann", "first", at(15))
     kept.box.keep("Ben", "Ann", "second", at(16))

@@ -72,9 +72,8 @@ async def test_an_evening(evening: Rated) -> None:
     assert {pool for pool, _ in figures} == {"blitz", "crazyhouse", "fischer", "bughouse"}
     for key, player in plain.items():
         assert list(figures[key]) == pytest.approx(player, abs=1e-6), key
-    verdicts = {
-        (it.game.white, it.game.black, str(it.verdict)) for day in ratings.index.known_days for it in ratings.judged(day)
-    }
+    judged = (it for day in ratings.index.known_days for it in ratings.judged(day))
+    verdicts = {(it.game.white, it.game.black, str(it.verdict)) for it in judged}
     assert {it for it in verdicts if not it[2].startswith("rated")} == {
         ("Ann", "Eve", "not rated: Eve had no account"),
         ("Ben", "Cat", "not rated: it has fewer than two moves"),
