@@ -27,6 +27,8 @@ from .pools import Pool
 from .rated import Ratings
 from .table import Standing
 
+NO_NAME = 3
+
 logger = logging.getLogger("fics_ratings")
 
 
@@ -94,8 +96,8 @@ def read_words() -> Chosen:
     it = argparse.ArgumentParser(
         prog="fics_ratings",
         description=(__doc__ or "").split("\n\n", maxsplit=1)[0],
-        epilog="Statuses: 0 done, or Ctrl-C or SIGTERM; 1 the archive can't be read, the server refuses it, or "
-        "messages can't be kept; 2 other words than these.",
+        epilog="Statuses: 0 done, or Ctrl-C or SIGTERM; 1 the archive or the folder of messages can't be used; 2 other "
+        "words than these; 3 the name can't be had: the server refuses it, or its password can't be used.",
     )
     it.add_argument(
         "--archive", type=Path, required=True, metavar="DIR", help="the folder into which fics_scribe writes"
@@ -154,7 +156,10 @@ def main() -> int:
             os.listdir(chosen.archive)
         ratings.refresh()
         chosen.act(chosen, ratings)
-    except (Fault, Taken, BadSecret, OSError) as fault:
+    except (Taken, OSError) as fault:
         logger.error("%s", fault)
         return 1
+    except (Fault, BadSecret) as fault:
+        logger.error("%s", fault)
+        return NO_NAME
     return 0

@@ -221,6 +221,16 @@ async def test_its_name_is_its_own(club: Club, tmp_path: Path) -> None:
         await club.come("Scribe")
 
 
+async def test_a_name_that_cant_be_had(club: Club, tmp_path: Path) -> None:
+    """It says so, and doesn't try for ever."""
+    other = await club.come("Ann")
+    await other.register("secret")
+    await club.go("Ann")
+    words = "--archive", club.archive, "serve", "--server", club.server.address, "--name", "Ann"
+    done = ended(paths.companion("fics_ratings"), *words)
+    assert done.returncode == 3 and "password" in done.stderr
+
+
 async def test_without_a_folder_none_are_kept(tmp_path: Path) -> None:
     club = Club(tmp_path)
     try:
