@@ -76,7 +76,7 @@ class Archived:
 
     async def told(self, request: web.Request, place: Place, asked: dict[str, str]) -> web.Response:
         """What a page shows, as JSON."""
-        if place.kind != "game" and not self.take(request, A_LIST):
+        if place.kind not in ("game", "ratings") and not self.take(request, A_LIST):
             raise web.HTTPTooManyRequests(text="too many requests from this address")
         told = await self.ask(self.archive.told, place, asked)
         if told is None:

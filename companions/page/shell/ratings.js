@@ -24,7 +24,6 @@ function inFigures(it) {
 }
 
 async function ask() {
-  timer = 0;
   const names = [...wanted].slice(0, MOST);
   names.forEach((it) => wanted.delete(it));
   /** @type {Record<string, RatingTold[]>} */
@@ -40,6 +39,7 @@ async function ask() {
   } finally {
     const since = Date.now();
     names.forEach((it) => known.set(it, { ratings: told[it] ?? known.get(it)?.ratings ?? [], since }));
+    timer = wanted.size ? setTimeout(ask, PAUSE) : 0;
   }
   changed();
 }
