@@ -1,4 +1,5 @@
-"""What a large archive costs `fics_web --archive`: the index of a folder that is made for it, in this process.
+"""What a large archive costs `fics_web --archive`: the index of a folder that is made for it, in this process, and the
+ratings of its games.
 
 It makes an archive of so many games of 100 a day by 2,000 players, a tenth of them of crazyhouse, and prints seconds of
 processor time and memory.
@@ -16,6 +17,8 @@ from bench.measure import machine
 from ficsd_companions.archive import index
 from ficsd_companions.archive.addresses import Place
 from ficsd_companions.archive.answers import Archive
+from ficsd_companions.ratings.pools import Pool
+from ficsd_companions.ratings.rated import Ratings
 from tests.archive.archives import game, put
 
 A_DAY, PLAYERS = 100, 2000
@@ -91,6 +94,19 @@ def look(archive: Archive, folder: Path, games: int) -> None:
         timed(what, lambda place=place, asked=asked: archive.told(place, asked))
 
 
+def rate(archive: Archive, folder: Path) -> None:
+    """Makes ratings of all games, whose players all have accounts, and counts the last day anew."""
+    (folder / "accounts").write_text("\n".join(map(name, range(PLAYERS + 1))), encoding="utf-8")
+    ratings, before = Ratings(archive.index), kilobytes()
+    timed("all are rated", ratings.refresh)
+    print(f"memory: {(kilobytes() - before) / 1024:.0f} MiB more")
+    timed("a ladder", lambda: ratings.ladder(Pool.BLITZ))
+    index.AT_LEAST_SECONDS = 0
+    day = archive.index.known_days[-1]
+    put(folder, game(A_DAY + 2, name(1), name(2), day=day, movetext=MOVES), day)
+    timed("one game is new and rated", ratings.refresh)
+
+
 def main() -> None:
     words = argparse.ArgumentParser(description=__doc__)
     words.add_argument("games", nargs="?", type=int, default=100_000, metavar="GAMES", help="%(default)s without it")
@@ -105,6 +121,7 @@ def main() -> None:
         timed("all are read", archive.index.refresh)
         print(f"memory: {(kilobytes() - before) / 1024:.0f} MiB more")
         look(archive, folder, games)
+        rate(archive, folder)
 
 
 if __name__ == "__main__":

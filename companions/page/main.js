@@ -30,6 +30,7 @@ import { SmallGames } from "./lobby/small_games.js";
 import { Sounds } from "./member/sounds.js";
 import { Talk } from "./talk/talk.js";
 import { listenForTerms } from "./lobby/terms_form.js";
+import { listenForRatings } from "./shell/ratings.js";
 import { onLanguage } from "./shell/texts.js";
 import { Following, listenForViews, showView } from "./shell/views.js";
 import { endInWords, keptPage, tabStore, WayBack } from "./link/way_back.js";
@@ -148,6 +149,10 @@ function start() {
   hearers.push(() => archiveLinks.show(games.shown));
   const wayBack = new WayBack(session, games, store, kept);
   preferences.onChange(() => view.show());
+  listenForRatings(session, () => {
+    lobby.show();
+    view.show();
+  });
   onLanguage(() => view.rename());
   const commandLine = new CommandLine(session, () => games.running.length > 0);
   const forgetful = [talk, settings, commandLine, new PartnerTalk(session), simul, smallGames, lobby, calls];

@@ -134,7 +134,7 @@ interface Part {
 
 type Words = Record<string, unknown>;
 /** What the go-between tells the page itself. */
-type Told = Words & { archive?: boolean };
+type Told = Words & { archive?: boolean; ratings?: boolean };
 
 /** The go-between's answer to a page that comes. */
 interface Taken {
@@ -305,11 +305,32 @@ interface ArchiveRow {
 
 /** What is told of one game, and of the pair of which it is one. */
 interface ArchivedText {
+  rated?: VerdictTold;
   pgn: string;
   pair: { link: string; pgn: string; bpgn?: string } | null;
   earlier: string | null;
   later: string | null;
 }
+
+/** What is told of a game's being rated. */
+interface VerdictTold {
+  why: string;
+  who: string;
+  pool: string;
+}
+
+/** What a player is in a pool. */
+interface RatingTold {
+  pool: string;
+  name: string;
+  points: number;
+  deviation: number;
+  games: number;
+  isProvisional: boolean;
+}
+
+/** A day, and the rating and its deviation behind that day's games. */
+type CurvePoint = [string, number, number];
 
 /** What is told of a list of games. */
 interface ArchivedList {
@@ -324,11 +345,15 @@ interface ArchivedList {
   earlier: string | null;
   later: string | null;
   tally: Record<string, number[]>;
+  ladders?: Counted[];
+  pools?: Counted[];
+  rows?: RatingTold[];
+  ratings?: (RatingTold & { curve: CurvePoint[] })[];
 }
 
 /** What an address of the archive is of. */
 interface Address {
-  kind: "games" | "day" | "player" | "game" | "";
+  kind: "games" | "day" | "player" | "ladder" | "game" | "";
   link?: string;
   day?: string;
   name?: string;

@@ -12,7 +12,7 @@ from tests.kit.link import Link
 from .machine import A_MOMENT, FACE, FOLDER, PATIENCE, WEB, comes, journal_of, says, shell, shown, text_of
 from .players import adjourn, enter, enter_again, resume
 
-MEMBERS = ("fics_bot", "fics_director", "fics_scribe")
+MEMBERS = ("fics_bot", "fics_director", "fics_ratings", "fics_scribe")
 WITHOUT_A_STORE = (*MEMBERS, "fics_face", "fics_web")
 MOST_EXPOSED = 2.0  # of the ten points of `systemd-analyze security`
 EVENING, GAMES = (f"/var/lib/fics_director/evening.{it}" for it in ("tourney", "pgn"))
@@ -34,7 +34,7 @@ def states_of_members() -> list[str]:
 
 
 def members_up(name: str) -> None:
-    comes(f"{name}: the members are active", states_of_members, ["active"] * 3)
+    comes(f"{name}: the members are active", states_of_members, ["active"] * len(MEMBERS))
 
 
 def try_members() -> None:
@@ -45,10 +45,10 @@ def try_members() -> None:
         (0, "failed"),
     )
     shell(f"echo '{WORDS}' >>/etc/default/fics_director")
-    says("members: enabled", shell("systemctl enable --now fics_bot fics_director fics_scribe")[1], 0)
+    says("members: enabled", shell(f"systemctl enable --now {' '.join(MEMBERS)}")[1], 0)
     members_up("enabled")
     ann = enter("Ann", "swordfish")
-    comes("members: House and Director are in", lambda: are_in(ann, "House", "Director"), True)
+    comes("members: House, Director and Scribe are in", lambda: are_in(ann, "House", "Director", "Scribe"), True)
     says(
         "members: nobody else reads House's password",
         shell("stat -L -c %a /var/lib/fics_bot /var/lib/fics_bot/password")[0].split(),
@@ -60,6 +60,19 @@ def try_members() -> None:
     ann.until("^<12>.* W .* [a-hNBRQKO][^ ]* [01]$")
     ann.say("resign")
     comes("members: the scribe has that game", lambda: re.findall(GAME, archive()), [("Ann", "House", "0-1")])
+    says("members: and that Ann had an account", '[WhiteAccount "yes"]' in archive(), True)
+    says(
+        "members: that game isn't rated",
+        re.findall("Ann - House 0-1 (.*)", shell("fics_ratings --archive /var/lib/private/fics_scribe history ann")[0]),
+        ["not rated: House is a program"],
+    )
+    ann.say("tell scribe message ben see you on Friday")
+    ann.until("Scribe tells you: It is kept")
+    says(
+        "members: nobody else reads messages",
+        shell("stat -L -c %a /var/lib/fics_ratings /var/lib/fics_ratings/messages/*")[0].split(),
+        ["700", "600"],
+    )
     ann.say("tell Director join")
     ann.until("You have joined")
     says("members: the director has noted it", "join Ann\n" in text_of(EVENING), True)
@@ -137,7 +150,7 @@ def try_stop_with_members() -> None:
 
 def try_exposures() -> None:
     """Each unit reaches little of the machine, as systemd counts it."""
-    for unit in (*WITHOUT_A_STORE, "fics_watch", "fics_meter", "ficsd", "fics_server@blue"):
+    for unit in (*WITHOUT_A_STORE, "fics_names", "fics_watch", "fics_meter", "ficsd", "fics_server@blue"):
         said = shell(f"systemd-analyze security --no-pager {unit}")[0]
         level = re.search(r"Overall exposure level for \S+: ([\d.]+)", said)
         says(

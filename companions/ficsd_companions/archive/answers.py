@@ -2,6 +2,9 @@
 
 import os
 
+from ficsd_companions.ratings import told
+from ficsd_companions.ratings.rated import Ratings
+
 from . import search
 from .addresses import Place
 from .files import bytes_of
@@ -14,23 +17,31 @@ NEWEST_DAYS = 30
 
 
 class Archive:
-    """The archive in a folder. Each call looks at first whether there is anything new."""
+    """The archive in a folder, with the ratings that it makes where these are to be told. Each call looks at first
+    whether there is anything new."""
 
-    def __init__(self, folder: str | os.PathLike[str]) -> None:
+    def __init__(self, folder: str | os.PathLike[str], rates: bool = False) -> None:
         self.index = Index(folder)
+        self.ratings = Ratings(self.index) if rates else None
+
+    def refresh(self) -> None:
+        """Reads what is new."""
+        (self.ratings or self.index).refresh()
 
     def has(self, place: Place) -> bool:
         """Whether there is anything at a place."""
-        self.index.refresh()
+        self.refresh()
         if place.kind == "day":
             return place.day in self.index.days
         if place.kind == "player":
             return self.index.player(place.name) is not None
+        if place.kind == "ladder":
+            return self.ratings is not None and place.name in told.POOLS
         return self.index.game(place.day, place.number) is not None
 
     def told(self, place: Place, asked: dict[str, str]) -> Told | None:
         """What is told of a place, and none where there is nothing. `asked` is what the address says besides."""
-        self.index.refresh()
+        self.refresh()
         wish = Wish(variant=asked.get("variant", ""), result=asked.get("result", ""), before=asked.get("before", ""))
         if place.kind == "found":
             return self._found(wish, asked)
@@ -39,18 +50,20 @@ class Archive:
         if place.kind == "player":
             player = self.index.player(place.name)
             return self._player(wish, player) if player else None
+        if place.kind in ("ladder", "ratings"):
+            return self._rated(place, asked)
         game = self.index.game(place.day, place.number)
         return self._game(game) if game else None
 
     def pgn(self, place: Place) -> bytes | None:
         """A game's PGN, as it stands in its file."""
-        self.index.refresh()
+        self.refresh()
         game = self.index.game(place.day, place.number)
         return text_of(game) if game else None
 
     def last(self, white: str, black: str) -> Kept | None:
         """The newest game with these two as White and Black."""
-        self.index.refresh()
+        self.refresh()
         return search.last(self.index, white, black)
 
     # ---- places ----
@@ -71,6 +84,7 @@ class Archive:
             "firstDay": known[0] if known else None,
             "lastDay": known[-1] if known else None,
             "players": [[it.name, len(it.games)] for it in players],
+            **({"ladders": told.of_pools(self.ratings)} if self.ratings else {}),
             **rows,
         }
 
@@ -84,7 +98,16 @@ class Archive:
     def _player(self, wish: Wish, player: Player) -> Told:
         rows = self._rows(Wish(player=player.name, variant=wish.variant, result=wish.result, before=wish.before))
         tally = {variant: counts for variant, counts in player.tally.items() if any(counts)}
-        return {"name": player.name, "count": len(player.games), "tally": tally, **rows}
+        rated = {"ratings": told.of_player(self.ratings, player.name)} if self.ratings else {}
+        return {"name": player.name, "count": len(player.games), "tally": tally, **rated, **rows}
+
+    def _rated(self, place: Place, asked: dict[str, str]) -> Told | None:
+        """A ladder, or what some players are."""
+        if not self.ratings:
+            return None
+        if place.kind == "ratings":
+            return told.of_names(self.ratings, asked.get("names", ""))
+        return told.of_ladder(self.ratings, place.name) if place.name in told.POOLS else None
 
     def _game(self, game: Kept) -> Told | None:
         text = text_of(game)
@@ -96,6 +119,7 @@ class Archive:
                 "earlier": earlier and earlier.link,
                 "later": later and later.link,
                 "pair": self._pair(game),
+                **({"rated": told.of_game(self.ratings, game)} if self.ratings else {}),
             }
             if text
             else None

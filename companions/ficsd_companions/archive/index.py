@@ -8,7 +8,7 @@ import os
 import time
 from bisect import bisect_left, insort
 from collections import defaultdict
-from collections.abc import Iterable
+from collections.abc import Callable, Iterable
 
 from .files import DayFile, bytes_of, files_of, games_of
 from .kept import RESULTS, Kept, Span, Texts, kept_of, pair_of
@@ -16,6 +16,11 @@ from .kept import RESULTS, Kept, Span, Texts, kept_of, pair_of
 logger = logging.getLogger("fics_web")
 AT_LEAST_SECONDS = 1.0  # between two looks at the folder, however many ask
 TAIL = 64  # bytes by which a file that has grown is told from one that was written anew
+
+
+def complain(fault: str) -> None:
+    """Says to the log of the page what is wrong."""
+    logger.error("fics_web: %s", fault)
 
 
 class Player:
@@ -47,13 +52,16 @@ class Read:
 class Index:
     """The games of a folder, which needn't be there yet."""
 
-    def __init__(self, folder: str | os.PathLike[str]) -> None:
-        self.folder = os.fspath(folder)
+    def __init__(self, folder: str | os.PathLike[str], complains: Callable[[str], None] = complain) -> None:
+        """`complains` takes why the archive can't be read."""
+        self.folder, self._complains = os.fspath(folder), complains
         self.days: dict[str, list[Kept]] = {}
         self.known_days: list[str] = []  # in their order
         self.players: dict[str, Player] = {}
         self.pairs: dict[str, Span] = {}  # by the link of the first board
         self.count = 0
+        self.serial = 0  # of the last look that has found something
+        self._changed: dict[str, int] = {}  # of each day that of the last look that has changed it
         self._reads: dict[str, Read] = {}
         self._texts = Texts()
         self._looked = -AT_LEAST_SECONDS
@@ -85,6 +93,10 @@ class Index:
     def player(self, name: str) -> Player | None:
         return self.players.get(name.casefold())
 
+    def changed_since(self, serial: int) -> list[str]:
+        """The days with other games than behind an earlier look."""
+        return [day for day, it in self._changed.items() if it > serial] if serial != self.serial else []
+
     # ---- reading ----
 
     def refresh(self) -> None:
@@ -100,13 +112,14 @@ class Index:
         if not faults:  # else what isn't seen may be there all the same
             self._forget(set(self._reads) - seen)
         self._add(sorted(fresh))
+        self.serial = max(self._changed.values(), default=0)
         self._tell("; ".join(map(str, faults[:1])))
         self._looked = time.monotonic()
 
     def _tell(self, fault: str) -> None:
         """Says once why the archive can't be read, or can't be read whole."""
         if fault and fault != self._fault:
-            logger.error("fics_web: the archive can't be read: %s", fault)
+            self._complains(f"the archive can't be read: {fault}")
         self._fault = fault
 
     def _read(self, file: DayFile, faults: list[OSError]) -> list[Kept]:
@@ -162,6 +175,7 @@ class Index:
                 self.days[it.day] = []
                 insort(self.known_days, it.day)
             put(self.days[it.day], it)
+            self._changed[it.day] = self.serial + 1
             for name in {name.casefold(): name for name in it.players}.values():
                 player = self.players.setdefault(name.casefold(), Player(name))
                 put(player.games, it)
@@ -179,6 +193,7 @@ class Index:
                     gone[name].append(it)
                 self.count -= 1
             self.days[day] = [it for it in self.days[day] if it.span.path not in paths]
+            self._changed[day] = self.serial + 1
             if not self.days[day]:
                 del self.days[day]
                 self.known_days.remove(day)

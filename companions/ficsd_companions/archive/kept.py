@@ -9,6 +9,8 @@ ESCAPED = re.compile(r"\\(.)")
 VARIANTS = {"": "chess", "Crazyhouse": "crazyhouse", "Chess960": "fischer", "Bughouse": "bughouse"}
 RESULTS = ("1-0", "0-1", "1/2-1/2", "*")
 HALF_MOVE = b"%emt "  # which stands once behind each half-move
+FEN = re.compile(r"\S+ ([wb]) \S+ \S+ \S+ ([1-9]\d{0,5})")
+SAID = {b"yes": "y", b"no": "n"}  # of who has an account
 LONGEST_NAME = 80
 
 
@@ -33,6 +35,8 @@ class Kept(NamedTuple):
     half_moves: int
     time: str  # at which it began, as 20:15
     partner: str  # the link of the other board's game, in bughouse
+    accounts: str  # whether White and Black had an account, a letter each: y, n, or ? where nothing says it
+    ply: int  # how many half-moves were made before the first one that is known
     span: Span
 
     @property
@@ -57,6 +61,12 @@ def text_of(value: bytes) -> str:
 
 def is_link(text: str) -> bool:
     return LINK.fullmatch(text) is not None
+
+
+def ply_of(fen: str) -> int:
+    """How many half-moves were made before a position, as its FEN says."""
+    said = FEN.fullmatch(fen)
+    return 2 * int(said[2]) - 2 + (said[1] == "b") if said else 0
 
 
 class Texts:
@@ -92,6 +102,8 @@ def kept_of(day: str, head: bytes, movetext: bytes, span: Span, texts: Texts) ->
         movetext.count(HALF_MOVE),
         texts.of(said(b"Time")[:5]),
         partner if is_link(partner) else "",
+        texts.of("".join(SAID.get(tags.get(it, b""), "?") for it in (b"WhiteAccount", b"BlackAccount"))),
+        ply_of(said(b"FEN")) if b"FEN" in tags else 0,
         span,
     )
 

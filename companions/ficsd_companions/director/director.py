@@ -12,7 +12,7 @@ from ficslink.events import CameAgain, Ended, LinkLost
 from ficslink.member import Member
 from ficslink.refusals import WAITABLE
 
-from . import due, games, talk
+from . import due, games, seeds, talk
 from .answers import Answers
 from .evening import BadFile, Row
 from .ledger import Ledger
@@ -179,12 +179,21 @@ class Director:
     async def _start(self) -> None:
         if self.chosen.pgn:
             games.begin(self.chosen.pgn)
+        if self.chosen.is_seeded and self.chosen.archive:
+            await self._seed(self.chosen.archive)
         await self.ledger.add("start")
         await self.announce(
             f"The round robin begins. {talk.terms_of(self.chosen.terms)}, "
             f"rounds: {len(self.ledger.evening.rounds)}.",
             *talk.joined(self.ledger.evening),
         )
+
+    async def _seed(self, archive: Path) -> None:
+        """Numbers who has joined by their ratings."""
+        players = self.ledger.evening.players
+        found = await asyncio.to_thread(seeds.standings, archive, self.chosen.terms, players)
+        await self.ledger.number(list(found))
+        await self.announce(f"By rating: {seeds.said(found)[0]}", *seeds.said(found)[1:])
 
     async def _open(self, number: int) -> None:
         await self.ledger.add(f"round {number}")

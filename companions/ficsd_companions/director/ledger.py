@@ -7,6 +7,7 @@ whoever reads it, at whatever moment, finds all lines of the one state or of the
 import asyncio
 import os
 import subprocess
+from collections.abc import Sequence
 from pathlib import Path
 
 from .evening import REFUSED, BadFile, Evening, questions, read
@@ -48,6 +49,10 @@ class Ledger:
     async def add(self, line: str) -> None:
         """Adds a line. `Refused` where the program refuses it."""
         await self._change(self.lines + [line], len(self.lines))
+
+    async def number(self, players: Sequence[str]) -> None:
+        """Puts who has joined into another order, before it starts."""
+        await self._change([f"join {it}" for it in players], 0)
 
     async def rule(self, white: str, black: str, score: str) -> None:
         """Writes a result, in the place of one that stands. `Refused` where no round has these two with these

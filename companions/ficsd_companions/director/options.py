@@ -38,6 +38,7 @@ class Chosen:
     channel: int | None
     pgn: Path | None
     archive: Path | None
+    is_seeded: bool
     every: float
 
 
@@ -92,7 +93,13 @@ def add_evening(words: argparse.ArgumentParser) -> None:
     )
     add("--channel", type=count(255, least=0), metavar="N", help="the channel in which all is told")
     add("--pgn", type=Path, metavar="FILE", help="writes the evening's games there at its end")
-    add("--archive", type=Path, metavar="DIR", help="the archive of fics_scribe, for --pgn")
+    add("--archive", type=Path, metavar="DIR", help="the archive of fics_scribe, for --pgn and --seeded")
+    add(
+        "--seeded",
+        action="store_true",
+        dest="is_seeded",
+        help="numbers who has joined by the ratings that the archive makes; by who joined first without",
+    )
     add(
         "--every",
         type=seconds(0.01, 10),
@@ -129,8 +136,8 @@ def chosen(arguments: list[str]) -> Chosen:
     """What the words choose; ends with status 2 where they are others."""
     words = parser()
     read = words.parse_args(arguments)
-    if bool(read.pgn) != bool(read.archive):
-        words.error("--pgn and --archive go together")
+    if bool(read.pgn or read.is_seeded) != bool(read.archive):
+        words.error("--archive goes with --pgn or --seeded, and these with it")
     if not read.at and not read.chief:
         words.error("--at TIME or --chief NAME is wanted, else it never begins")
     if not shutil.which(read.program):

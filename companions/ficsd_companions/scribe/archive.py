@@ -16,6 +16,8 @@ from pathlib import Path
 from ficslink.board import Board
 from ficslink.lines import GameListed
 
+from ficsd_companions.names.known import Names
+
 from . import bpgn, journal, pgn, whole
 from .journal import Journal
 from .record import Record
@@ -50,8 +52,9 @@ def whole_length(text: str) -> int:
 class Archive:
     """Where games are kept. The folder is one scribe's alone."""
 
-    def __init__(self, folder: Path, site: str) -> None:
-        self.folder, self.site = folder, site
+    def __init__(self, folder: Path, site: str, names: Names | None = None) -> None:
+        """`names` says who has an account, which the games' tags tell then."""
+        self.folder, self.site, self.names = folder, site, names
         self.running, self.waiting = folder / "running", folder / "waiting"
         self._numbers: dict[str, int] = {}
         self._mended: set[Path] = set()
@@ -164,8 +167,11 @@ class Archive:
     def _write(self, sitting: Sitting, may_stand: bool) -> None:
         """Writes the games; `may_stand` where an earlier scribe may have done so, and ended before its journal did."""
         records = list(sitting.records.values())
+        accounts = self.names.known() if self.names else None
         for record, link in zip(records, sitting.links):
             record.link = link
+            if accounts is not None:
+                record.accounts = record.white.casefold() in accounts, record.black.casefold() in accounts
         if sitting.is_pair:
             records[0].partner, records[1].partner = records[1].link, records[0].link
         texts = [(it.link, kind_of(it) + ".pgn", f'[Link "{it.link}"]', pgn.text(it, self.site)) for it in records]

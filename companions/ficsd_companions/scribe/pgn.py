@@ -54,9 +54,15 @@ def tags(record: Record, site: str) -> Iterator[tuple[str, str]]:
         yield "Variant", VARIANTS[record.terms.kind]
     if fen := record.fen():
         yield from (("SetUp", "1"), ("FEN", fen))
+    if record.accounts:
+        yield from (("WhiteAccount", yes_or_no(record.accounts[0])), ("BlackAccount", yes_or_no(record.accounts[1])))
     yield "Link", record.link
     if record.partner:
         yield "Partner", record.partner
+
+
+def yes_or_no(is_so: bool) -> str:
+    return "yes" if is_so else "no"
 
 
 def quoted(text: str) -> str:

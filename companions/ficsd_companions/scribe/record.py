@@ -58,6 +58,7 @@ class Record:
     partner: str = ""  # the link of the other board's game, in bughouse
     is_late: bool = False  # whether its first half-move stands elsewhere, and isn't told again by a board behind it
     link: str = ""  # the day on which it ended and its number in that day, as 2026-11-30/17
+    accounts: tuple[bool, bool] | None = None  # whether White and Black had one, where that is known
 
     @property
     def is_whole(self) -> bool:

@@ -15,6 +15,7 @@ from ficslink.secret import BadSecret, password_in
 
 from ficsd_companions.cli.version import add_version
 from ficsd_companions.cli.words import Address, address, handle, seconds
+from ficsd_companions.names.known import Names
 
 from .archive import Archive
 from .lock import Held, held
@@ -32,14 +33,16 @@ class Chosen(argparse.Namespace):
     name: str
     password_file: str | None
     site: str | None
+    accounts: Path | None
     every: float
 
 
 async def work(chosen: Chosen) -> None:
     """Keeps games until a signal comes."""
     password = password_in(chosen.password_file) if chosen.password_file else None
+    names = Names(chosen.accounts) if chosen.accounts else None
     with held(chosen.archive, f"fics_scribe of {chosen.server}"):
-        archive = Archive(chosen.archive, chosen.site or chosen.server.host)
+        archive = Archive(chosen.archive, chosen.site or chosen.server.host, names)
         scribe = asyncio.create_task(Scribe(chosen.server, chosen.name, password, archive, chosen.every).run())
         for it in (signal.SIGINT, signal.SIGTERM):
             asyncio.get_running_loop().add_signal_handler(it, scribe.cancel)
@@ -64,6 +67,13 @@ def read_words() -> Chosen:
         "--password-file", metavar="FILE", help="a file with that member's password, readable by nobody else"
     )
     words.add_argument("--site", metavar="TEXT", help="what the games' tag Site says; the server's host without")
+    words.add_argument(
+        "--accounts",
+        type=Path,
+        metavar="FILE",
+        help="who has an account, which the games' tags say then: the server's store, or a list of names, a line each, "
+        "as fics_names keeps one",
+    )
     words.add_argument(
         "--every",
         type=seconds(0.01, 60),

@@ -21,6 +21,7 @@ SHELL = "games.html"
 A_LIST = 16  # requests as which a list counts, for which perhaps all games are looked through
 MOST_ASKED = 100  # characters of each thing that an address asks for
 ASKED = ("name", "other", "variant", "result", "before", "white", "black", "half-moves")
+MOST_NAMES = 256 * 18  # characters of the names whose ratings are asked for
 
 P = ParamSpec("P")
 T = TypeVar("T")
@@ -31,9 +32,12 @@ logger = logging.getLogger("fics_web")
 class Archived:
     """Answers by a thread of its own, so that nobody's move waits while files are read."""
 
-    def __init__(self, folder: Path, pages: Pages, take: Callable[[web.BaseRequest, int], bool]) -> None:
-        """`take(request, n)` counts a request as n more of its address: whether that has so many."""
-        self.archive, self.pages, self.take = Archive(folder), pages, take
+    def __init__(
+        self, folder: Path, pages: Pages, take: Callable[[web.BaseRequest, int], bool], rates: bool = False
+    ) -> None:
+        """`take(request, n)` counts a request as n more of its address: whether that has so many. `rates` has ratings
+        told too."""
+        self.archive, self.pages, self.take = Archive(folder, rates), pages, take
         self.thread = ThreadPoolExecutor(1, "archive")
 
     def add_routes(self, router: web.UrlDispatcher) -> None:
@@ -43,7 +47,7 @@ class Archived:
     async def begin(self) -> None:
         """Reads the archive before anybody asks for it."""
         try:
-            await self.ask(self.archive.index.refresh)
+            await self.ask(self.archive.refresh)
         except Exception:  # the page is served all the same
             logger.exception("fics_web: the archive couldn't be read")
 
@@ -62,6 +66,7 @@ class Archived:
         if not place:
             raise web.HTTPNotFound
         asked = {name: request.query.get(name, "")[:MOST_ASKED] for name in ASKED}
+        asked["names"] = request.query.get("names", "")[:MOST_NAMES]
         if place.kind == LAST:
             raise web.HTTPFound(await self.ask(self.address_of_last, asked))
         if place.form == PAGE:
@@ -71,7 +76,7 @@ class Archived:
 
     async def told(self, request: web.Request, place: Place, asked: dict[str, str]) -> web.Response:
         """What a page shows, as JSON."""
-        if place.kind != "game" and not self.take(request, A_LIST):
+        if place.kind not in ("game", "ratings") and not self.take(request, A_LIST):
             raise web.HTTPTooManyRequests(text="too many requests from this address")
         told = await self.ask(self.archive.told, place, asked)
         if told is None:

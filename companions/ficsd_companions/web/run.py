@@ -76,6 +76,11 @@ def options() -> argparse.ArgumentParser:
     )
     add_version(words)
     words.add_argument("--counts", type=Path, metavar="FILE", help=COUNTS)
+    words.add_argument(
+        "--ratings",
+        action="store_true",
+        help="show the ratings that the archive makes: beside names, on players' pages, as ladders",
+    )
     words.add_argument("--plain", action="store_true", help="refuse stamped lines: every clock is the server's own")
     return words
 
@@ -108,7 +113,10 @@ def add_visitors(words: argparse.ArgumentParser) -> None:
 
 
 def main() -> int:
-    chosen = options().parse_args()
+    words = options()
+    chosen = words.parse_args()
+    if chosen.ratings and not chosen.archive:
+        words.error("--ratings wants --archive: they are made of its games")
     settings = Settings(
         chosen.server,
         chosen.web,
@@ -118,6 +126,7 @@ def main() -> int:
         refuses_stamps=chosen.plain,
         archive=chosen.archive,
         counts=chosen.counts,
+        rates=chosen.ratings,
     )
     logs.quieten()
     try:

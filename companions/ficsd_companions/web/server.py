@@ -33,7 +33,9 @@ class GoBetween:
         self.hosts, self.pages = Hosts(settings.hosts), Pages(settings.folder)
         self.refused = Refused("fics_web", settings.counts)
         self.porter = Porter(Proxies(settings.proxies), settings.tabs_from_one, self.refused)
-        self.archived = Archived(settings.archive, self.pages, self.counts) if settings.archive else None
+        self.archived = (
+            Archived(settings.archive, self.pages, self.counts, settings.rates) if settings.archive else None
+        )
         self.tabs = Tabs(settings, self.porter)
 
     async def serve(self, address: str, port: int) -> bool:

@@ -20,3 +20,4 @@ class Settings:
     refuses_stamps: bool = False
     archive: Path | None = None  # the folder of the scribe's
     counts: Path | None = None  # the file in which stands what was refused
+    rates: bool = False  # whether the ratings that it makes are shown

@@ -169,6 +169,8 @@ class Tabs:
     def greeting(self, seat: Seat, how: Taken, taken: int) -> str:
         """The first message to a tab that has a seat."""
         has = {"archive": True} if self.settings.archive else {}
+        if self.settings.rates:
+            has["ratings"] = True
         return seat.greeting(how, taken, plain=self.settings.refuses_stamps, **has)
 
     def leave(self, seat: Seat, link: Link, comes_back: bool) -> None:

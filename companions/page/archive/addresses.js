@@ -4,6 +4,7 @@ export const TOP = "/games/";
 const LINK = /^(\d{4}-\d\d-\d\d)\/([1-9]\d*)$/;
 const DAY = /^\d{4}-\d\d-\d\d$/;
 const PLAYER = /^player\/([^/]+)$/;
+const LADDER = /^ladder\/([a-z]+)$/;
 
 /** @param {string} text */
 function decoded(text) {
@@ -14,15 +15,17 @@ function decoded(text) {
   }
 }
 
-/** What a path is of, { kind, link, day or name }, where kind is games, day, player, game, or nothing.
+/** What a path is of, { kind, link, day or name }, where kind is games, day, player, ladder, game, or nothing.
  * @param {string} path
  * @returns {Address} */
 export function placeOf(path) {
   const rest = path.startsWith(TOP) ? path.slice(TOP.length) : "?";
   const player = PLAYER.exec(rest);
+  const ladder = LADDER.exec(rest);
   return rest === "" ? { kind: "games" } : DAY.test(rest) ? { kind: "day", day: rest }
     : LINK.test(rest) ? { kind: "game", link: rest }
-      : player ? { kind: "player", name: decoded(player[1]) } : { kind: "" };
+      : player ? { kind: "player", name: decoded(player[1]) }
+        : ladder ? { kind: "ladder", name: ladder[1] } : { kind: "" };
 }
 
 /** Where what a page shows is asked for.
@@ -44,6 +47,11 @@ export function pgnAddress(link) {
 /** @param {string} name */
 export function playerAddress(name, variant = "") {
   return `${TOP}player/${encodeURIComponent(name)}${variant && `?variant=${encodeURIComponent(variant)}`}`;
+}
+
+/** @param {string} pool */
+export function ladderAddress(pool) {
+  return `${TOP}ladder/${pool}`;
 }
 
 /** The same page with the games before one.

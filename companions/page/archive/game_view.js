@@ -9,6 +9,7 @@ import { onLanguage, t } from "../shell/texts.js";
 import { reasonInWords } from "../game/state_words.js";
 import { gameAddress, pgnAddress, TOP } from "./addresses.js";
 import { archivedGame, archivedPair } from "./game.js";
+import { ratedInWords } from "./rating_view.js";
 import { dayInWords, playerLink, resultOf } from "./rows.js";
 import { listenForSwipes } from "./swipe.js";
 
@@ -102,6 +103,8 @@ export class GameView {
     byId("facts").textContent = [game.terms.inWords(), dayInWords(day), game.tags.Time?.slice(0, 5)]
       .filter(Boolean).join(", ");
     byId("status").textContent = this.ending();
+    byId("rated").textContent = ratedInWords(told.rated);
+    byId("rated").hidden = !told.rated;
     byId("cut-off").hidden = !game.isCutOff;
     byId("pgn-save").href = pgnAddress(link);
     byId("of-day").href = TOP + day;

@@ -3,6 +3,7 @@
 import { byId, element, onSubmit } from "../shell/elements.js";
 import { onLanguage, t } from "../shell/texts.js";
 import { olderAddress, TOP } from "./addresses.js";
+import { showLadder, showLadders, showRatings } from "./rating_view.js";
 import { dayInWords, dayRow, gameRow, link, playerRow, tallyRow, variantInWords } from "./rows.js";
 
 const VARIANTS = ["chess", "crazyhouse", "bughouse", "fischer"];
@@ -64,6 +65,11 @@ export class ListView {
     const { games, hasMore } = this.told;
     byId("games-title").textContent = this.title();
     document.title = this.title();
+    if (kind === "ladder") {
+      showLadder(this.told);
+      byId("list").hidden = true;
+      return;
+    }
     byId("list-title").textContent = this.listTitle();
     byId("games-list").replaceChildren(...games.map((it) => gameRow(it, kind !== "day")));
     if (!games.length) {
@@ -83,7 +89,8 @@ export class ListView {
   title() {
     const { kind, day = "" } = this.place;
     const { name, count } = this.told;
-    return kind === "day" ? t("archive.of-day", { day: dayInWords(day) })
+    return kind === "ladder" ? t("ratings.ladder", { pool: t(`pool.${this.place.name}`) })
+      : kind === "day" ? t("archive.of-day", { day: dayInWords(day) })
       : kind === "player" ? t("archive.of-player", { name, n: count }) : t("archive.title");
   }
 
@@ -100,6 +107,7 @@ export class ListView {
     byId("players-list").replaceChildren(...players.map(playerRow));
     byId("days").hidden = this.isSearch || !days.length;
     byId("days-list").replaceChildren(...days.map(dayRow));
+    showLadders(this.isSearch ? [] : this.told.ladders ?? []);
   }
 
   showDay() {
@@ -112,5 +120,6 @@ export class ListView {
   showPlayer() {
     byId("tally").hidden = false;
     byId("tally-rows").replaceChildren(...tallyRows(this.told));
+    showRatings(this.told.ratings ?? []);
   }
 }

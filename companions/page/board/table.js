@@ -11,6 +11,7 @@ import { isOwn } from "../game/moves.js";
 import { squaresFor } from "../game/premove.js";
 import { Promotion } from "./promotion.js";
 import { element } from "../shell/elements.js";
+import { withRating } from "../shell/ratings.js";
 import { t } from "../shell/texts.js";
 
 /** @param {"span" | "div"} name @param {HTMLElement} parent */
@@ -35,7 +36,7 @@ class Plate {
   /** @param {Game} game @param {Colour} colour @param {string} chosen */
   show(game, colour, chosen) {
     this.name.dataset.colour = colour;
-    this.name.replaceChildren(game.nameOf(colour), this.colour);
+    this.name.replaceChildren(withRating(game.nameOf(colour), game.terms.pool), this.colour);
     this.colour.textContent = `, ${t(colour === "w" ? "white" : "black")}`;
     this.name.classList.toggle("to-move", !game.isOver && game.toMove === colour);
     this.captured.show(game, colour);

@@ -67,6 +67,12 @@ export class Terms {
       : "slow";
   }
 
+  /** The pool in which such a game is rated. */
+  get pool() {
+    const [name] = this.variant.split(" ");
+    return name !== "chess" ? name : ["slow", "untimed"].includes(this.speed) ? "classical" : this.speed;
+  }
+
   variantInWords() {
     const [name, number] = this.variant.split(" ");
     return number === undefined ? t(`variant.${name}`) : t("variant.numbered", { number });

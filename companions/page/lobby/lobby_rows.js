@@ -1,6 +1,14 @@
 /** The rows of the lobby's lists. */
 
+import { withRating } from "../shell/ratings.js";
 import { t } from "../shell/texts.js";
+
+/** A name with its rating, in a pool or in that of most of its games.
+ * @param {string} who @param {string} me */
+function withName(who, me, pool = "") {
+  const rated = withRating(who, pool);
+  return who === me ? t("player.you", { who: rated }) : rated;
+}
 
 /** A player, and what it does.
  * @param {string} who @param {string} me @param {Happened<'game'>[]} games @param {Happened<'sought'>[]} seeks */
@@ -14,7 +22,7 @@ export function playerRow(who, me, games, seeks) {
     { drawing: "challenge", name: t("player.challenge", { who }), challenge: who },
     { drawing: "talk", name: t("player.tell-name", { who }), room: `person ${who}` },
   ];
-  return { key: who, parts: { who: who === me ? t("player.you", { who }) : who, does }, buttons,
+  return { key: who, parts: { who: withName(who, me), does }, buttons,
     className: game ? "plays" : "" };
 }
 
@@ -22,7 +30,7 @@ export function playerRow(who, me, games, seeks) {
  * @param {Happened<'sought'>} event @param {string} me */
 export function seekRow({ n, who, terms, text }, me) {
   const isMine = who === me;
-  const parts = { time: terms.shortTime(), who: isMine ? t("player.you", { who }) : who,
+  const parts = { time: terms.shortTime(), who: withName(who, me, terms.pool),
     variant: terms.variantInWords(), colour: terms.colour ? t(`terms.asks-${terms.colour}`) : "",
     act: t(isMine ? "seek.take-back" : "seek.play") };
   const name = t(isMine ? "seek.take-back-name" : "seek.play-name", { n, who, terms: terms.inWords() });

@@ -3,6 +3,7 @@
 import { lastSquares } from "../link/board_line.js";
 import { byId, element } from "../shell/elements.js";
 import { SmallBoard } from "../board/small_board.js";
+import { withRating } from "../shell/ratings.js";
 import { t } from "../shell/texts.js";
 import { isLobbySeen, onView } from "../shell/views.js";
 
@@ -31,8 +32,8 @@ class Card {
     delete this.button.dataset[isOpen ? "command" : "show"];
     this.button.dataset[isOpen ? "show" : "command"] = isOpen ? String(game.game) : `observe ${game.game}`;
     this.button.setAttribute("aria-label", t(isOpen ? "game.open-name" : "game.watch-name", places));
-    this.above.textContent = black;
-    this.below.textContent = white;
+    this.above.textContent = withRating(black, terms.pool);
+    this.below.textContent = withRating(white, terms.pool);
     this.above.classList.toggle("to-move", known?.board.side === "b" && !known.isOver);
     this.below.classList.toggle("to-move", known?.board.side === "w" && !known.isOver);
     this.foot.textContent = `${terms.shortTime()} · ${terms.variantInWords()}`;
