@@ -23,7 +23,7 @@ LASTS = "public, max-age=31536000, immutable"  # a year, for what has a sum of i
 
 
 class File:
-    """A file of the page, by what its name ends in and what is in it, and whether its name is for this content alone."""
+    """A file of the page, by what its name ends in and what is in it, and whether its name is of this content alone."""
 
     def __init__(self, suffix: str, content: bytes, lasts: bool = False) -> None:
         self.headers = {"Content-Type": TYPES[suffix], "Vary": "Accept-Encoding"}
