@@ -1,5 +1,5 @@
-"""The house as a host: it opens as people do, and not always alike; it doesn't agree to a draw before it has played; and
-it plays as strongly as its guest has chosen."""
+"""The house as a host: it opens as people do, and not always alike; it doesn't agree to a draw before it has played;
+and it plays as strongly as its guest has chosen."""
 
 import subprocess
 
