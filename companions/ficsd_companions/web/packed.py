@@ -5,16 +5,19 @@ Debian's esbuild does it, as the go-between starts. The page itself has no build
 has changed since, the files are served as they are."""
 
 import hashlib
+import math
 import re
 import shutil
 import subprocess
 import sys
+import time
 from collections.abc import Iterator
 from pathlib import Path
 
 from .files import File
 
 BUNDLER = "esbuild"
+LOOK_SECONDS = 1  # between two looks at the files: there are a hundred of them
 MOST_SECONDS = 60  # that it may take, on a machine that is busy
 AS_MODULE = ("--bundle", "--format=esm", "--minify", "--charset=utf8", "--target=es2022", "--log-level=error")
 AS_SHEET = ("--loader=css", "--minify", "--charset=utf8", "--log-level=error")
@@ -43,6 +46,7 @@ class Packed:
         self.folder = folder
         self.parts: dict[str, File] = {}
         self.pages: dict[str, File] = {}
+        self.looked, self.was_fresh = -math.inf, True
         try:
             self.state = state_of(folder)
             for page in self.to_pack():
@@ -58,10 +62,17 @@ class Packed:
         """The file of that name as it is packed. A page of which something has changed isn't."""
         if name not in self.pages:
             return self.parts.get(name)
-        try:
-            return self.pages[name] if state_of(self.folder) == self.state else None
-        except OSError:  # a file has just gone
-            return None
+        return self.pages[name] if self.is_fresh() else None
+
+    def is_fresh(self) -> bool:
+        """Whether no file of the page has changed, as it was looked at within the last second."""
+        if time.monotonic() - self.looked > LOOK_SECONDS:
+            self.looked = time.monotonic()
+            try:
+                self.was_fresh = state_of(self.folder) == self.state
+            except OSError:  # a file has just gone
+                self.was_fresh = False
+        return self.was_fresh
 
     def pack(self, page: str) -> str:
         """An HTML file with the names of what is packed, which is kept."""
