@@ -22,6 +22,7 @@ MOST_SECONDS = 60  # that it may take, on a machine that is busy
 AS_MODULE = ("--bundle", "--format=esm", "--minify", "--charset=utf8", "--target=es2022", "--log-level=error")
 AS_SHEET = ("--loader=css", "--minify", "--charset=utf8", "--log-level=error")
 FOLDER = "packed/"  # where the names with sums lie
+HEAD = "<head>\n"
 SHEET = re.compile(r'<link rel="stylesheet" href="(/?)([^"]+)">\n')
 SCRIPT = re.compile(r'<script type="module" src="(/?)([^"]+)"></script>')
 DRAWING = re.compile(r'(?<=")(/?)(\w+\.svg)(?=[#"])')
@@ -85,7 +86,9 @@ class Packed:
             together = "".join(self.within(it).read_text() for _, it in sheets)
             sheet = self.keep(root, sheets[0][1], bundled(AS_SHEET, together))
             head = f'<link rel="stylesheet" href="{sheet}">\n{head}'
-        page = SHEET.sub("", page).replace(script[0], head, 1)
+        # what is largest is asked for first, by the connection that is there
+        first = f'{HEAD}<link rel="modulepreload" href="{bundle}">\n'
+        page = SHEET.sub("", page).replace(script[0], head, 1).replace(HEAD, first, 1)
         return DRAWING.sub(lambda it: self.keep(it[1], it[2], self.within(it[2]).read_bytes()), page)
 
     def within(self, name: str) -> Path:

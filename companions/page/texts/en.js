@@ -105,7 +105,7 @@ export const TEXTS = {
   "act.adjourn": "Adjourn",
   "act.flag": "Flag",
   "act.resign": "Resign",
-  "act.takeback": "Take back",
+  "act.takeback": "Takeback",
   "act.takeback-n": "half-moves:",
   "act.look-no-longer": "Stop watching",
   "act.move": "Move",

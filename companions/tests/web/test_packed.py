@@ -69,6 +69,7 @@ def test_a_first_visit(go_between: GoBetween) -> None:
     assert len(got) <= MOST_REQUESTS, list(got)
     assert sum(len(it.body) for it in got.values()) <= MOST_BYTES
     assert [len([it for it in got if it.endswith(end)]) for end in (".js", ".css")] == [1, 1]
+    assert LOADED.findall(got["/"].text)[0].endswith(".js")  # what is largest is asked for first
     (script,) = (it.text for path, it in got.items() if path.endswith(".js"))
     assert not IMPORT.search(script)
     assert "Come in" in script and "Halle" in script
