@@ -1,5 +1,5 @@
-"""Who plays at the same desk is told that a player's tab is gone, for how long its seat is held, and that it is back; and
-nobody else is."""
+"""Who plays at the same desk is told that a player's tab is gone, for how long its seat is held, and that it is back;
+and nobody else is."""
 
 import json
 

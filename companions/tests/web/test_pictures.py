@@ -1,5 +1,5 @@
-"""Pictures of the page at five sizes, light and dark, for whoever looks at them: `--pictures FOLDER` says where they are
-put. `web` and `lobby` without a width are those of docs/."""
+"""Pictures of the page at five sizes, light and dark, for whoever looks at them: `--pictures FOLDER` says where they
+are put. `web` and `lobby` without a width are those of docs/."""
 
 from pathlib import Path
 
