@@ -8,6 +8,7 @@
 import { listenForActs } from "./shell/acts.js";
 import { Alerts } from "./member/alerts.js";
 import { ArchiveLinks } from "./archive/links.js";
+import { Earlier } from "./archive/earlier.js";
 import { BoardView } from "./board/board_view.js";
 import { closeBoxes, listenForBoxes, openBy } from "./shell/boxes.js";
 import { PartnerTalk } from "./talk/partner_talk.js";
@@ -53,14 +54,14 @@ function showInside(session) {
 
 /** The parts that tell the member of what comes, whatever is seen: sounds, notes, calls and the talk.
  * @param {{ session: Session, games: Games, smallGames: SmallGames, play: Play, simul: Simul,
- *   preferences: Preferences }} parts */
-function heralds({ session, games, smallGames, play, simul, preferences }) {
+ *   preferences: Preferences, shows: (keys: string[]) => void }} parts */
+function heralds({ session, games, smallGames, play, simul, preferences, shows }) {
   const settings = new Settings(session);
   const sounds = new Sounds(session, games, preferences);
   const alerts = new Alerts(session, games, preferences);
   const calls = new Calls(session, {
     isPlaying: () => games.running.length > 0 && !simul.isGiven, wants: (who) => settings.wants(who),
-    changed: (count) => alerts.called(count),
+    changed: (count) => alerts.called(count), shows,
   });
   const talk = new Talk(session, {
     atGame: (line) => (games.shown ? play.act(games.shown, line) : session.act(line)),
@@ -82,6 +83,14 @@ function listenForLeaving(session, games) {
       event.preventDefault();
     }
   });
+}
+
+/** The talk goes to the opponent of a game that begins; in bughouse and in a simul to all who are at it.
+ * @param {Talk} talk @param {Games} games @param {string} me @param {Game | null} game @param {Happened} event */
+function talkAtGame(talk, games, me, game, event) {
+  if (game?.role === "mine" && (event.kind === "creating" || event.kind === "continuing")) {
+    talk.begin(game.terms.isBughouse || games.running.length > 1 ? null : game.otherThan(me));
+  }
 }
 
 /** `data-show` names a game that the member has, which is brought to the board.
@@ -138,15 +147,18 @@ function start() {
   const play = new Play(session, games, simul, preferences, (game) => view.waits(game));
   /** @type {BoardView} */
   const view = new BoardView(session, games, play);
-  const { settings, sounds, alerts, calls, talk } = heralds({ session, games, smallGames, play, simul, preferences });
+  const { settings, sounds, alerts, calls, talk } = heralds({
+    session, games, smallGames, play, simul, preferences, shows: (keys) => lobby.showChallenges(keys),
+  });
   /** @type {Lobby} */
   const lobby = new Lobby(session, games, smallGames, (rows) => calls.challenged(rows));
   const following = new Following(games);
   hearers.push((...it) => following.told(...it), (...it) => play.told(...it), (...it) => view.changed(...it),
     (...it) => sounds.told(...it), (...it) => alerts.told(...it), () => calls.show(), () => lobby.running.want(),
-    () => games.isAtOne && talk.game());
+    () => games.isAtOne && talk.game(), (...it) => talkAtGame(talk, games, session.me, ...it));
   const archiveLinks = new ArchiveLinks(session);
-  hearers.push(() => archiveLinks.show(games.shown));
+  const earlier = new Earlier(() => archiveLinks.isThere, (game) => games.changed(game, { kind: "chosen" }));
+  hearers.push(() => archiveLinks.show(games.shown), (game) => earlier.told(game));
   const wayBack = new WayBack(session, games, store, kept);
   preferences.onChange(() => view.show());
   listenForRatings(session, () => {

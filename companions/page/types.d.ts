@@ -134,7 +134,7 @@ interface Part {
 
 type Words = Record<string, unknown>;
 /** What the go-between tells the page itself. */
-type Told = Words & { archive?: boolean; ratings?: boolean };
+type Told = Words & { archive?: boolean; ratings?: boolean; away?: string; held?: number };
 
 /** The go-between's answer to a page that comes. */
 interface Taken {
@@ -270,6 +270,7 @@ interface RowButton {
   room?: string;
   show?: string;
   challenge?: string;
+  isOff?: boolean;
 }
 
 /** A row of a list that keeps itself. */
@@ -376,6 +377,7 @@ interface Marks {
   target: (string | undefined)[];
   check: (string | undefined)[];
   premove: (string | undefined)[];
+  dropped?: { square: string; man: string } | null;
   drawn?: Record<string, string>;
 }
 
@@ -408,6 +410,7 @@ interface CallsListeners {
   isPlaying(): boolean;
   wants(who: string): boolean;
   changed(count: number): void;
+  shows(keys: string[]): void;
 }
 
 type Call = Pick<Happened<"partner-asked" | "resume-asked">, "kind" | "who">;
@@ -454,7 +457,7 @@ interface Lists {
   pending: Happened<"pending-from" | "pending-to">[];
   stored: Happened<"stored" | "stored-pair">[];
 }
-type PreferenceName = "sounds" | "notes" | "premoves" | "legal" | "queen";
+type PreferenceName = "sounds" | "notes" | "premoves" | "legal" | "queen" | "flag";
 type SoundName = "move" | "capture" | "check" | "call" | "low";
 type ElementOf<I extends string> = I extends keyof Elements ? Elements[I] : HTMLElement;
 type DialogId = { [I in keyof Elements]: Elements[I] extends HTMLDialogElement ? I : never }[keyof Elements];

@@ -40,7 +40,8 @@ class Host:
         self.member, self.chosen, self.brain, self.memory = member, chosen, brain, memory
         self.visitors = Visitors(member, chosen.hall, chosen.greet)
         offers = Offers(chosen.seek, chosen.challenge, chosen.take)
-        self.lobby = Lobby(member, about.terms, offers, self.visitors)
+        self.lobby = Lobby(member, about, offers, self.visitors)
+        self.levels = about.levels
         self.answers = Answers(about)
         self.tables: dict[Game, Table] = {}
         self.errands: asyncio.Queue[Callable[[], Awaitable[None]]] = asyncio.Queue()  # of the lobby, one after another
@@ -111,7 +112,8 @@ class Host:
         """A board of a game has come."""
         if is_new and game.role == OWN:
             self.lobby.seated()
-            self.tables[game] = Table(self.member, self.brain, self.memory, game)
+            level = self.levels.of(game.opponent) if self.levels else None
+            self.tables[game] = Table(self.member, self.brain, self.memory, game, level)
             say(f"{self.tables[game]} begins: {game.terms}, with {game.colour}")
         if game in self.tables:
             self.tables[game].moved()

@@ -33,13 +33,15 @@ class House:
         self.program, self.depth = program, depth
         self.turns = asyncio.Semaphore(searches or max(1, (os.cpu_count() or 1)))
 
-    async def best(self, kind: str, text: str, seconds: float, most: float = LAST_RESORT_SECONDS) -> Answer:
-        """The best half-move as far ahead as it gets in about so many seconds. One half-move ahead it looks in any
-        case, for at most `most` seconds."""
+    async def best(
+        self, kind: str, text: str, seconds: float, most: float = LAST_RESORT_SECONDS, level: int | None = None
+    ) -> Answer:
+        """The best half-move as far ahead as it gets in about so many seconds, and no further than a level says. One
+        half-move ahead it looks in any case, for at most `most` seconds."""
         loop = asyncio.get_running_loop()
         begun = loop.time()
         answer, depth, took = None, 1, 0.0
-        while depth <= min(self.depth, DEEPEST[kind]):
+        while depth <= min(level or self.depth, self.depth, DEEPEST[kind]):
             left = seconds - (loop.time() - begun)
             if answer and left < took * STEP:
                 break

@@ -10,7 +10,8 @@ from ficslink.lines import Challenge, SeekMade, Sought, Stored
 from ficslink.member import Member
 
 from .journal import say
-from .terms import Terms, Wanted
+from .talk import About
+from .terms import Wanted
 from .visitors import Visitors
 
 GONE_OR_PLAYING = (Refusal.NO_SUCH_PLAYER, Refusal.PLAYING)  # of what may be asked later
@@ -30,8 +31,10 @@ class Offers:
 class Lobby:
     """What is done beside the boards. Each call of it comes behind the end of the one before."""
 
-    def __init__(self, member: Member, terms: Terms, offers: Offers, visitors: Visitors) -> None:
-        self.member, self.terms, self.offers, self.visitors = member, terms, offers, visitors
+    def __init__(self, member: Member, about: About, offers: Offers, visitors: Visitors) -> None:
+        self.member, self.terms, self.offers, self.visitors = member, about.terms, offers, visitors
+        self.levels = about.levels
+        self.welcomed: set[str] = set()  # those who were told of the levels
         self.is_giver = False  # whether it gives a simul, as who plays several games at a time has to
         self.is_closing = False
         self.seeking = False
@@ -68,6 +71,9 @@ class Lobby:
             await self.tried(f"tell {who} {AS_GIVER}")
         if refusal := await self.tried(f"accept {who}"):
             say(f"{who}'s game doesn't begin: {refusal}")
+        elif self.levels and who not in self.welcomed:
+            self.welcomed.add(who)
+            await self.tried(f"tell {who} This is level {self.levels.of(who)}. {self.levels.hint()}")
 
     def objection(self, who: str, terms: GameTerms) -> str | None:
         """Why a game with that member is turned down."""

@@ -7,6 +7,7 @@ from ficsd_companions.cli.program import built_program, is_program
 from . import host
 from .house import House, HouseFault
 from .journal import say
+from .levels import Levels
 from .options import Chosen
 from .talk import About
 from .terms import VARIANTS
@@ -24,6 +25,7 @@ async def run(chosen: Chosen, password: str | None) -> int:
     """Tries what was chosen, plays, and leaves; the status."""
     house = await tried_house(chosen)
     able: tuple[str, ...] = VARIANTS
+    levels = None
     if chosen.engine is None:
         if not house:
             raise BadChoice(
@@ -31,10 +33,11 @@ async def run(chosen: Chosen, password: str | None) -> int:
                 "--program FILE names it"
             )
         brain, engine = Brain(house), f"the house's own search, {chosen.depth} half-moves ahead"
+        levels = Levels(chosen.depth)
     else:
         brain = Brain(house, found(chosen.engine), chosen.option)
         engine, able = await tried_engine(brain)
-    about = About(chosen.name, engine, chosen.terms(variants_of(chosen, engine, able)))
+    about = About(chosen.name, engine, chosen.terms(variants_of(chosen, engine, able)), levels)
     for it in (*chosen.seek, *([chosen.challenge[1]] if chosen.challenge else [])):
         if it.terms.kind not in about.terms.variants:
             raise BadChoice(f"{engine} doesn't play {it.terms.kind}")

@@ -33,6 +33,7 @@ ILLEGAL = frozenset(
     }
 )
 MOST_FAULTS = 3  # of the engine, behind which the bot offers to abort
+HOUSE_DRAWS = 20  # so many half-moves at least were made where the house agrees to a draw
 ABORT_PLIES = 2  # so many half-moves at most were made where it agrees to abort
 FLAG_SECONDS = 1.0  # so long behind its fall it calls the flag, and between two calls
 IDLE_HINT, IDLE_LEAVE = 300.0, 600.0  # seconds for which it waits for the other's first half-move
@@ -47,9 +48,10 @@ def cause(fault: LinkError | None) -> Refusal | None:
 class Table:
     """A game, from the first board that was told."""
 
-    def __init__(self, member: Member, brain: Brain, memory: Memory, game: Game) -> None:
+    def __init__(self, member: Member, brain: Brain, memory: Memory, game: Game, level: int | None = None) -> None:
         self.member, self.memory, self.game = member, memory, game
-        self.thinker = Thinker(brain, str(self))
+        self.thinker = Thinker(brain, str(self), level)
+        self.draws_from = 0 if brain.path else HOUSE_DRAWS  # the half-move from which on it agrees to a draw
         self.kept = memory.recall(game)
         self.led = list(self.kept.words)
         self.value: int | None = None  # of the last position in which it thought, in hundredths of a pawn
@@ -162,8 +164,8 @@ class Table:
         return any((it.who, it.kind) == (self.game.opponent, kind) for it in self.game.offers)
 
     def takes_draw(self) -> bool:
-        """Whether it agrees to a draw: where it doesn't stand better, as far as it knows."""
-        return self.value is not None and self.value <= 0
+        """Whether it agrees to a draw: where it doesn't stand better, as far as it knows. The house plays first."""
+        return self.value is not None and self.value <= 0 and self.game.board.ply >= self.draws_from
 
     async def answer(self, offer: Offer, is_closing: bool) -> None:
         """Answers the opponent's offer."""

@@ -3,6 +3,7 @@
 import time
 from dataclasses import dataclass
 
+from .levels import Levels
 from .terms import Terms
 
 PAUSE = 1.0  # seconds between two answers to one member
@@ -15,10 +16,13 @@ class About:
     name: str
     engine: str
     terms: Terms
+    levels: Levels | None = None  # where its strength can be chosen
 
-    def answer(self, text: str, games: int) -> list[str] | None:
+    def answer(self, who: str, text: str, games: int) -> list[str] | None:
         """The lines that answer a text; none for one that isn't a word of the bot's."""
         word = text.strip().lower().rstrip("?!.")
+        if self.levels and (said := self.levels.answer(who, text)):
+            return [said]
         if word in ("help", "hi", "hello"):
             return self.help()
         if word == "engine":
@@ -34,9 +38,10 @@ class About:
         return [
             f"I am a program, {self.engine}. I play {self.terms}.",
             f"To play, type: match {self.name} {example}",
+            *([self.levels.hint()] if self.levels else []),
             "I accept a draw where I don't stand better, one takeback a game, an abort before the second move, and to "
             "adjourn; a game that we adjourned I resume.",
-            "I know these words: help, engine, status.",
+            f"I know these words: help, engine, {'level, ' if self.levels else ''}status.",
         ]
 
     def hint(self) -> str:
@@ -58,7 +63,7 @@ class Answers:
         last = self.answered.get(who)
         if last is not None and now - last < PAUSE:
             return []
-        said = self.about.answer(text, games)
+        said = self.about.answer(who, text, games)
         if said is None and last is not None:
             return []
         self.answered[who] = now

@@ -6,7 +6,7 @@ from dataclasses import dataclass, replace
 
 from ficslink.game import Game
 
-from . import clock, position
+from . import clock, openings, position
 from .clock import Budget
 from .house import House, HouseFault
 from .journal import say
@@ -37,8 +37,8 @@ class Brain:
 class Thinker:
     """The thinking of one game. `faults` counts what its engine did wrong."""
 
-    def __init__(self, brain: Brain, name: str) -> None:
-        self.brain, self.name = brain, name
+    def __init__(self, brain: Brain, name: str, level: int | None = None) -> None:
+        self.brain, self.name, self.level = brain, name, level
         self.engine: Engine | None = None
         self.faults = 0
         self.games = 1  # that are played beside each other
@@ -62,6 +62,8 @@ class Thinker:
         self.games = games
         given = clock.of(game, self.games)
         if not self.brain.path:
+            if word := self.opening(game, led):
+                return Thought(word, None, True)
             return await self.ask_house(game, led, clock.share(given))
         end = asyncio.get_running_loop().time() + self.patience_with(given).fail
         try:
@@ -72,6 +74,12 @@ class Thinker:
                 return await self.ask_engine(game, end)
         except (EngineFault, NoEngine) as fault:
             return await self.stand_in(str(fault), game, led)
+
+    @staticmethod
+    def opening(game: Game, led: Sequence[str]) -> str | None:
+        """How the house goes on in the opening, where it knows one."""
+        words = position.words_of(game, led) if position.kind_of(game) == "chess" else None
+        return None if words is None else openings.next_word(words)
 
     async def ask_engine(self, game: Game, end: float) -> Thought:
         """What the engine finds until a moment of the loop's time. Where its thought is broken off it is ended, since
@@ -119,7 +127,8 @@ class Thinker:
             return None
         most = given.own if given.is_timed else clock.UNTIMED_PATIENCE
         try:
-            answer = await self.brain.house.best(position.kind_of(game), text, min(seconds, most / 2), max(2.0, most))
+            kind, wanted = position.kind_of(game), min(seconds, most / 2)
+            answer = await self.brain.house.best(kind, text, wanted, max(2.0, most), self.level)
         except HouseFault as fault:
             say(f"{self.name}: {fault}; the board is {game.fen()}")
             return None

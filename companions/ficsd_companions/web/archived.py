@@ -13,10 +13,12 @@ from urllib.parse import urlencode
 from aiohttp import web
 from ficsd_companions.archive.addresses import LAST, PAGE, Place, place_of
 from ficsd_companions.archive.answers import Archive
+from ficsd_companions.archive.running import lines_of
 
 from .pages import Pages
 
 BEGINNING = "/games"
+NOW = r"/now/{number:\d{1,6}}/{white:[A-Za-z]{3,17}}/{black:[A-Za-z]{3,17}}.json"
 SHELL = "games.html"
 A_LIST = 16  # requests as which a list counts, for which perhaps all games are looked through
 MOST_ASKED = 100  # characters of each thing that an address asks for
@@ -37,11 +39,12 @@ class Archived:
     ) -> None:
         """`take(request, n)` counts a request as n more of its address: whether that has so many. `rates` has ratings
         told too."""
-        self.archive, self.pages, self.take = Archive(folder, rates), pages, take
+        self.folder, self.archive, self.pages, self.take = folder, Archive(folder, rates), pages, take
         self.thread = ThreadPoolExecutor(1, "archive")
 
     def add_routes(self, router: web.UrlDispatcher) -> None:
         router.add_get(BEGINNING, self.lead)
+        router.add_get(BEGINNING + NOW, self.now)
         router.add_get(BEGINNING + "/{path:.*}", self.serve)
 
     async def begin(self) -> None:
@@ -73,6 +76,14 @@ class Archived:
             is_there = place.kind == "found" or await self.ask(self.archive.has, place)
             return self.pages.answer(request, SHELL, 200 if is_there else 404)
         return await (self.pgn(place) if place.form == "pgn" else self.told(request, place, asked))
+
+    async def now(self, request: web.Request) -> web.Response:
+        """What there was so far of a game that is played."""
+        if not self.take(request, A_LIST):
+            raise web.HTTPTooManyRequests(text="too many requests from this address")
+        number, white, black = (request.match_info[it] for it in ("number", "white", "black"))
+        lines = await self.ask(lines_of, self.folder, int(number), white, black)
+        return web.Response(text=json.dumps(lines), content_type="application/json")
 
     async def told(self, request: web.Request, place: Place, asked: dict[str, str]) -> web.Response:
         """What a page shows, as JSON."""

@@ -2,6 +2,7 @@
 
 import asyncio
 from collections.abc import Awaitable
+from contextlib import suppress
 
 from aiohttp import WSCloseCode, WSMessage, WSMsgType, web
 from ficsd_companions.limits.addresses import Address
@@ -196,6 +197,12 @@ class Link:
         if self.wants_lists and self.talk.name and changed and self.gate.unsent < MOST_UNSENT:
             self.lists = {**self.lists, **changed}
             await self.tab.send_str(seats.said(changed))
+
+    async def say(self, text: str) -> None:
+        """Tells the tab something of the go-between's own, where it takes what is sent."""
+        if self.gate.unsent < MOST_UNSENT and not self.has_ended.is_set():
+            with suppress(ConnectionError):  # it is about to be noticed where it is read
+                await self.tab.send_str(text)
 
     # ---- what ends it ----
 

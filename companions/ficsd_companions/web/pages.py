@@ -1,27 +1,15 @@
 """The page's files, and the headers of all that is served."""
 
 import asyncio
-import hashlib
 from pathlib import Path
 
-from aiohttp import ETag, web
+from aiohttp import web
 
-TYPES = {
-    ".html": "text/html; charset=utf-8",
-    ".css": "text/css; charset=utf-8",
-    ".js": "text/javascript; charset=utf-8",
-    ".mjs": "text/javascript; charset=utf-8",
-    ".json": "application/json",
-    ".webmanifest": "application/manifest+json",
-    ".txt": "text/plain; charset=utf-8",
-    ".svg": "image/svg+xml",
-    ".png": "image/png",
-    ".ico": "image/vnd.microsoft.icon",
-    ".woff2": "font/woff2",
-}
+from .files import TYPES, File
+from .packed import Packed
+
 # nothing foreign comes in, and no other page can show this one in a frame
 HEADERS = {
-    "Cache-Control": "no-cache",
     "Content-Security-Policy": "default-src 'self'; base-uri 'none'; form-action 'self'; frame-ancestors 'none'",
     "Cross-Origin-Opener-Policy": "same-origin",
     "Cross-Origin-Resource-Policy": "same-origin",
@@ -37,6 +25,7 @@ A_TURN = 4  # files that are answered in one turn of the loop
 async def add_headers(_request: web.BaseRequest, response: web.StreamResponse) -> None:
     """Puts the headers on every response."""
     response.headers.update(HEADERS)
+    response.headers.setdefault("Cache-Control", "no-cache")
 
 
 def is_foreign(request: web.BaseRequest) -> bool:
@@ -48,22 +37,14 @@ def is_foreign(request: web.BaseRequest) -> bool:
 State = tuple[int, int, int]  # when a file was written, its size, and which one it is
 
 
-class File:
-    """A file of the page, as it was read."""
-
-    def __init__(self, path: Path, state: State) -> None:
-        self.state = state
-        self.type, self.bytes = TYPES[path.suffix], path.read_bytes()
-        self.tag = ETag(hashlib.sha256(self.bytes).hexdigest()[:32])
-
-
 class Pages:
-    """The files of one folder, of the types above. They are kept in memory and looked at anew each time: a page is many
-    small ones, which take longer to open than to send."""
+    """The files of one folder, of the types that are known: packed, and each as it stands. They are kept in memory and
+    looked at anew each time: a page is many small ones, which take longer to open than to send."""
 
     def __init__(self, folder: Path) -> None:
         self.folder = folder.resolve()
-        self.files: dict[Path, File] = {}  # by their paths
+        self.files: dict[Path, tuple[State, File]] = {}  # by their paths
+        self.packed = Packed(self.folder)
         self.turns = asyncio.Semaphore(A_TURN)
 
     async def serve(self, request: web.Request) -> web.Response:
@@ -74,16 +55,7 @@ class Pages:
 
     def answer(self, request: web.Request, name: str, status: int = 200) -> web.Response:
         """The file of that name as the answer to a request."""
-        file = self.file(name)
-        known = request.if_none_match or ()
-        is_known = status == 200 and any(it.value in ("*", file.tag.value) for it in known)
-        response = (
-            web.Response(status=304)
-            if is_known
-            else web.Response(status=status, body=file.bytes, headers={"Content-Type": file.type})
-        )
-        response.etag = file.tag
-        return response
+        return (self.packed.find(name) or self.file(name)).answer(request, status)
 
     def file(self, name: str) -> File:
         try:
@@ -92,8 +64,8 @@ class Pages:
                 raise web.HTTPNotFound
             found = path.stat()
             state = found.st_mtime_ns, found.st_size, found.st_ino
-            if path not in self.files or self.files[path].state != state:
-                self.files[path] = File(path, state)
-            return self.files[path]
+            if path not in self.files or self.files[path][0] != state:
+                self.files[path] = state, File(path.suffix, path.read_bytes())
+            return self.files[path][1]
         except (OSError, ValueError):  # a name that no file can have, or one that has just gone
             raise web.HTTPNotFound from None

@@ -6,6 +6,7 @@ from aiohttp import WSCloseCode, web
 from ficsd_companions.limits.addresses import Address
 
 from . import closes, seats
+from .away import Away
 from .closes import Close, Closed
 from .gate import Gate, gate_of
 from .lines import LONGEST_MESSAGE
@@ -32,6 +33,7 @@ class Tabs:
         self.seats: dict[str, Seat] = {}  # by their tokens
         self.sockets: dict[asyncio.Task[object], web.WebSocketResponse] = {}  # by the tasks of the tabs
         self.frees: set[asyncio.Task[None]] = set()  # of each seat the task that gives its place to others
+        self.away = Away(self.lists.links)
 
     async def send_away(self) -> None:
         """Closes all tabs' links, since the go-between itself ends."""
@@ -148,6 +150,7 @@ class Tabs:
         if seat:
             link = Link(tab, gate, seat.server, address, self.lists)
             if how := await seat.seat(link, wish):
+                self.away.is_back(seat)
                 return seat, self.greeting(seat, *how), link
         why = self.porter.refusal(address)
         if why:
@@ -180,6 +183,7 @@ class Tabs:
         seat.link = None
         if comes_back and seat.may_be_held:
             seat.hold()
+            self.away.is_gone(seat)
         else:
             seat.server.close()
 
@@ -187,6 +191,7 @@ class Tabs:
         """Gives a seat's place to others once the server has closed its link, and no tab reads its last words."""
         await seat.server.over.wait()
         seat.is_gone = True
+        self.away.names.discard(seat.server.talk.name or "")
         del self.seats[seat.token]
         self.porter.take_back(seat.address)
 

@@ -80,8 +80,9 @@ export class Board {
   show(men, marks) {
     for (const [name, button] of Object.entries(this.squares)) {
       const man = men[name] ?? "";
-      if ((button.dataset.man ?? "") !== man) {
-        this.put(button, man);
+      const dropped = marks.dropped?.square === name ? marks.dropped.man : "";
+      if ((button.dataset.man ?? "") !== man || (button.dataset.dropped ?? "") !== dropped) {
+        this.put(button, man, dropped);
       }
       const own = MARKS.filter((it) => marks[it]?.includes(name));
       MARKS.forEach((it) => button.classList.toggle(it, own.includes(it)));
@@ -91,14 +92,16 @@ export class Board {
     }
   }
 
-  /** @param {HTMLButtonElement} button @param {string} man */
-  put(button, man) {
-    if (man) {
-      button.dataset.man = man;
-      button.replaceChildren(drawing(man));
-    } else {
-      delete button.dataset.man;
-      button.replaceChildren();
+  /** Puts a man on a square, and one that is to be dropped there.
+   * @param {HTMLButtonElement} button @param {string} man @param {string} dropped */
+  put(button, man, dropped) {
+    setOrDrop(button, "man", man);
+    setOrDrop(button, "dropped", dropped);
+    button.replaceChildren(...man ? [drawing(man)] : []);
+    if (dropped) {
+      const waiting = drawing(dropped);
+      waiting.classList.add("waits");
+      button.append(waiting);
     }
   }
 
@@ -142,5 +145,15 @@ export class Board {
     const sign = this.isTurned ? -1 : 1;
     const file = FILES[FILES.indexOf(name[0]) + sign * step[0]];
     this.squares[file + (Number(name[1]) + sign * step[1])]?.focus();
+  }
+}
+
+/** Names something of an element, or nothing any more.
+ * @param {HTMLElement} it @param {string} name @param {string} value */
+function setOrDrop(it, name, value) {
+  if (value) {
+    it.dataset[name] = value;
+  } else {
+    delete it.dataset[name];
   }
 }

@@ -1,6 +1,8 @@
 /** The part of the page with the boards: which games are shown, and what of them. */
 
 import { AfterGame } from "./after_game.js";
+import { Away } from "./away.js";
+import { Flag } from "./flag.js";
 import { Keys } from "./keys.js";
 import { MovesList } from "./moves_list.js";
 import { showOffers } from "./offers_view.js";
@@ -13,7 +15,6 @@ import { choiceOf, endInWords, statusOf } from "../game/state_words.js";
 
 const PLAYER_ACTS = /** @type {const} */ (["draw", "takeback", "abort", "adjourn", "flag", "resign", "move",
   "move-send"]);
-const FLAG_EVERY = 500; // milliseconds
 
 export class BoardView {
   /** @param {Session} session @param {Games} games @param {Play} play */
@@ -35,7 +36,8 @@ export class BoardView {
     byId("takeback-n").addEventListener("input", () => {
       byId("takeback").dataset.command = `takeback ${byId("takeback-n").value || 1}`;
     });
-    setInterval(() => this.showFlag(), FLAG_EVERY);
+    this.flag = new Flag(games, play, play.preferences);
+    this.away = new Away(session, games);
     onClickAt(byId("choices"), "[data-game]", (button) => games.choose(Number(button.dataset.game)));
   }
 
@@ -66,7 +68,7 @@ export class BoardView {
   }
 
   get isInSight() {
-    const { top, bottom } = byId("main-table").getBoundingClientRect();
+    const { top, bottom } = this.main.board.root.getBoundingClientRect();
     return !byId("board").hidden && bottom > 0 && top < window.innerHeight;
   }
 
@@ -99,6 +101,7 @@ export class BoardView {
     this.main.show(game);
     const pair = this.games.pairOf(game);
     byId("partner-table").hidden = !pair?.place;
+    document.body.toggleAttribute("data-pair", Boolean(pair?.place));
     byId("partner-talk").hidden = pair?.role !== "partner's";
     if (pair?.place) {
       this.partner.show(pair, !this.main.blackBelow);
@@ -106,6 +109,7 @@ export class BoardView {
     byId("status").textContent = statusOf(game, this.session.me);
     byId("status").classList.toggle("over", game.isOver);
     this.moves.show(game);
+    this.away.show();
     showOffers(byId("offers"), game, this.session.me);
     this.showActs(game, pair);
     this.showChoices(game, pair);
@@ -120,12 +124,13 @@ export class BoardView {
 
   /** @param {Game} game @param {Game | null} pair */
   showActs(game, pair) {
+    const isOpen = game.role === "mine" && !game.isOver;
     for (const id of PLAYER_ACTS) {
-      byId(id).disabled = game.role !== "mine" || game.isOver;
-      byId(id).hidden = game.role !== "mine";
+      byId(id).disabled = !isOpen;
+      byId(id).hidden = !isOpen;
     }
-    byId("move-form").hidden = game.role !== "mine";
-    byId("takeback-line").hidden = game.role !== "mine";
+    byId("move-form").hidden = !isOpen;
+    byId("takeback-line").hidden = !isOpen;
     byId("takeback").disabled ||= Boolean(pair);
     byId("flag").disabled ||= !game.terms.isTimed;
     byId("close-game").hidden = game.role === "mine" && !game.isOver;
@@ -154,15 +159,6 @@ export class BoardView {
     const button = element("button");
     button.dataset.game = String(game.number);
     return button;
-  }
-
-  /** The flag can be called at any time; its button says when the opponent's time is over. */
-  showFlag() {
-    const game = this.games.shown;
-    const isTimed = game?.role === "mine" && !game.isOver && game.place && game.terms.isTimed;
-    const opponent = game?.colourOf(game.otherThan(this.session.me));
-    const hasFallen = isTimed && opponent && (game.left(opponent) ?? 1) <= 0;
-    byId("flag").classList.toggle("strong", Boolean(hasFallen));
   }
 
   close() {

@@ -4,6 +4,7 @@
 import { otherThan } from "../game/legal.js";
 import { lead, missing } from "../game/material.js";
 import { drawing } from "./men.js";
+import { element } from "../shell/elements.js";
 import { t } from "../shell/texts.js";
 
 export class Captured {
@@ -26,7 +27,9 @@ export class Captured {
     const key = `${other} ${letters} ${ahead}`;
     if (key !== this.key) {
       this.key = key;
-      this.root.replaceChildren(...Array.from(letters, (kind) => drawing(other + kind)), ahead > 0 ? `+${ahead}` : "");
+      const captured = element("span", "men");
+      captured.append(...Array.from(letters, (kind) => drawing(other + kind)));
+      this.root.replaceChildren(captured, ahead > 0 ? `+${ahead}` : "");
       this.root.setAttribute("aria-label", this.inWords(letters, ahead));
     }
   }

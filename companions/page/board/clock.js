@@ -30,12 +30,14 @@ export class Clock {
     this.game = null;
     /** @type {Colour} */
     this.colour = "w";
+    this.stops = false; // at 0
     setInterval(() => this.tick(), EVERY);
   }
 
-  /** Shows the clock of a colour in a game.
-   * @param {Game} game @param {Colour} colour */
-  show(game, colour) {
+  /** Shows the clock of a colour in a game, and perhaps nothing below 0.
+   * @param {Game} game @param {Colour} colour @param {boolean} stops */
+  show(game, colour, stops) {
+    this.stops = stops;
     this.game = game;
     this.colour = colour;
     this.tick();
@@ -47,7 +49,7 @@ export class Clock {
       return;
     }
     const left = game.terms.isTimed ? game.left(colour) : null;
-    const text = left === null ? t("clock.none") : clockText(left);
+    const text = left === null ? t("clock.none") : clockText(this.stops ? Math.max(0, left) : left);
     if (root.textContent !== text) {
       root.textContent = text;
     }

@@ -55,6 +55,7 @@ export class Drag {
     const y = event.clientY - lifted.y;
     if (!lifted.isFar && Math.hypot(x, y) > FAR) {
       lifted.isFar = true;
+      lifted.from.element.classList.add("lifting");
       this.lifted(lifted.from);
     }
     if (lifted.isFar && lifted.drawing) {
@@ -65,6 +66,7 @@ export class Drag {
 
   /** @param {Lifted} lifted @param {PointerEvent} event */
   drop(lifted, event) {
+    lifted.from.element.classList.remove("lifting");
     if (lifted.drawing) {
       lifted.drawing.classList.remove("lifted");
       lifted.drawing.style.transform = "";

@@ -16,7 +16,9 @@ export class MovesList {
     this.games = games;
     this.changed = changed;
     this.list = byId("moves");
-    this.key = "";
+    this.key = ""; // of the game, and from where on it is known
+    /** @type {string[]} */
+    this.shown = []; // the half-moves that stand in the list
     new ResizeObserver(() => this.games.shown?.looking === null && this.showEnd()).observe(this.list);
     onClick("first", () => this.step("first"));
     onClick("previous", () => this.step("back"));
@@ -41,18 +43,33 @@ export class MovesList {
     return this.go(STEPS[name]);
   }
 
-  /** @param {Game} game */
+  /** Shows the half-moves. Those that are shown already stay as they are: a long game is as light as a short one.
+   * @param {Game} game */
   show(game) {
     const halfMoves = game.halfMoves;
-    const key = `${game.number} ${game.knownFrom} ${halfMoves.map((it) => it.ply + it.short).join(" ")}`;
-    if (key !== this.key) {
+    const key = `${game.number} ${game.white} ${game.knownFrom}`;
+    const isMore = key === this.key && this.shown.every((it, n) => it === keyOf(halfMoves[n]));
+    if (!isMore) {
       this.key = key;
-      this.list.replaceChildren(...this.beginning(game), ...this.rows(halfMoves));
+      this.shown = [];
+      this.list.replaceChildren(...this.beginning(game));
+    }
+    if (halfMoves.length !== this.shown.length) {
+      halfMoves.slice(this.shown.length).forEach((it) => this.append(it));
+      this.shown = halfMoves.map(keyOf);
       requestAnimationFrame(() => this.showEnd()); // with the layout of that frame
     }
-    for (const button of /** @type {NodeListOf<HTMLElement>} */ (this.list.querySelectorAll("[data-ply]"))) {
-      const isAt = Number(button.dataset.ply) === (game.looking ?? game.last);
-      button.setAttribute("aria-current", String(isAt));
+    this.mark(game.looking ?? game.last);
+  }
+
+  /** Marks the half-move at which one is.
+   * @param {number} ply */
+  mark(ply) {
+    const at = this.list.querySelector(`[data-ply="${ply}"]`);
+    const before = this.list.querySelector('[aria-current="true"]');
+    if (at !== before) {
+      before?.setAttribute("aria-current", "false");
+      at?.setAttribute("aria-current", "true");
     }
   }
 
@@ -73,21 +90,29 @@ export class MovesList {
     return ply === 0 ? [] : [element("li", "from", t("moves.from", { move }))];
   }
 
-  /** A row for each move of White and Black.
-   * @param {HalfMove[]} halfMoves */
-  rows(halfMoves) {
-    /** @type {Map<number, HTMLLIElement>} */
-    const rows = new Map();
-    for (const { ply, short } of halfMoves) {
-      const move = Math.ceil(ply / 2);
-      const row = rows.get(move) ?? element("li");
-      rows.set(move, row);
-      row.value = move;
-      const button = element("button", "", short);
-      button.dataset.ply = String(ply);
-      button.setAttribute("aria-label", t("moves.one", { move, colour: t(ply % 2 ? "white" : "black"), short }));
-      row.append(ply % 2 === 0 && !row.children.length ? "… " : "", button);
-    }
-    return [...rows.values()];
+  /** Puts a half-move into the row of its move.
+   * @param {HalfMove} halfMove */
+  append({ ply, short }) {
+    const move = Math.ceil(ply / 2);
+    const last = /** @type {HTMLLIElement | null} */ (this.list.lastElementChild);
+    const row = last?.value === move ? last : this.row(move);
+    const button = element("button", "", short);
+    button.dataset.ply = String(ply);
+    button.setAttribute("aria-label", t("moves.one", { move, colour: t(ply % 2 ? "white" : "black"), short }));
+    button.setAttribute("aria-current", "false");
+    row.append(ply % 2 === 0 && !row.children.length ? "… " : "", button);
   }
+
+  /** @param {number} move */
+  row(move) {
+    const row = element("li");
+    row.value = move;
+    this.list.append(row);
+    return row;
+  }
+}
+
+/** @param {HalfMove | undefined} halfMove */
+function keyOf(halfMove) {
+  return halfMove ? `${halfMove.ply} ${halfMove.short}` : "";
 }

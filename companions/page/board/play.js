@@ -87,6 +87,15 @@ export class Play {
     ask("resign-ask", () => this.act(game, "resign"));
   }
 
+  /** Calls the flag of the opponent, and says nothing where there is some time left. In a simul that is done for the
+   * board that is shown alone: the member is about to move at another one.
+   * @param {Game} game */
+  async callFlag(game) {
+    if (!this.simul.isOn || (game === this.games.shown && await this.simul.reach(game))) {
+      await this.session.ask("flag");
+    }
+  }
+
   /** The field for moves sends moves alone; what would end the game is asked about. */
   type() {
     const field = byId("move");

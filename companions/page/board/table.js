@@ -10,6 +10,7 @@ import { checkedKing, positionOf } from "../game/legal.js";
 import { isOwn } from "../game/moves.js";
 import { squaresFor } from "../game/premove.js";
 import { Promotion } from "./promotion.js";
+import { Result } from "./result.js";
 import { element } from "../shell/elements.js";
 import { withRating } from "../shell/ratings.js";
 import { t } from "../shell/texts.js";
@@ -33,14 +34,16 @@ class Plate {
     this.clock = new Clock(within("span", row));
   }
 
-  /** @param {Game} game @param {Colour} colour @param {string} chosen */
-  show(game, colour, chosen) {
+  /** `chosen` is the man in hand that goes next; `stops` says that the clock isn't shown below 0.
+   * @param {Game} game @param {Colour} colour @param {string} chosen @param {boolean} stops */
+  show(game, colour, chosen, stops) {
     this.name.dataset.colour = colour;
+    this.name.dataset.player = game.nameOf(colour);
     this.name.replaceChildren(withRating(game.nameOf(colour), game.terms.pool), this.colour);
     this.colour.textContent = `, ${t(colour === "w" ? "white" : "black")}`;
     this.name.classList.toggle("to-move", !game.isOver && game.toMove === colour);
     this.captured.show(game, colour);
-    this.clock.show(game, colour);
+    this.clock.show(game, colour, stops);
     const hands = game.shown?.hands ?? null;
     this.hand.root.hidden = !game.terms.hasHands;
     if (game.terms.hasHands) {
@@ -64,11 +67,14 @@ export class Table {
     this.below = new Plate(root);
     /** @type {Arrows | null} */
     this.arrows = null;
+    /** @type {Result | null} */
+    this.result = null;
     /** @type {Becomes} */
     this.becomes = () => Promise.resolve("");
     if (play) {
       this.arrows = new Arrows(this.board, () => this.again());
       const promotion = new Promotion(this.board);
+      this.result = new Result(this.board);
       this.becomes = (colour, square) => promotion.ask(colour, square);
       this.drag = new Drag(root, {
         mayLift: (at) => this.mayLift(at), lifted: (at) => this.choose(at), moved: (from, to) => this.go(from, to),
@@ -100,8 +106,10 @@ export class Table {
     this.board.root.classList.toggle("mine", this.colour !== "");
     this.arrows?.show(`${game.number} ${game.looking ?? game.last} ${blackBelow}`);
     this.board.show(place.men, this.marks(place));
-    this.above.show(game, blackBelow ? "w" : "b", this.chosenOf(blackBelow ? "w" : "b"));
-    this.below.show(game, blackBelow ? "b" : "w", this.chosenOf(blackBelow ? "b" : "w"));
+    this.result?.show(game);
+    const stops = Boolean(this.play?.preferences.get("flag"));
+    this.above.show(game, blackBelow ? "w" : "b", this.chosenOf(blackBelow ? "w" : "b"), stops);
+    this.below.show(game, blackBelow ? "b" : "w", this.chosenOf(blackBelow ? "b" : "w"), stops);
   }
 
   again() {
@@ -120,6 +128,7 @@ export class Table {
       last: place.squares, chosen: [chosen?.square],
       target: this.play?.preferences.get("legal") ? this.targets : [],
       check: [checkedKing(positionOf(place, game?.terms.variant))], premove: premove ? [premove.from, premove.to] : [],
+      dropped: premove?.drop ? { square: premove.to, man: this.colour + premove.drop } : null,
       drawn: this.arrows?.names,
     };
   }

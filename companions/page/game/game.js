@@ -86,12 +86,28 @@ export class Game {
     }
     this.blackBelow = board.blackBelow;
     if (isNew) {
-      this.places.set(board.ply, { board, men: menOf(board), squares: lastSquares(board), hands: this.hands });
+      const squares = lastSquares(board, this.places.get(board.ply - 1)?.men);
+      this.places.set(board.ply, { board, men: menOf(board), squares, hands: this.hands });
       this.last = Math.max(this.last, board.ply);
       this.since = performance.now();
       this.looking = this.role === "mine" ? null : this.looking;
     }
     return isNew;
+  }
+
+  /** Takes the places before those that were told here, as others were told them, in the order in which they came.
+   * @param {LineEvent[]} events */
+  learnEarlier(events) {
+    const earlier = new Game(this.number, this.white, this.black, this.hasTerms ? this.terms : null);
+    for (const event of events) {
+      if (event.kind === "board" && event.board.game === this.number && this.isOf(event.board)) {
+        earlier.add(event.board, event.board.ply <= earlier.last);
+      } else if (event.kind === "hands" && event.game === this.number) {
+        earlier.hold(event.whiteHand, event.blackHand);
+      }
+    }
+    const from = this.knownFrom;
+    [...earlier.places].filter(([ply]) => ply < from).forEach(([ply, place]) => this.places.set(ply, place));
   }
 
   /** @param {number} ply */

@@ -57,12 +57,14 @@ export function menOf(board) {
   return men;
 }
 
-/** The squares of the half-move that led to a board, for showing it. Of castling they are those on which the king and
- * the rook stand now: from where they came the line doesn't say.
- * @param {BoardLine} board */
-export function lastSquares(board) {
+/** The squares of the half-move that led to a board, for showing it. Of castling they are those from which and to which
+ * the king went, where the men before it are known; of the line alone, where king and rook stand now.
+ * @param {BoardLine} board @param {Men} [before] */
+export function lastSquares(board, before) {
   const plain = /([a-h][1-8])-([a-h][1-8])/.exec(board.long);
   const drop = /@@-([a-h][1-8])/.exec(board.long);
   const castled = Array.from(CASTLED[board.long] ?? "", (file) => file + (board.side === "b" ? "1" : "8"));
-  return plain ? [plain[1], plain[2]] : drop ? [drop[1]] : castled;
+  const king = board.side === "b" ? "wK" : "bK";
+  const from = castled.length && before ? Object.keys(before).find((it) => before[it] === king) : undefined;
+  return plain ? [plain[1], plain[2]] : drop ? [drop[1]] : from ? [from, castled[0]] : castled;
 }

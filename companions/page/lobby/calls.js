@@ -24,12 +24,13 @@ function rowOf({ kind, who }) {
 
 export class Calls {
   /** `isPlaying()` says whether the member is in a game that wants its eyes; `wants(who)` whether the member wants to
-   * be asked by that player; `changed(count)` is told how many stand.
+   * be asked by that player; `changed(count)` is told how many stand, `shows(keys)` which are seen here.
    * @param {Session} session @param {CallsListeners} listeners */
-  constructor(session, { isPlaying, wants, changed }) {
+  constructor(session, { isPlaying, wants, changed, shows }) {
     this.isPlaying = isPlaying;
     this.wants = wants;
     this.changed = changed;
+    this.shows = shows;
     /** @type {Row[]} */
     this.challenges = [];
     /** @type {Map<string, Call>} */
@@ -103,6 +104,7 @@ export class Calls {
     this.isOpen &&= all.length > 0;
     this.showButton(all.length, isFolded);
     this.changed(all.length);
+    this.shows(isFolded ? [] : shown.map((it) => it.key));
   }
 
   /** @param {number} count @param {boolean} isFolded */

@@ -4,6 +4,7 @@
 
 import { eventOf } from "../link/lines.js";
 import { showRows } from "../shell/list.js";
+import { StillList } from "../shell/still.js";
 import { challengeRow, playerRow, seekRow, storedRow } from "./lobby_rows.js";
 import { byId } from "../shell/elements.js";
 import { RunningGames } from "./running_games.js";
@@ -38,6 +39,10 @@ export class Lobby {
     this.session = session;
     this.challenged = challenged;
     this.running = new RunningGames(session, games, smallGames);
+    this.seeks = new StillList(byId("seeks"));
+    this.players = new StillList(byId("players"));
+    /** @type {string[]} */
+    this.elsewhere = []; // the challenges that are seen above the page
     this.rows = noRows();
     /** @type {Map<string, boolean>} */
     this.asked = new Map(); // of the lists that are being asked for, whether to ask once more behind that
@@ -61,6 +66,9 @@ export class Lobby {
   /** Has the go-between tell the shared lists while they are seen. It forgets that with the link. */
   beTold() {
     const isSeen = document.visibilityState === "visible" && this.session.isIn && isLobbySeen();
+    if (isSeen && !this.isTold) {
+      [this.seeks, this.players, this.running].forEach((it) => it.places.clear());
+    }
     if (isSeen !== this.isTold) {
       this.isTold = this.session.tell({ lists: isSeen }) && isSeen;
     }
@@ -139,14 +147,22 @@ export class Lobby {
     const { me } = this.session;
     const { who, sought, games, pending, stored } = this.rows;
     showUsual(sought.filter((it) => it.who === me));
-    showRows(byId("seeks"), sought.map((it) => seekRow(it, me)), t("lobby.no-seeks"));
-    showRows(byId("players"), who.map((it) => playerRow(it.who, me, games, sought)));
-    showRows(byId("challenges"), pending.map(challengeRow));
+    this.seeks.show(sought.map((it) => seekRow(it, me)), t("lobby.no-seeks"));
+    this.players.show(who.map((it) => playerRow(it.who, me, games, sought)));
+    this.showChallenges();
     showRows(byId("stored"), stored.map((it) => storedRow(it, me)), t("lobby.none"));
     byId("players-count").textContent = String(who.length || "");
     byId("games-count").textContent = String(games.length || "");
     this.running.show(games);
     this.challenged(pending.filter((it) => it.kind === "pending-from").map(challengeRow));
+  }
+
+  /** A challenge stands once: those that are seen above the page don't stand here too.
+   * @param {string[]} [elsewhere] */
+  showChallenges(elsewhere = this.elsewhere) {
+    this.elsewhere = elsewhere;
+    const rows = this.rows.pending.map(challengeRow).filter((it) => !elsewhere.includes(it.key));
+    showRows(byId("challenges"), rows);
   }
 
   forget() {

@@ -18,9 +18,10 @@ export function playerRow(who, me, games, seeks) {
   const does = game ? t("player.plays", { who: game.white === who ? game.black : game.white })
     : seek ? t("player.seeks", { terms: seek.terms.shortTime() }) : "";
   const buttons = who === me ? [] : [
-    ...game ? [{ drawing: "watch", name: t("player.watch-name", { who }), command: `observe ${who}` }] : [],
-    { drawing: "challenge", name: t("player.challenge", { who }), challenge: who },
-    { drawing: "talk", name: t("player.tell-name", { who }), room: `person ${who}` },
+    ...game ? [{ drawing: "watch", label: t("player.watch"), name: t("player.watch-name", { who }),
+      command: `observe ${who}` }] : [],
+    { drawing: "challenge", label: t("player.play"), name: t("player.challenge", { who }), challenge: who },
+    { drawing: "talk", label: t("player.tell"), name: t("player.tell-name", { who }), room: `person ${who}` },
   ];
   return { key: who, parts: { who: withName(who, me), does }, buttons,
     className: game ? "plays" : "" };

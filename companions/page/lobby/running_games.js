@@ -4,6 +4,7 @@ import { lastSquares } from "../link/board_line.js";
 import { byId, element } from "../shell/elements.js";
 import { SmallBoard } from "../board/small_board.js";
 import { withRating } from "../shell/ratings.js";
+import { Places } from "../shell/still.js";
 import { t } from "../shell/texts.js";
 import { isLobbySeen, onView } from "../shell/views.js";
 
@@ -17,8 +18,17 @@ class Card {
     this.board = new SmallBoard(board);
     this.below = element("span", "player");
     this.foot = element("span", "foot");
+    this.above.dataset.colour = "b";
+    this.below.dataset.colour = "w";
     this.button.append(this.above, board, this.below, this.foot);
     this.row.append(this.button);
+  }
+
+  /** Its game is listed no more.
+   * @param {boolean} isGone */
+  set isGone(isGone) {
+    this.row.classList.toggle("gone", isGone);
+    this.button.disabled = isGone;
   }
 
   /** Shows a row of the list of games, and its last board where it is known; `isOpen` where the member has it on its
@@ -57,11 +67,16 @@ export class RunningGames {
     this.rows = [];
     /** @type {Map<string, Card>} */
     this.cards = new Map(); // by the games' numbers and players
+    this.list = byId("games");
+    this.places = new Places();
+    /** @type {HTMLLIElement[]} */
+    this.free = []; // what stands in places that are free
     /** @type {Set<Element>} */
     this.inSight = new Set(); // the cards' rows that are seen
     this.observer = new IntersectionObserver((entries) => this.see(entries), { threshold: 0.3 });
     document.addEventListener("visibilitychange", () => this.want());
     onView(() => this.want());
+    this.list.addEventListener("mouseleave", () => this.show(this.rows));
     setInterval(() => this.want(), EVERY);
   }
 
@@ -88,38 +103,56 @@ export class RunningGames {
     this.want();
   }
 
-  /** @param {Happened<'game'>[]} rows */
+  /** A card keeps its place while its game is listed, as the rows of the other lists do.
+   * @param {Happened<'game'>[]} rows */
   show(rows) {
     this.rows = rows;
-    const list = byId("games");
-    const wanted = new Map(rows.map((it) => [this.keyOf(it), this.cardOf(it)]));
+    const keys = rows.map((it) => this.keyOf(it));
+    const places = this.places.take(keys, this.list.matches(":hover"));
+    rows.forEach((it) => this.cards.set(this.keyOf(it), this.cardOf(it)));
     for (const [key, card] of this.cards) {
-      if (!wanted.has(key)) {
-        this.observer.unobserve(card.row);
-        this.inSight.delete(card.row);
-        card.row.remove();
+      card.isGone = !keys.includes(key);
+      if (!places.includes(key)) {
+        this.drop(key, card);
       }
     }
-    this.cards = wanted;
-    rows.forEach((it, n) => this.place(list, it, n));
-    this.showNone(list);
+    const shown = places.map((key, n) => (key === null ? this.freeAt(n) : this.cards.get(key)?.row));
+    [...this.list.children].filter((it) => !shown.some((row) => row === it)).forEach((it) => it.remove());
+    shown.forEach((it, n) => it && this.place(it, n));
+    rows.forEach((it) => this.fill(it));
+    this.showNone(this.list);
     this.want();
   }
 
-  /** @param {HTMLElement} list @param {Happened<'game'>} row @param {number} n */
-  place(list, row, n) {
-    const card = this.cardOf(row);
-    if (list.children[n] !== card.row) {
-      list.insertBefore(card.row, list.children[n] ?? null);
-      this.observer.observe(card.row);
+  /** @param {string} key @param {Card} card */
+  drop(key, card) {
+    this.observer.unobserve(card.row);
+    this.inSight.delete(card.row);
+    this.cards.delete(key);
+  }
+
+  /** What stands in a place that is free: nothing, of a card's size.
+   * @param {number} n */
+  freeAt(n) {
+    if (!this.free[n]) {
+      this.free[n] = new Card().row;
+      this.free[n].className = "free";
     }
-    this.fill(row);
+    return this.free[n];
+  }
+
+  /** @param {HTMLLIElement} row @param {number} n */
+  place(row, n) {
+    if (this.list.children[n] !== row) {
+      this.list.insertBefore(row, this.list.children[n] ?? null);
+      this.observer.observe(row);
+    }
   }
 
   /** @param {HTMLElement} list */
   showNone(list) {
     list.querySelector(".none")?.remove();
-    if (!this.rows.length) {
+    if (!list.children.length) {
       list.append(element("li", "none", t("lobby.no-games")));
     }
   }

@@ -3,8 +3,12 @@
 import { byId } from "../shell/elements.js";
 import { t } from "../shell/texts.js";
 
-/** @type {Record<string, string>} */
-const ICONS = { "": "icon.svg", move: "icon_move.svg", call: "icon_call.svg" };
+/** The address of an icon of the page, which its head names.
+ * @param {"" | "move" | "call"} state */
+function iconOf(state) {
+  const { plain = "", move = "", call = "" } = byId("icon").dataset;
+  return { "": plain, move, call }[state];
+}
 
 export class Alerts {
   /** @param {Session} session @param {Games} games @param {Preferences} preferences */
@@ -63,7 +67,7 @@ export class Alerts {
       return;
     }
     try {
-      const note = new Notification(t("title"), { body: words, tag, icon: "icon.svg" });
+      const note = new Notification(t("title"), { body: words, tag, icon: iconOf("") });
       note.onclick = () => {
         window.focus();
         note.close();
@@ -84,8 +88,8 @@ export class Alerts {
     const title = t("title");
     document.title = state ? t(`title.${state}`, { title, n: this.calls }) : title;
     const icon = byId("icon");
-    if (icon.getAttribute("href") !== ICONS[state]) {
-      icon.setAttribute("href", ICONS[state]);
+    if (icon.getAttribute("href") !== iconOf(state)) {
+      icon.setAttribute("href", iconOf(state));
     }
   }
 }

@@ -2,7 +2,7 @@
 
 const KEY = "preferences";
 /** @type {Record<PreferenceName, boolean>} */
-const USUAL = { sounds: true, notes: false, premoves: true, legal: true, queen: false };
+const USUAL = { sounds: true, notes: false, premoves: true, legal: true, queen: false, flag: true };
 
 export class Preferences {
   /** `store` keeps texts by their keys; a browser that keeps nothing may have none.

@@ -8,13 +8,16 @@ const states = new WeakMap(); // of each row what it says
  * it `dismiss`es, or a player to `challenge`. */
 const NAMED = /** @type {const} */ (["command", "at", "fill", "dismiss", "room", "show", "challenge"]);
 
-/** A button that says `label`, or shows a drawing in its place, or has parts as a row has.
+/** A button that says `label`, or shows a drawing, with the label below it where there is one, or has parts as a row
+ * has.
  * @param {RowButton} it */
-export function buttonOf({ label = "", name = label, drawing, parts, className = "", ...rest }) {
+export function buttonOf({ label = "", name = label, drawing, parts, className = "", isOff = false, ...rest }) {
   const button = element("button", className);
+  button.disabled = isOff;
   if (drawing) {
     button.classList.add("bare");
-    button.append(icon(drawing));
+    button.classList.toggle("named", label !== "");
+    button.append(icon(drawing), ...label ? [element("span", "word", label)] : []);
     button.title = name;
   } else {
     button.append(...parts ? partsOf(parts) : [label]);

@@ -1,10 +1,14 @@
 /** The page's texts, by their keys, from one table for each language: `texts/en.js` and its kin. A further language is
- * a file there and a row here. A text may have places, as `{who}`. */
+ * a file there, and a row of each of the two tables here. A text may have places, as `{who}`. */
 
 import { TEXTS as ENGLISH } from "../texts/en.js";
 
 /** Of each language's code how it calls itself. */
 export const LANGUAGES = { en: "English", de: "Deutsch" };
+
+/** Of those besides English where the texts are.
+ * @type {Record<string, () => Promise<{ TEXTS: Record<string, string> }>>} */
+const OTHERS = { de: () => import("../texts/de.js") };
 
 const DEFAULT = "en";
 const PARTS = { t: "textContent", tLabel: "ariaLabel", tPlaceholder: "placeholder", tTitle: "title" };
@@ -62,7 +66,7 @@ export function translate(root = document) {
  * @param {string} asked */
 export async function speak(asked) {
   if (asked !== code) {
-    texts = (await import(`../texts/${asked}.js`)).TEXTS;
+    texts = asked in OTHERS ? (await OTHERS[asked]()).TEXTS : DEFAULT_TEXTS;
     code = asked;
   }
   document.documentElement.lang = code;

@@ -90,6 +90,16 @@ export class Talk {
     return this.rooms.open(GAME, t("talk.game")).key;
   }
 
+  /** A game begins: what the member says from now on is for the opponent, or where there are more of them for the game,
+   * unless it is writing to somebody just now.
+   * @param {string | null} opponent */
+  begin(opponent) {
+    const key = opponent ? this.person(opponent) : this.game();
+    if (!byId("talk-text").value) {
+      this.rooms.choose(key);
+    }
+  }
+
   partner() {
     return this.rooms.open(PARTNER, t("talk.partner")).key;
   }

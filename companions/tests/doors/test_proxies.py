@@ -7,13 +7,15 @@ from pathlib import Path
 
 import pytest
 
+from tests.kit import paths
 from tests.kit.go_between import GoBetween
 from tests.kit.ports import free_port
 from tests.kit.running import Run, Server, async_wait_until
 
 from .conftest import begun, is_https, try_page
-from .pages import HOST, PRINTED, certify, example, replaced
+from .pages import HOST, PRINTED, certify, replaced
 
+PROXIES = paths.COMPANIONS / "proxies"
 # the words that docs/WEB.md names for a proxy
 WORDS = "--host", HOST, "--trusted-proxy", "127.0.0.1"
 NGINX = """
@@ -50,8 +52,9 @@ def page(server: Server) -> Iterator[GoBetween]:
 async def test_nginx(page: GoBetween, tmp_path: Path) -> None:
     port = free_port()
     site = replaced(
-        example("WEB.md", "nginx"),
+        (PROXIES / "nginx.conf").read_text(encoding="utf-8"),
         ("listen 443 ssl", f"listen 127.0.0.1:{port} ssl"),
+        ("listen [::]:443 ssl", f"listen [::1]:{port} ssl"),
         (PRINTED, certify(tmp_path)),
         ("127.0.0.1:5002", f"127.0.0.1:{page.port}"),
     )
@@ -67,7 +70,7 @@ async def test_nginx(page: GoBetween, tmp_path: Path) -> None:
 @pytest.mark.skipif(not shutil.which("caddy"), reason="Caddy isn't installed")
 async def test_caddy(page: GoBetween, tmp_path: Path) -> None:
     port = free_port()
-    site = replaced(example("WEB.md", "caddy"), ("127.0.0.1:5002", f"127.0.0.1:{page.port}"))
+    site = replaced((PROXIES / "Caddyfile").read_text(encoding="utf-8"), ("127.0.0.1:5002", f"127.0.0.1:{page.port}"))
     text = CADDY.format(http=free_port(), port=port, folder=tmp_path / "store", site=site)
     (tmp_path / "Caddyfile").write_text(text, encoding="utf-8")
     words = "caddy", "run", "--config", tmp_path / "Caddyfile", "--adapter", "caddyfile"

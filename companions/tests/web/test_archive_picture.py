@@ -10,6 +10,7 @@ from tests.kit.go_between import FROM_ONE
 
 from .archived_games import DAY, ORDER, opened
 from .browser import WIDE, Evening
+from .test_pictures import SCHEMES, WIDTHS
 
 pytestmark = pytest.mark.browser
 
@@ -47,6 +48,12 @@ def test_a_pair(evening: Evening) -> None:
     window.sees_man("wP", "d4", "partner")
     assert [window.hand(it) for it in ("white", "black")] == ["PP", "P"]
     if paths.pictures:
+        for ending, scheme in SCHEMES.items():
+            window.browser.prefer_scheme(scheme)
+            for size in WIDTHS:
+                window.resize(size)
+                window.picture(paths.pictures / f"archive-{size[0]}{ending}.png")
+        window.browser.prefer_scheme(None)
         window.resize((1180, 720))
         window.picture(paths.pictures / "archive.png")
         window.resize(WIDE)

@@ -12,6 +12,7 @@ from tests.archive.archives import game, put
 from tests.kit.go_between import FROM_ONE
 from tests.kit.running import async_wait_until
 
+from . import boards
 from .asked import Answer, asked
 from .played import Played
 
@@ -97,6 +98,26 @@ async def test_pages_lists_and_games(served: Played, archive: Path) -> None:
     status, headers, body = await get(served, "/games/2026-11-30/2.pgn")
     assert (status, body) == (200, game(2, "Cat"))
     assert headers["content-disposition"] == 'attachment; filename="2026-11-30-2.pgn"'
+
+
+async def test_what_there_was_of_a_game_that_is_played(served: Played, archive: Path) -> None:
+    head = {"games": [[3, "Ann", "Ben", "2 12 chess"], [4, "Cat", "Dan", "2 12 chess"]], "begun": "2026-11-30T20:00:00"}
+    lines = (
+        boards.start(0, game=3),
+        "Ann kibitzes: <12> hi",
+        boards.after_e4(0, game=3),
+        "<b1> game 3 white [] black []",
+    )
+    running = archive / "running"
+    running.mkdir()
+    (running / "20261130T200000-3-Ann-Ben.lines").write_text("\n".join([json.dumps(head), *lines, "<12> cut o"]))
+    (running / "20261130T210000-5-Eve-Fay.lines").write_text("no journal\n")
+    for path in ("3/Ann/Ben", "4/Cat/Dan"):
+        assert await told(served, f"/games/now/{path}.json") == [lines[0], *lines[2:]]
+    for path in ("3/Ben/Ann", "5/Eve/Fay", "3/Ann/Cat"):
+        assert await told(served, f"/games/now/{path}.json") == []
+    for path in ("3/Ann", "3/Ann/..", "3/Ann/%2e%2e", "x/Ann/Ben", "3/Ann/Ben%00"):
+        assert (await get(served, f"/games/now/{path}.json")).status == 404, path
 
 
 async def test_games_that_come_later(served: Played, archive: Path) -> None:

@@ -3,18 +3,24 @@ wants none of it, or not of somebody, isn't asked."""
 
 import pytest
 
-from .browser import Evening
+from .browser import Evening, Window
 
 pytestmark = pytest.mark.browser
 
 SHOWN = "#calls li:not(.more) .what"
 
 
+def names(window: Window) -> list[str]:
+    """Who asks, above the page and in the lobby."""
+    return [it.split()[0] for it in window.texts(f"{SHOWN}, #challenges .what")]
+
+
 def test_two_at_a_time_and_the_rest_in_the_lobby(evening: Evening) -> None:
     ann = evening.window("Ann")
     for name in ("Dan", "Eve", "Fay"):
         evening.plain(name).ask("match Ann 5 0")
-        ann.sees(name, "#challenges")
+        ann.until(lambda: names(ann).count(name) == 1, f"what {name} asks, once")
+    assert sorted(names(ann)) == ["Dan", "Eve", "Fay"]
     assert [it.split()[0] for it in ann.texts(SHOWN)] == ["Dan", "Eve"]
     ann.sees("1 more", "#calls .more")
     evening.plain("Dan").ask("withdraw Ann")

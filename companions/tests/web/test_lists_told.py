@@ -1,6 +1,7 @@
 """The page asks for no list that is the same for everybody: the go-between tells them while the lobby is seen, and the
 page asks for the two of the member's own behind what may change them."""
 
+import re
 import time
 
 import pytest
@@ -40,7 +41,7 @@ def test_rows_that_change_ask_for_no_file(evening: Evening) -> None:
     cat = evening.window("Cat")
     cat.sees("Cat (you)", "#players .who")
     asked = cat.script(FILES)
-    assert "/icons.svg" in asked
+    assert any(re.search(r"/icons\.(\w+\.)?svg$", it) for it in asked)
     for name in ("Dan", "Eve", "Fay"):
         link = evening.plain(name)
         cat.sees(name, "#players .who")

@@ -29,7 +29,7 @@ def test_a_seek_is_taken(evening: Evening) -> None:
 
 def test_usual_terms_are_sought_by_a_click_and_taken_back_by_another(evening: Evening) -> None:
     ann, ben = evening.window("Ann"), evening.window("Ben")
-    assert ann.texts("#usual .time") == ["1+0", "2+1", "3+2", "5+0", "5+3", "10+0", "15+10", "Own"]
+    assert ann.texts("#usual .time") == ["1+0", "2+1", "3+2", "5+0", "5+3", "10+0", "15+10", "Custom"]
     ann.click("#usual-3-2")
     ben.sees("3+2", "#seeks .time")
     ann.until(lambda: ann.script("return document.getElementById('usual-3-2').ariaPressed") == "true", "pressed")

@@ -44,8 +44,9 @@ def test_an_offer_is_declined(evening: Evening) -> None:
         it.sees("Your move" if it is ann else "Ann to move", "#status")
 
 
-def test_the_flag(evening: Evening) -> None:
+def test_the_flag_by_hand(evening: Evening) -> None:
     ann, ben = evening.game(minutes=0, increment=1)
+    ann.prefer("flag")
     evening.play(ann, ben, ("e2e4", "e7e5", "g1f3"))
     ann.click("#flag")
     ann.sees("time left", "#notice")

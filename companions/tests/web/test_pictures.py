@@ -1,5 +1,5 @@
-"""Pictures of the page at four widths, for whoever looks at them: `--pictures FOLDER` says where they are put. `web`
-and `lobby` without a width are those of docs/."""
+"""Pictures of the page at five sizes, light and dark, for whoever looks at them: `--pictures FOLDER` says where they
+are put. `web` and `lobby` without a width are those of docs/."""
 
 from pathlib import Path
 
@@ -12,7 +12,9 @@ from .four_tabs import four
 
 pytestmark = pytest.mark.browser
 
-WIDTHS = (NARROW, (820, 1180), WIDE, (1920, 1080))
+LOW = (844, 390)
+WIDTHS = (NARROW, LOW, (820, 1180), WIDE, (1920, 1080))
+SCHEMES = {"": "light", "-dark": "dark"}  # by how the names end
 DOCUMENTED = {"web": (1180, 720), "lobby": (1180, 900)}
 SPANISH = ("e2e4", "e7e5", "g1f3", "b8c6", "f1b5", "a7a6", "b5a4", "g8f6")
 INDIAN = ("d2d4", "g8f6", "c2c4", "g7g6", "b1c3")
@@ -28,8 +30,13 @@ def folder(tmp_path: Path) -> Path:
 
 
 def take(folder: Path, window: Window, name: str, sizes: tuple[Size, ...] = WIDTHS) -> None:
-    for size in sizes:
-        take_one(folder, window, f"{name}-{size[0]}", size)
+    """Pictures of those sizes; the dark ones are for eyes alone."""
+    for ending, scheme in SCHEMES.items() if paths.pictures else [("", "light")]:
+        window.front()
+        window.browser.prefer_scheme(scheme)
+        for size in sizes:
+            take_one(folder, window, f"{name}-{size[0]}{ending}", size)
+    window.browser.prefer_scheme(None)
     window.resize(WIDE)
 
 
@@ -84,9 +91,13 @@ def test_login_lobby_and_board(evening: Evening, folder: Path) -> None:
     document(folder, ann, "web")
     ann.resize(NARROW)
     ann.view("talk")
-    take(folder, ann, "talk", (NARROW, WIDTHS[1]))
+    take(folder, ann, "talk", (NARROW, WIDTHS[2]))
+    ann.view("board")
+    ben.click("#resign")
+    ben.click("#resign-yes")
+    ann.sees("Ben resigns", "#status")
+    take(folder, ann, "end")
     dress(cat, theme="dark")
-    take(folder, cat, "lobby-dark")
     gus.command("tell Cat Round 1: you have White against Gus. Type: match gus 5 0 white")
     cat.sees("Round 1", "#said p")
     cat.resize(NARROW)

@@ -99,7 +99,7 @@ def test_it_is_spoken_and_put_by_keyboard(evening: Evening) -> None:
     ann.press(Keys.ENTER, Keys.ARROW_UP, Keys.ARROW_UP, Keys.ARROW_LEFT, Keys.ENTER)
     waits(ann, "f3 g1")
     ann.sees("g1f3 waits", "#spoken")
-    assert "of the move that waits" in ann.square("f3").get_attribute("aria-label")
+    assert "premove" in ann.square("f3").get_attribute("aria-label")
     ben.move("e7", "e5")
     ben.sees_man("wN", "f3")
 
@@ -118,7 +118,7 @@ def test_where_a_man_may_go(evening: Evening) -> None:
     ann, ben = evening.game()
     ann.square("e2").click()
     assert marked(ann, "target") == "e3 e4"
-    assert "may go here" in ann.square("e4").get_attribute("aria-label")
+    assert "legal move" in ann.square("e4").get_attribute("aria-label")
     ann.square("g1").click()
     assert marked(ann, "target") == "f3 h3"
     ann.square("g1").click()

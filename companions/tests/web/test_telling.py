@@ -26,7 +26,7 @@ window.Notification = class {
 HIDE = """const isHidden = arguments[0];
 Object.defineProperty(document, "hidden", { configurable: true, get: () => isHidden });
 document.dispatchEvent(new Event("visibilitychange"));"""
-ICON = "return document.getElementById('icon').getAttribute('href')"
+ICON = r"return /(\w+)(\.\w+)?\.svg$/.exec(document.getElementById('icon').href)[1]"  # without its sum
 MOVE, CAPTURE, CHECK, CALL = 320, 240, 660, 523
 
 
@@ -69,13 +69,13 @@ def test_sounds(evening: Evening) -> None:
 def test_title_and_icon(evening: Evening) -> None:
     ann, ben = evening.game()
     ann.until(lambda: ann.script("return document.title") == "Your move – Chess club", "the title of one's move")
-    assert ann.script(ICON) == "icon_move.svg"
+    assert ann.script(ICON) == "icon_move"
     ann.move("e2", "e4")
     ann.until(lambda: ann.script("return document.title") == "Chess club", "the title")
-    assert ann.script(ICON) == "icon.svg"
+    assert ann.script(ICON) == "icon"
     asks(evening, "Cat", ann)
     ann.until(lambda: ann.script("return document.title") == "(1) Asked of you – Chess club", "the title of a call")
-    assert ann.script(ICON) == "icon_call.svg"
+    assert ann.script(ICON) == "icon_call"
 
 
 def test_notes_while_the_page_is_out_of_sight(evening: Evening) -> None:
