@@ -24,7 +24,7 @@ def packages(names):
 # of each program its package and what it is called with, in companions/
 LINTS = {
     "flake8": ("flake8", lambda: scripts()),
-    "black": ("black", lambda: ["--check", *scripts()]),
+    "black": ("black", lambda: ["--check", "--config", "pyproject.toml", *scripts()]),
     "mypy": ("mypy", lambda: packages(TYPED)),
     "tsc": ("node-typescript", lambda: ["-p", "."]),
 }

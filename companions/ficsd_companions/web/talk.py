@@ -12,6 +12,7 @@ from ficslink.texts import NEWS_BEGIN, PASSWORD, PROMPTS, Message, Messages, spe
 
 from . import lines
 from .closes import NO_STAMPS, closed
+from .own_games import OwnGames
 from .questions import List, News
 
 
@@ -33,7 +34,7 @@ class Talk:
     """
 
     def __init__(self, refuses_stamps: bool = False) -> None:
-        self.messages = Messages()
+        self.messages, self.games = Messages(), OwnGames()
         self.refuses_stamps = refuses_stamps
         # the opening of the link, which answers no line, is told like an answer
         self.owed: deque[Asker | Question] = deque([Asker.THE_TAB])
@@ -128,7 +129,8 @@ class Talk:
         return [NEWS_BEGIN, *rest, *prompt] if rest else []
 
     def hear(self, line: str) -> None:
-        """Learns from a line under which name the tab's player is in."""
+        """Learns from a line how the tab's player stands."""
+        self.games.hear(line)
         if self.name is None and self.asked_by is Asker.THE_TAB:
             read = parse(line)
             self.name = read.who if isinstance(read, Entered) else None
