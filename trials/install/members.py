@@ -16,10 +16,7 @@ MEMBERS = ("fics_bot", "fics_director", "fics_ratings", "fics_scribe")
 WITHOUT_A_STORE = (*MEMBERS, "fics_face", "fics_web")
 MOST_EXPOSED = 2.0  # of the ten points of `systemd-analyze security`
 EVENING, GAMES = (f"/var/lib/fics_director/evening.{it}" for it in ("tourney", "pgn"))
-WORDS = (
-    'FICS_DIRECTOR_WORDS="--chief Ann --channel 5 '
-    f'--pgn {GAMES} --archive /run/fics_archive"'
-)
+WORDS = 'FICS_DIRECTOR_WORDS="--chief Ann --channel 5 ' f'--pgn {GAMES} --archive /run/fics_archive"'
 GAME = r'\[White "(.*)"\]\n\[Black "(.*)"\]\n\[Result "(.*)"\]'
 PLAYING = FOLDER / "playing"
 
