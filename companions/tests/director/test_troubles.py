@@ -7,7 +7,7 @@ from pathlib import Path
 from tests.director.conftest import Evening, table_of
 from tests.kit import paths
 from tests.kit.played import Door
-from tests.kit.running import Run
+from tests.kit.running import PATIENCE, Run, async_wait_until
 
 EIGHT = ("Ann", "Ben", "Cat", "Dan", "Eve", "Fay", "Guy", "Hal")
 
@@ -86,8 +86,14 @@ async def ben_comes_again(evening: Evening) -> None:
     other = evening.players["Ben"].adjourned_with
     # it is told to begin anew, since that a game is adjourned isn't in the file
     ben = await evening.come_back("Ben", obeys=False)
-    await ben.say(f"resume {other}")
-    await evening.until(lambda: any(it.boards[0].ply for it in ben.member.own_games) or ben.games > 0)
+
+    def goes_on() -> bool:
+        return any(it.boards[0].ply for it in ben.member.own_games) or ben.games > 0
+
+    async with asyncio.timeout(PATIENCE):
+        while not goes_on():  # the game can be resumed once the other one was told that it is adjourned
+            await ben.say(f"resume {other}")
+            await async_wait_until(goes_on, seconds=1)
     ben.obeys = True
 
 
