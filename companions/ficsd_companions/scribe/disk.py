@@ -13,6 +13,7 @@ from .journal import Journal
 
 logger = logging.getLogger("fics_scribe")
 PAUSE = 1.0  # seconds, before what the disk didn't take is tried again
+END_SECONDS = 10.0  # at the end, in which it is tried
 
 
 class Disk:
@@ -98,10 +99,18 @@ class Disk:
         self._try_at = asyncio.get_running_loop().time() + PAUSE
 
     async def end(self, running: Iterable[Journal]) -> int:
-        """Tries all of it once more; of how many games something isn't on the disk."""
-        if self._writing:
-            await asyncio.wait([self._writing])
-        await self.do()
+        """Tries all of it for some seconds more, unless it is told again to end; of how many games something isn't on
+        the disk."""
+        end = asyncio.get_running_loop().time() + END_SECONDS
+        try:
+            if self._writing:
+                await asyncio.wait([self._writing])
+            await self.do()
+            while (self._behind or self._over) and asyncio.get_running_loop().time() < end:
+                await asyncio.sleep(PAUSE)
+                await self.do()
+        except asyncio.CancelledError:
+            pass  # at once, then
         for known in running:
             known.close()
         return len(self._behind) + len(self._over)

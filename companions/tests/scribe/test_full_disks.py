@@ -1,5 +1,6 @@
 """A disk that is full, at each step in turn: what was played is what stands in the archive, once there is room."""
 
+import signal
 from collections.abc import AsyncIterator, Iterator
 from pathlib import Path
 
@@ -216,6 +217,23 @@ async def are_kept(evening: Evening, games: int) -> None:
     assert not [tags for tags, _ in kept if "FEN" in tags]
     evening.scribe.until("the disk takes games again", times=sum("doesn't take" in it for it in evening.scribe.log))
     assert await async_wait_until(lambda: not evening.journals("running"))
+
+
+async def test_room_behind_the_signal_to_end(evening: Evening, disk: SmallDisk) -> None:
+    disk.fill()
+    await begin(evening)
+    fails(evening, 1)
+    await evening.play("e4 e5")
+    await evening.say("Ben", "resign")
+    evening.scribe.process.send_signal(signal.SIGTERM)
+
+    async def has_left() -> bool:
+        return "Scribe" not in map(str, (await evening.say("Ann", "who")).lines)
+
+    assert await async_wait_until(has_left)
+    disk.free()
+    assert evening.scribe.rest() == 0
+    evening.scribe.until("the disk takes games again")
 
 
 async def test_games_that_no_disk_has_are_told_of_at_its_end(evening: Evening, disk: SmallDisk) -> None:
