@@ -185,7 +185,7 @@ def tell_kept(accounts: int, games: int, running: int | None, left: int) -> None
 
 
 def tell_which(chosen: Chosen, before: Noted) -> None:
-    """Says which games were adjourned at this stop, and which of those that ran were not, where these are known."""
+    """Says which games were adjourned at this stop, and which of those that ran aren't kept, where these are known."""
     if before.numbers is None:
         return
     try:
@@ -195,7 +195,7 @@ def tell_which(chosen: Chosen, before: Noted) -> None:
         return  # what is kept was told; that the disk is full is told behind it
     pairs = [frozenset(it) for it in adjourned]
     lost = [it for it in before.players if frozenset(it) not in pairs]
-    for what, games in (("adjourned at this stop", adjourned), ("not adjourned", lost)):
+    for what, games in (("adjourned at this stop", adjourned), ("not kept", lost)):
         if games:
             print(f"ficsd: {what}: {', '.join(' - '.join(it) for it in games)}")
 

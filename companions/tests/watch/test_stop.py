@@ -54,6 +54,7 @@ def test_full_disk(club: Club) -> None:
     assert done.stdout.splitlines() == [
         f"ficsd: kept: {PLAYERS} accounts and 0 adjourned games; 0 of the 1 that ran between players with accounts "
         "are among them",
+        f"ficsd: not kept: {club.names[0]} - {club.names[1]}",
         "<3>ficsd: LOST: the disk takes nothing (No space left on device), so accounts and games that are new since "
         "then are lost, 1 of those that ran just now among them",
     ]
@@ -138,6 +139,6 @@ def test_those_that_are_lost_are_named(club: Club) -> None:
     lines = club.stop(kept).stdout.splitlines()
     assert lines[1:3] == [
         f"ficsd: adjourned at this stop: {club.names[0]} - {club.names[1]}",
-        f"ficsd: not adjourned: {club.names[2]} - {club.names[3]}",
+        f"ficsd: not kept: {club.names[2]} - {club.names[3]}",
     ]
     assert "LOST: 1 games that ran" in lines[3]
