@@ -151,8 +151,8 @@ export class Lobby {
     this.players.show(who.map((it) => playerRow(it.who, me, games, sought)));
     this.showChallenges();
     showRows(byId("stored"), stored.map((it) => storedRow(it, me)), t("lobby.none"));
-    byId("players-count").textContent = String(who.length || "");
-    byId("games-count").textContent = String(games.length || "");
+    byId("players-count").textContent = who.length ? ` ${who.length}` : "";
+    byId("games-count").textContent = games.length ? ` ${games.length}` : "";
     this.running.show(games);
     this.challenged(pending.filter((it) => it.kind === "pending-from").map(challengeRow));
   }
