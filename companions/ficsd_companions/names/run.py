@@ -12,6 +12,8 @@ import time
 from contextlib import suppress
 from pathlib import Path
 
+from ficsd_companions.cli.version import add_version
+
 from .known import Names
 
 STORE = Path("/var/lib/ficsd/club.db")
@@ -77,6 +79,7 @@ def read_words() -> Chosen:
     says = "the store: %(default)s where it is left out"
     words.add_argument("--store", type=Path, default=STORE, metavar="FILE", help=says)
     words.add_argument("--to", type=Path, required=True, metavar="FILE", help="the list")
+    add_version(words)
     words.add_argument("--once", action="store_true", help="writes it once, and ends")
     return words.parse_args(namespace=Chosen())
 

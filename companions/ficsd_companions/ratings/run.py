@@ -15,6 +15,7 @@ from pathlib import Path
 
 from ficsd_companions.archive.index import Index
 from ficsd_companions.cli import log
+from ficsd_companions.cli.version import add_version
 from ficsd_companions.cli.words import Address, address, handle, seconds
 from ficsd_companions.names.known import Names
 from ficslink.secret import BadSecret, kept_password
@@ -102,6 +103,7 @@ def read_words() -> Chosen:
     it.add_argument(
         "--archive", type=Path, required=True, metavar="DIR", help="the folder into which fics_scribe writes"
     )
+    add_version(it)
     serving = add_commands(it)
     chosen = it.parse_args(namespace=Chosen())
     if chosen.act is serve and chosen.messages and not chosen.accounts:
