@@ -22,6 +22,7 @@ from .options import Chosen
 logger = logging.getLogger("fics_director")
 LONGEST_PAUSE = 60.0
 CALM = 0.5  # seconds between two looks at who is there, and between two while no round is open
+FIRST_SECONDS = 10.0  # in which a scribe has made its archive
 ARCHIVE_SECONDS = 30.0  # in which a game that has just ended stands in the archive
 
 
@@ -43,7 +44,7 @@ class Director:
     async def run(self) -> list[Row]:
         """Runs it to its end; the table. `Fault` where it can't go on."""
         await self.ledger.open()
-        self._look_at_archive()
+        await self._look_at_archive()
         self.round = OpenRound(self.chosen, self.ledger, self.tell, self.announce)
         self.answers = Answers(self)
         while not await self._stay():
@@ -51,13 +52,18 @@ class Director:
             await asyncio.sleep(CALM)
         return self.ledger.evening.table
 
-    def _look_at_archive(self) -> None:
-        """Sees, before anybody plays, that there is an archive to take the games from."""
-        try:
-            if self.chosen.archive:
+    async def _look_at_archive(self) -> None:
+        """Sees, before anybody plays, that there is an archive to take the games from. A scribe that was started just
+        now has a while to make it."""
+        deadline = time.monotonic() + FIRST_SECONDS
+        while self.chosen.archive:
+            try:
                 games.files(self.chosen.archive)
-        except OSError as fault:
-            raise Fault(f"the archive can't be used: {fault}") from fault
+                return
+            except OSError as fault:
+                if time.monotonic() >= deadline:
+                    raise Fault(f"the archive can't be used: {fault}") from fault
+            await asyncio.sleep(CALM)
 
     async def _stay(self) -> bool:
         """Goes in, and stays until the evening is over, or the server has said good-bye; whether it is over."""
