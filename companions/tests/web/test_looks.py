@@ -3,9 +3,7 @@ more than a short one."""
 
 import pytest
 
-from tests.kit import paths
-
-from .browser import Evening, Window
+from .browser import Evening
 
 pytestmark = pytest.mark.browser
 
@@ -38,8 +36,23 @@ return [...document.querySelectorAll("#main-table .captured .man")].map((it) => 
 });
 """
 KNIGHTS = ("Nf3", "Nf6", "Ng1", "Ng8")
-HALF_MOVES, MEASURED = 240, 40
-STYLE = ("RecalcStyleDuration", "LayoutDuration")
+HALF_MOVES = 120
+SHOWN = "return document.querySelectorAll('#moves [data-ply]').length"
+# by how many half-moves the list has grown, and of each how much was changed at the board and beside it
+COUNTS_CHANGES = """window.changes = [];
+let count = 0;
+let shown = 0;
+new MutationObserver((records) => {
+  for (const { addedNodes, removedNodes, type } of records) {
+    count += addedNodes.length + removedNodes.length + (type === "attributes" ? 1 : 0);
+  }
+  const now = document.querySelectorAll("#moves [data-ply]").length;
+  if (now > shown) {
+    window.changes.push(...Array(now - shown).fill(count / (now - shown)));
+    shown = now;
+    count = 0;
+  }
+}).observe(document.getElementById("board"), { subtree: true, childList: true, attributes: true });"""
 
 
 @pytest.mark.parametrize("theme", ("light", "dark"))
@@ -61,31 +74,19 @@ def test_signs_at_players_have_words(evening: Evening) -> None:
     assert sorted(words) == sorted(["Watch", "Challenge", "Message"] * 2)
 
 
-def cost(window: Window) -> float:
-    """The seconds that styles and layouts have taken so far."""
-    window.front()
-    metrics = window.driver.execute_cdp_cmd("Performance.getMetrics", {})["metrics"]
-    return sum(it["value"] for it in metrics if it["name"] in STYLE)
-
-
-def test_a_long_game_costs_no_more_than_a_short_one(evening: Evening) -> None:
-    if paths.browser == "firefox":
-        pytest.skip("Chromium alone tells what styles cost")
+def test_a_long_game_changes_no_more_of_the_page_than_a_short_one(evening: Evening) -> None:
+    """What is changed has its style and its place found anew: by each half-move so many elements."""
     dan, eve = evening.plain("Dan"), evening.plain("Eve")
     dan.ask("match Eve 0 0 white")
     eve.ask("accept Dan")
     cat = evening.window("Cat")
     cat.command("observe 1")
     cat.until(lambda: len(cat.men()) == 32, "the board")
-    cat.driver.execute_cdp_cmd("Performance.enable", {})
-    costs = []
+    cat.script(COUNTS_CHANGES)
     for n in range(HALF_MOVES):
-        if n % MEASURED == 0:
-            costs.append(cost(cat))
         (dan if n % 2 == 0 else eve).ask(KNIGHTS[n % 4])
-        cat.until(
-            lambda: cat.script("return document.querySelectorAll('#moves [data-ply]').length") == n + 1, "a half-move"
-        )
-    costs.append(cost(cat))
-    spent = [behind - before for before, behind in zip(costs, costs[1:])]
-    assert spent[-1] < 1.35 * max(spent[1], 0.05), spent
+    cat.until(lambda: cat.script(SHOWN) == HALF_MOVES, "all half-moves")
+    changes = cat.script("return window.changes")
+    assert len(changes) == HALF_MOVES
+    early, late = max(changes[8:24]), max(changes[-16:])
+    assert late <= 1.2 * early, (early, late)
