@@ -54,7 +54,7 @@ function showInside(session) {
  * @param {{ session: Session, games: Games, smallGames: SmallGames, play: Play, simul: Simul,
  *   preferences: Preferences }} parts */
 function heralds({ session, games, smallGames, play, simul, preferences }) {
-  const settings = new Settings(session);
+  const settings = new Settings(session, preferences);
   const sounds = new Sounds(session, games, preferences);
   const alerts = new Alerts(session, games, preferences);
   const calls = new Calls(session, {
@@ -64,7 +64,8 @@ function heralds({ session, games, smallGames, play, simul, preferences }) {
   const talk = new Talk(session, {
     atGame: (line) => (games.shown ? play.act(games.shown, line) : session.act(line)),
     isForeign: (event) => ("game" in event ? !games.byNumber.has(event.game) : smallGames.isOn),
-    isKeptAway: (who) => settings.isKeptAway(who),
+    isKeptAway: (who) => settings.isKeptAway(who), isShown: (who) => settings.isShown(who),
+    isHidden: (who) => settings.isHidden(who),
   });
   return { settings, sounds, alerts, calls, talk };
 }

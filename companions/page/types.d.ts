@@ -228,6 +228,8 @@ interface Fields {
   partners: { who: string };
   parted: { who: string };
   goodbye: {};
+  hushed: { n: number };
+  "left-out": { n: number };
   unknown: {};
 }
 
@@ -270,6 +272,9 @@ interface RowButton {
   room?: string;
   show?: string;
   challenge?: string;
+  leaves?: string;
+  /** Of a switch whether it is on. */
+  isPressed?: boolean;
 }
 
 /** A row of a list that keeps itself. */
@@ -286,6 +291,8 @@ interface SaidLine {
   who?: string;
   said: string;
   kind: string;
+  /** How many lines it stands for that were left out. */
+  n?: number;
 }
 
 // ---- the archive ----
@@ -395,6 +402,8 @@ interface TalkListeners {
   atGame(line: string): Promise<Answer | null>;
   isForeign(event: Happened<"kibitz" | AtGame>): boolean;
   isKeptAway(who: string): boolean;
+  isShown(who: string): boolean;
+  isHidden(who: string): boolean;
 }
 
 interface SeatListeners {
@@ -429,7 +438,7 @@ interface Lists {
   pending: Happened<"pending-from" | "pending-to">[];
   stored: Happened<"stored" | "stored-pair">[];
 }
-type PreferenceName = "sounds" | "notes" | "premoves" | "legal" | "queen";
+type PreferenceName = "sounds" | "notes" | "premoves" | "legal" | "queen" | "guests";
 type SoundName = "move" | "capture" | "check" | "call" | "low";
 type ElementOf<I extends string> = I extends keyof Elements ? Elements[I] : HTMLElement;
 type DialogId = { [I in keyof Elements]: Elements[I] extends HTMLDialogElement ? I : never }[keyof Elements];

@@ -162,7 +162,7 @@ class Link:
     # ---- from the server to the tab ----
 
     async def down(self) -> None:
-        """From the server to the tab, until the server has closed."""
+        """From the server to the tab, until the server has closed: at the player's wish, or since it ends."""
         while (text := await self.server.next()) is not None:
             await self.send(text)
 

@@ -25,7 +25,7 @@ export class Link {
    * which `line` is null for news; `acknowledges` says whether a board line is to be acknowledged where the server asks
    * for it; `found` gets the name under which a link is in that the page has come back to, and whether what came
    * meanwhile follows; `told` what the go-between says, `isIn` whether a member is in, `waits` that the link is lost
-   * for the moment; `ended` the code of its end.
+   * for the moment, by that code of a close; `ended` the code of its end.
    * @param {string} url @param {boolean} isStamped @param {KeptLink | null} kept @param {LinkListeners} listeners */
   constructor(url, isStamped, kept, listeners) {
     this.isStamped = isStamped;

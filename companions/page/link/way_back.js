@@ -169,6 +169,7 @@ export class WayBack {
     for (const other of opponents.filter((it) => names.includes(it))) {
       this.session.act(`resume ${other}`);
     }
+    tellMember(words.join(" "));
   }
 
   /** @param {string} key */
