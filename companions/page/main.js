@@ -111,6 +111,7 @@ function listenForComing({ session, games, forgetful, partner, lobby, wayBack, c
     if (!wayBack.mayEnter({ code, me }) || !await wayBack.enterAgain(me, opponents)) {
       showInside(session);
       tellMember(endInWords(code, me !== "", opponents.length > 0));
+      wayBack.askToEnter({ code, me }, opponents);
     }
   });
 }

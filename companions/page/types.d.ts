@@ -236,7 +236,8 @@ interface Fields {
 /** Events that no text of the server is: what the link and the member do, and what of the games is chosen. */
 interface OwnFields {
   told: { it: Told };
-  "link-lost": {};
+  /** By that code of a close. */
+  "link-lost": { code: number };
   "link-back": { isSame: boolean; isNewPage: boolean };
   "link-gone": { isSame: boolean; isNewPage: boolean };
   /** The member sends a line of that command. */
@@ -411,7 +412,7 @@ interface SeatListeners {
   hear(message: string): void;
   told(it: Told): void;
   isIn(): boolean;
-  waits(): void;
+  waits(code: number): void;
   ended(code: number): void;
 }
 
@@ -421,7 +422,7 @@ interface LinkListeners {
   found(name: string, isSame: boolean): void;
   told(it: Told): void;
   isIn(): boolean;
-  waits(): void;
+  waits(code: number): void;
   ended(code: number): void;
 }
 

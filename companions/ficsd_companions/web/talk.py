@@ -9,13 +9,16 @@ from typing import NamedTuple
 from ficsd_companions.limits.hearing import Hearing
 from ficsd_companions.limits.saying import Saying
 from ficslink import stamps
-from ficslink.lines import Entered, parse
+from ficslink.lines import Entered, Goodbye, parse
 from ficslink.texts import NEWS_BEGIN, PASSWORD, PROMPTS, READY, Message, Messages, spelled
 
 from . import lines
 from .closes import NO_STAMPS, closed
 from .own_games import OwnGames
 from .questions import List, News
+
+
+GOODBYE = Goodbye.FORM  # behind which the server closes, as its player wished
 
 
 class Asker(Enum):
@@ -52,7 +55,7 @@ class Talk:
         self.has_left_out = False  # of these
         self.begins_part = True
         self.ours: list[str] = []  # the lines so far of an answer to a question of our own
-        self.has_sent = self.is_stamped = False
+        self.has_sent = self.is_stamped = self.has_left = False
         self.taken = 0  # lines of the tab, as it counts them
         self.name: str | None = None
         self.prompt: str | None = None
@@ -183,6 +186,7 @@ class Talk:
     def hear(self, line: str) -> None:
         """Learns from a line how the tab's player stands."""
         self.games.hear(line)
+        self.has_left = line == GOODBYE
         if self.name is None and self.asked_by is Asker.THE_TAB:
             read = parse(line)
             self.name = read.who if isinstance(read, Entered) else None

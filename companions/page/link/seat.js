@@ -24,8 +24,8 @@ async function isThere() {
 
 export class Seat {
   /** `kept` is what `keep` gave before the page began anew, or null. `taken` gets the go-between's answer, `hear` each
-   * message, `told` what it tells the page itself, `waits` whether the link is lost for the moment, and `ended` the
-   * code of the close for good. `isIn` says whether there is anything to come back to.
+   * message, `told` what it tells the page itself, `waits` that the link is lost for the moment, by that code of a
+   * close, and `ended` the code of the close for good. `isIn` says whether there is anything to come back to.
    * @param {string} url @param {KeptSeat | null} kept @param {SeatListeners} listeners */
   constructor(url, kept, listeners) {
     this.url = url;
@@ -130,7 +130,7 @@ export class Seat {
       this.end(code);
     } else {
       if (isFirst) {
-        this.listeners.waits();
+        this.listeners.waits(code);
       }
       setTimeout(() => this.comeBack(code), isFirst ? 0 : gone < HELD ? SOON : LATER);
     }

@@ -80,7 +80,7 @@ export class Session {
       found: (name, isSame) => isPresent() && this.found(name, isSame),
       told: (it) => isPresent() && this.emit({ kind: "told", it }),
       isIn: () => this.me !== "" || this.isComingBack,
-      waits: () => isPresent() && this.emit({ kind: "link-lost" }),
+      waits: (code) => isPresent() && this.emit({ kind: "link-lost", code }),
       ended: (code) => isPresent() && this.end(code),
     });
     this.link = link;

@@ -263,7 +263,8 @@ export class Talk {
     const [kind, n] = key.split(" ");
     const acts = byId("room-acts");
     acts.hidden = !["channel", "person"].includes(kind);
-    const buttons = kind === "channel" ? this.actsOfChannel(key, n) : kind === "person" ? this.actsOfPerson(key, n) : [];
+    const buttons = kind === "channel" ? this.actsOfChannel(key, n)
+      : kind === "person" ? this.actsOfPerson(key, n) : [];
     const state = JSON.stringify(buttons);
     if (acts.dataset.of !== state) {
       acts.dataset.of = state;

@@ -37,8 +37,8 @@ export const TEXTS = {
     + "behalten, melden Sie ihn an, sobald Sie da sind.",
   "login.wants-password": "{name} hat ein Konto. Geben Sie das Passwort an, oder nehmen Sie einen anderen Namen.",
   "link.ended": "Die Verbindung ist zu Ende. Sie können wieder eintreten.",
-  "link.ended-in-game": "Die Verbindung ist zu Ende. Ihre Partie ist vertagt, wenn beide ein Konto haben, sonst "
-    + "verloren.",
+  "link.ended-in-game": "Die Verbindung ist zu Ende. Treten Sie wieder ein: dann wird gesagt, was aus Ihrer Partie "
+    + "geworden ist.",
 
   // colours, men, variants, terms
   white: "Weiß",
@@ -171,6 +171,10 @@ export const TEXTS = {
   // the way back in
   "way.lost": "Die Verbindung ist weg, und die Seite kommt von selbst zurück. Ihr Platz wird eine halbe Minute "
     + "gehalten.",
+  "way.anew": "Der Server beginnt neu, und die Seite kommt von selbst zurück.",
+  "way.asks": "Kommen Sie mit Ihrem Passwort wieder herein, nach dem die Seite einmal fragt.",
+  "way.adjourned": "Die Partie gegen {who} ist vertagt und geht weiter, sobald auch {who} da ist.",
+  "way.not-kept": "Die Partie gegen {who} wurde nicht aufbewahrt.",
   "way.back": "Sie sind wieder da.",
   "way.enters": "Der Platz ist weg. Die Seite meldet Sie wieder an.",
   "way.gone": "Der Platz wird nicht mehr gehalten. Kommen Sie wieder herein.",

@@ -37,7 +37,7 @@ export const TEXTS = {
     + "register once you are in.",
   "login.wants-password": "{name} has an account. Give its password, or take another name.",
   "link.ended": "The link has ended. You can come in again.",
-  "link.ended-in-game": "The link has ended. Your game is adjourned where both players have accounts, and else lost.",
+  "link.ended-in-game": "The link has ended. Come in again: then you are told what became of your game.",
 
   // colours, men, variants, terms
   white: "White",
@@ -167,6 +167,10 @@ export const TEXTS = {
 
   // the way back in
   "way.lost": "The link is lost, and the page comes back by itself. Your seat is held for half a minute.",
+  "way.anew": "The server begins anew, and the page comes back by itself.",
+  "way.asks": "Come in again with your password, for which the page asks once.",
+  "way.adjourned": "The game against {who} is adjourned, and goes on once {who} is here too.",
+  "way.not-kept": "The game against {who} wasn't kept.",
   "way.back": "You are back.",
   "way.enters": "The seat is gone. The page enters again under your name.",
   "way.gone": "The seat isn't held any more. Come in again.",

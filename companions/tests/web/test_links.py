@@ -96,6 +96,20 @@ async def test_the_servers_end_closes_the_tab_behind_its_last_line(played: Playe
     assert (await tab.closed())[0] == aiohttp.WSCloseCode.OK
 
 
+async def test_an_end_without_a_goodbye_is_told_as_one_to_come_back_behind(played: Played) -> None:
+    tab, end = await played.entered()
+    await end.say("\n\rBen tells you: Goodbye.\n\rfics% ")
+    assert await tab.part() == ["", "Ben tells you: Goodbye.", "fics% "]
+    end.close()
+    assert (await tab.closed())[0] == aiohttp.WSCloseCode.GOING_AWAY
+
+
+async def test_an_end_before_the_login(played: Played) -> None:
+    tab, end = await played.link()
+    end.close()
+    assert (await tab.closed())[0] == aiohttp.WSCloseCode.GOING_AWAY
+
+
 async def test_what_came_before_a_reset_is_told(played: Played) -> None:
     tab, end = await played.entered()
     await tab.send("quit")
