@@ -153,6 +153,8 @@ interface KeptSeat {
   heard: number | null;
   sentCount: number;
   sent: string[];
+  /** Whether the page is to begin anew, and nothing is told of what it has sent. */
+  isAnew?: boolean;
 }
 
 interface KeptLink {
@@ -428,8 +430,8 @@ interface LinkListeners {
 
 /** A link has ended, by that code of a close, under which somebody was in by that name. */
 type LinkEnd = { code: number; me: string };
-/** A line that was sent, and who waits for its answer. */
-type Owed = { line: string; keep: (answer: Answer) => void };
+/** A line that was sent, as which message, and who waits for its answer. */
+type Owed = { line: string; at: number; keep: (answer: Answer) => void };
 type ListName = "who" | "sought" | "games" | "pending" | "stored";
 /** The rows of each list of the lobby. */
 interface Lists {
