@@ -25,13 +25,6 @@ def server(tmp_path: Path) -> Iterator[Server]:
     it.end()
 
 
-@pytest.fixture
-def wire(go_between: GoBetween) -> Iterator[Wire]:
-    it = Wire(go_between.port)
-    yield it
-    it.close()
-
-
 @contextlib.contextmanager
 def begun_anew(evening: Evening, wire: Wire) -> Iterator[None]:
     """The server ends, and begins anew over its store, with a go-between before it."""

@@ -5,7 +5,6 @@ import pytest
 
 from . import storages
 from .browser import Evening
-from .test_way_back import wire as wire
 from .wire import Wire
 
 pytestmark = pytest.mark.browser
