@@ -56,7 +56,7 @@ function showInside(session) {
  * @param {{ session: Session, games: Games, smallGames: SmallGames, play: Play, simul: Simul,
  *   preferences: Preferences, shows: (keys: string[]) => void }} parts */
 function heralds({ session, games, smallGames, play, simul, preferences, shows }) {
-  const settings = new Settings(session);
+  const settings = new Settings(session, preferences);
   const sounds = new Sounds(session, games, preferences);
   const alerts = new Alerts(session, games, preferences);
   const calls = new Calls(session, {
@@ -66,7 +66,8 @@ function heralds({ session, games, smallGames, play, simul, preferences, shows }
   const talk = new Talk(session, {
     atGame: (line) => (games.shown ? play.act(games.shown, line) : session.act(line)),
     isForeign: (event) => ("game" in event ? !games.byNumber.has(event.game) : smallGames.isOn),
-    isKeptAway: (who) => settings.isKeptAway(who),
+    isKeptAway: (who) => settings.isKeptAway(who), isShown: (who) => settings.isShown(who),
+    isHidden: (who) => settings.isHidden(who),
   });
   return { settings, sounds, alerts, calls, talk };
 }
@@ -120,6 +121,7 @@ function listenForComing({ session, games, forgetful, partner, lobby, wayBack, c
     if (!wayBack.mayEnter({ code, me }) || !await wayBack.enterAgain(me, opponents)) {
       showInside(session);
       tellMember(endInWords(code, me !== "", opponents.length > 0));
+      wayBack.askToEnter({ code, me }, opponents);
     }
   });
 }

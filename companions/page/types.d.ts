@@ -153,6 +153,8 @@ interface KeptSeat {
   heard: number | null;
   sentCount: number;
   sent: string[];
+  /** Whether the page is to begin anew, and nothing is told of what it has sent. */
+  isAnew?: boolean;
 }
 
 interface KeptLink {
@@ -228,13 +230,16 @@ interface Fields {
   partners: { who: string };
   parted: { who: string };
   goodbye: {};
+  hushed: { n: number };
+  "left-out": { n: number };
   unknown: {};
 }
 
 /** Events that no text of the server is: what the link and the member do, and what of the games is chosen. */
 interface OwnFields {
   told: { it: Told };
-  "link-lost": {};
+  /** By that code of a close. */
+  "link-lost": { code: number };
   "link-back": { isSame: boolean; isNewPage: boolean };
   "link-gone": { isSame: boolean; isNewPage: boolean };
   /** The member sends a line of that command. */
@@ -271,6 +276,9 @@ interface RowButton {
   show?: string;
   challenge?: string;
   isOff?: boolean;
+  leaves?: string;
+  /** Of a switch whether it is on. */
+  isPressed?: boolean;
 }
 
 /** A row of a list that keeps itself. */
@@ -287,6 +295,8 @@ interface SaidLine {
   who?: string;
   said: string;
   kind: string;
+  /** How many lines it stands for that were left out. */
+  n?: number;
 }
 
 // ---- the archive ----
@@ -423,6 +433,8 @@ interface TalkListeners {
   atGame(line: string): Promise<Answer | null>;
   isForeign(event: Happened<"kibitz" | AtGame>): boolean;
   isKeptAway(who: string): boolean;
+  isShown(who: string): boolean;
+  isHidden(who: string): boolean;
 }
 
 interface SeatListeners {
@@ -430,7 +442,7 @@ interface SeatListeners {
   hear(message: string): void;
   told(it: Told): void;
   isIn(): boolean;
-  waits(): void;
+  waits(code: number): void;
   ended(code: number): void;
 }
 
@@ -440,14 +452,14 @@ interface LinkListeners {
   found(name: string, isSame: boolean): void;
   told(it: Told): void;
   isIn(): boolean;
-  waits(): void;
+  waits(code: number): void;
   ended(code: number): void;
 }
 
 /** A link has ended, by that code of a close, under which somebody was in by that name. */
 type LinkEnd = { code: number; me: string };
-/** A line that was sent, and who waits for its answer. */
-type Owed = { line: string; keep: (answer: Answer) => void };
+/** A line that was sent, as which message, and who waits for its answer. */
+type Owed = { line: string; at: number; keep: (answer: Answer) => void };
 type ListName = "who" | "sought" | "games" | "pending" | "stored";
 /** The rows of each list of the lobby. */
 interface Lists {
@@ -457,7 +469,7 @@ interface Lists {
   pending: Happened<"pending-from" | "pending-to">[];
   stored: Happened<"stored" | "stored-pair">[];
 }
-type PreferenceName = "sounds" | "notes" | "premoves" | "legal" | "queen" | "flag";
+type PreferenceName = "sounds" | "notes" | "premoves" | "legal" | "queen" | "flag" | "guests";
 type SoundName = "move" | "capture" | "check" | "call" | "low";
 type ElementOf<I extends string> = I extends keyof Elements ? Elements[I] : HTMLElement;
 type DialogId = { [I in keyof Elements]: Elements[I] extends HTMLDialogElement ? I : never }[keyof Elements];

@@ -10,6 +10,7 @@ from ficsd_companions.limits import descriptors
 from ficsd_companions.limits.addresses import Address, Addresses
 from ficsd_companions.limits.pieces import Pieces
 from ficsd_companions.limits.refused import Refused, Why
+from ficsd_companions.limits.saying import Saying
 
 from . import texts
 from .client import Client, Cut
@@ -106,7 +107,8 @@ class GoBetween:
     ) -> None:
         """Both directions of one link. It ends once the server has closed it and all that it wrote is passed on."""
         server, later = ServerEnd(reader, writer), asyncio.get_running_loop().call_later
-        session = Session(self.shared, client.say, server.say, server.say_no_more, later, address.guesses)
+        budgets = address.guesses, Saying(address)
+        session = Session(self.shared, client.say, server.say, server.say_no_more, later, *budgets)
         session.wrong_password = lambda: self.refused.wrong_password(client.address)
         up, down, login, _ = tasks = [
             asyncio.create_task(it)

@@ -12,6 +12,8 @@ from ficslink.terms import Terms
 from ficslink.texts import LOGIN, PASSWORD, READY, Part, Parts
 
 from ficsd_companions.limits.budget import Budget
+from ficsd_companions.limits.hearing import LEFT_OUT_SECONDS, Hearing
+from ficsd_companions.limits.saying import Saying
 
 from . import texts, typed
 from .boards import Board, Game, Role
@@ -53,13 +55,15 @@ class Session:
         end_to_server: Callable[[], object],
         later: Callable[[float, Callable[[], object]], object],
         guesses: Budget | None = None,
+        saying: Saying | None = None,
     ) -> None:
         self.shared, self.to_client, self.to_server = shared, to_client, to_server
         self.end_to_server, self.later, self.guesses = end_to_server, later, guesses
+        self.saying, self.hearing = saying or Saying(), Hearing()
         self.wrong_password: Callable[[], object] = lambda: None  # which is told of each
         self.name = self.typed_name = ""
         self.stage = Stage.GREETING
-        self.with_password = self.client_has_ended = False
+        self.with_password = self.client_has_ended = self.tells_later = False
         self.is_sealed: bool | None = None  # none until the first line has come
         self.ahead: deque[str] = deque()  # lines of the client that weren't taken yet
         self.held: list[str] = []  # news that came before the client was told that it is in
@@ -149,10 +153,11 @@ class Session:
             if self.stage in (Stage.GREETING, Stage.ASKED):
                 self.answered_login(part)
             elif self.stage is Stage.RETURN:
-                self.held += part.lines
+                self.held += self.hearing.heard(part.lines)
             else:
-                self.answered(part)
+                self.answered(Part(self.hearing.heard(part.lines), part.prompt))
         self.go_on()
+        self.tell_left_out_later()
 
     def server_is_gone(self) -> None:
         """Tells what came last of the server."""
@@ -215,6 +220,8 @@ class Session:
 
     def ask(self, request: Request) -> None:
         """Sends a request's lines to the server. It is answered behind those before it."""
+        if why := next(filter(None, map(self.saying.refusal, request.asks)), None):
+            request = Request(request.tag, request.code, [], lambda _: [str(why)])
         self.queue.append(request)
         for line in request.asks:
             self.owed.append(request)
@@ -254,6 +261,19 @@ class Session:
         if news:
             self.put([""] + news)
             self.put_text(READY)
+
+    def tell_left_out_later(self) -> None:
+        """Tells in a moment how much talk was left out."""
+        if self.hearing.count and not self.tells_later:
+            self.tells_later = True
+            self.later(LEFT_OUT_SECONDS, self.tell_left_out)
+
+    def tell_left_out(self) -> None:
+        self.tells_later = False
+        if self.stage is Stage.IN:
+            self.tell(self.hearing.left_out())
+        elif self.stage is not Stage.OVER:
+            self.tell_left_out_later()
 
     def put(self, lines: Iterable[str]) -> None:
         self.put_text("".join(it + "\n" for it in lines))

@@ -10,6 +10,7 @@ Network = ipaddress.IPv4Address | ipaddress.IPv6Network
 COMING_SECONDS = 30  # in which as many links may be opened anew as there may be at a time
 GUESSES_A_SECOND, GUESSES_AT_ONCE = 0.1, 10
 REQUESTS_A_SECOND, REQUESTS_AT_ONCE = 8, 128  # for each link that the address may have
+TALK_A_SECOND, TALK_AT_ONCE = 1 / 16, 1.25  # lines of talk, for each link that the address may have
 CONNECTIONS = 4  # without a link, for each link that the address may have
 MOST_KNOWN = 4096
 
@@ -23,11 +24,12 @@ class Address:
         self.coming = Budget(most_links / COMING_SECONDS, 2 * most_links)
         self.guesses = Budget(GUESSES_A_SECOND, GUESSES_AT_ONCE)
         self.requests = Budget(REQUESTS_A_SECOND * most_links, REQUESTS_AT_ONCE * most_links)
+        self.talk = Budget(TALK_A_SECOND * most_links, max(1, TALK_AT_ONCE * most_links))
 
     @property
     def is_idle(self) -> bool:
         """Whether forgetting it changes nothing."""
-        budgets = self.coming, self.guesses, self.requests
+        budgets = self.coming, self.guesses, self.requests, self.talk
         return not self.connections and not self.links and all(it.is_full for it in budgets)
 
     @property

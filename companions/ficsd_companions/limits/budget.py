@@ -33,6 +33,10 @@ class Budget:
         self.left -= amount
         return True
 
+    def wait(self, amount: float = 1) -> float:
+        """In how many seconds so many are to be had; 0 where they are now."""
+        return max(0, (amount - self.fill()) / self.rate)
+
     def promise(self, amount: float = 1) -> float:
         """Takes so many in any case: in how many seconds they are to be had."""
         self.left = self.fill() - amount

@@ -1,7 +1,7 @@
 """What `fics_web` is made of.
 
-Who may come: `gate` stands before each connection, `porter` counts connections and places, `hosts` are the names that
-are answered, `proxies` whose word counts for an address, `closes` why one is closed.
+Who may come: `gate` stands before each connection, `frames` follows what a tab sends, `porter` counts connections and
+places, `hosts` are the names that are answered, `proxies` whose word counts for an address, `closes` why one is closed.
 
 One link: `lines` are what a tab sends, `questions` are the go-between's own, `talk` says whose answer comes, `kept` has
 what a tab wasn't told, `server_end` is the socket to the server, `link` a tab and its server's end, `seats` what is

@@ -8,14 +8,19 @@ import asyncio
 import socket
 from typing import Protocol
 
-from aiohttp import web
+from aiohttp import WSCloseCode, web
 from ficsd_companions.limits.pace import Flood, Pace
 from ficsd_companions.limits.refused import Refused
+
+from .closes import Closed
+from .frames import Frames
 
 PIECE, TAB_PIECE = 256, 96  # bytes; a tab's may be as many messages as a sixth of that
 MOST_IN_PIECES = 8192  # bytes without a whole message, which is longer than the longest one
 UNSENT = 65536  # bytes that wait for a socket before who writes has to
 UNSENT_AGAIN = UNSENT // 2  # bytes that still wait as who writes goes on; with fewer nobody ever waits
+MOST_BLANK = 1  # lines before a request, where none belong (RFC 9112, 2.2)
+UNMASKED = "a frame without a mask"
 ASKING_SECONDS = 10  # for a request to come
 ANSWERED_SECONDS = 60  # for its answer to go, and the next request to come
 
@@ -51,9 +56,15 @@ class Gate(asyncio.BufferedProtocol):
         self.porter, self.handler = porter, handler
         self.timer: asyncio.TimerHandle | None = None
         self.is_in = self.is_lost = self.is_tab = self.is_at_work = self.is_held = self.goes_on = False
+        self.is_last = False  # no further request is taken
         self.unfinished = 0  # bytes since the last whole message
         self.asked = self.answered = 0  # requests
-        self.ends_line = False  # whether the last byte that was read ends a line of a request
+        self.is_between, self.has_line, self.blank = (
+            True,
+            False,
+            0,
+        )  # no request has begun; a line has; lines before one
+        self.frames = Frames()
 
     # ---- what the loop calls ----
 
@@ -85,18 +96,39 @@ class Gate(asyncio.BufferedProtocol):
                 self.hold()
                 return
         piece = bytes(self.room[:nbytes])
-        if not self.is_tab:
-            self.count_requests(piece)
+        if not (self.has_masks(piece) if self.is_tab else self.counts_requests(piece)):
+            return
         self.handler.data_received(piece)
         if self.is_at_work if self.is_tab else self.asked > self.answered:
             self.hold()
 
-    def count_requests(self, piece: bytes) -> None:
-        """Counts the requests that end in a piece, each with an empty line. The handler would take any number of them
-        ahead of its answers."""
-        lines = (b"\n" if self.ends_line else b"") + piece.replace(b"\r", b"")
-        self.asked += lines.count(b"\n\n")
-        self.ends_line = lines.endswith(b"\n") and not lines.endswith(b"\n\n")
+    def counts_requests(self, piece: bytes) -> bool:
+        """Counts the requests that end in a piece, each with an empty line; the handler would take any number of them
+        ahead of its answers. Whether the connection goes on: where lines come that belong to none it is cut off."""
+        *lines, rest = piece.replace(b"\r", b"").split(b"\n")
+        for line in lines:
+            is_blank, self.has_line = not line and not self.has_line, False
+            if is_blank and self.is_between:
+                self.blank += 1
+            elif is_blank:
+                self.asked += 1
+                self.is_between, self.blank = True, 0
+            else:
+                self.is_between = False
+        self.has_line = self.has_line or bool(rest)
+        if self.blank > MOST_BLANK:
+            self.abort()
+        return self.blank <= MOST_BLANK
+
+    def has_masks(self, piece: bytes) -> bool:
+        """Whether the frames of a piece have masks, without which a tab is closed (RFC 6455, 5.1)."""
+        are_masked = self.frames.are_masked(piece)
+        if not are_masked and self.flooded and not self.flooded.done():
+            self.flooded.set_exception(Closed(WSCloseCode.PROTOCOL_ERROR, UNMASKED))
+            self.hold()
+        elif not are_masked:
+            self.abort()
+        return are_masked
 
     def count_piece(self, length: int) -> None:
         self.pace.piece(length)
@@ -136,8 +168,14 @@ class Gate(asyncio.BufferedProtocol):
     def has_answered(self) -> None:
         """The answer to a request is made, and more may be read behind the last one."""
         self.answered += 1
-        if not self.is_tab and self.answered >= self.asked:
+        if not self.is_tab and self.answered >= self.asked and not self.is_last:
             self.free()
+
+    def ends(self, seconds: float) -> None:
+        """No more is read, and in so many seconds at the latest the connection ends."""
+        self.is_last = True
+        self.hold()
+        self.expect(seconds)
 
     def abort(self) -> None:
         """Ends the connection at once, whatever wasn't written."""

@@ -168,9 +168,10 @@ class Link:
     # ---- from the server to the tab ----
 
     async def down(self) -> None:
-        """From the server to the tab, until the server has closed."""
+        """From the server to the tab, until the server has closed: at the player's wish, or since it ends."""
         while (text := await self.server.next()) is not None:
             await self.send(text)
+        self.code = WSCloseCode.OK if self.talk.has_left else WSCloseCode.GOING_AWAY
 
     async def send(self, text: str) -> None:
         """Sends the tab a message, unless it takes none any more."""

@@ -21,6 +21,13 @@ from .tabs import Tabs
 BACKLOG = 256
 LAST_WORDS_SECONDS = 10
 KEEP_ALIVE_SECONDS = 15
+BODY_SECONDS = 1  # for who sends a body to read that it has none to send
+
+
+def closing(refusal: web.HTTPException) -> web.HTTPException:
+    """A refusal behind which the connection is closed."""
+    refusal.force_close()
+    return refusal
 
 
 class GoBetween:
@@ -46,7 +53,7 @@ class GoBetween:
         self.over = loop.create_future()
         for number in (signal.SIGINT, signal.SIGTERM):
             loop.add_signal_handler(number, self.end, False)
-        runner = web.AppRunner(self.app(), access_log=None, keepalive_timeout=KEEP_ALIVE_SECONDS)
+        runner = web.AppRunner(self.app(), access_log=None, keepalive_timeout=KEEP_ALIVE_SECONDS, lingering_time=0)
         await runner.setup()
         assert runner.server
         serving: web.Server = runner.server
@@ -108,13 +115,14 @@ class GoBetween:
             gate.has_answered()
 
     async def answer(self, request: web.Request, handler: Handler, gate: Gate) -> web.StreamResponse:
+        if request.body_exists:
+            gate.ends(BODY_SECONDS)
+            raise closing(web.HTTPBadRequest(text="no request has a body here"))
         if not self.hosts.has(request.headers.get("Host", "")):
             raise web.HTTPMisdirectedRequest(text="no page is served under this name; --host names one")
         if not self.porter.visitor(request, gate).requests.take():
             self.refused.count(Why.REQUESTS)
-            refusal = web.HTTPTooManyRequests(text="too many requests from this address")
-            refusal.force_close()
-            raise refusal
+            raise closing(web.HTTPTooManyRequests(text="too many requests from this address"))
         return await handler(request)
 
     def counts(self, request: web.BaseRequest, count: int) -> bool:

@@ -4,6 +4,7 @@ import asyncio
 import socket
 from collections.abc import Iterable
 
+from ficsd_companions.limits.hearing import LEFT_OUT_SECONDS
 from ficslink.errors import TooLong
 
 from .kept import Kept
@@ -12,6 +13,8 @@ from .talk import Talk
 
 PIECE = 16384
 UNSENT = 16384  # bytes that wait for the server before the tab has to
+MOST_UNTOLD = 128  # messages that a tab hasn't been told; to who is further behind no talk is told
+A_MOMENT = 0.02  # seconds
 MOST_OWED = 256  # lines that aren't answered; no more are taken of the tab then
 
 
@@ -30,6 +33,7 @@ class ServerEnd(asyncio.BufferedProtocol):
         self.over, self.can_write = asyncio.Event(), asyncio.Event()
         self.has_told, self.has_answered = asyncio.Event(), asyncio.Event()
         self.can_write.set()
+        self.telling: asyncio.TimerHandle | None = None  # of how much talk was left out
 
     @property
     def is_over(self) -> bool:
@@ -47,14 +51,30 @@ class ServerEnd(asyncio.BufferedProtocol):
         return self.room
 
     def buffer_updated(self, nbytes: int) -> None:
+        is_behind = self.has_reader and self.kept.untold > MOST_UNTOLD
         try:
-            self.add(self.talk.from_server(bytes(self.room[:nbytes])))
+            self.add(self.talk.from_server(bytes(self.room[:nbytes]), is_behind))
         except TooLong:
             self.transport.abort()
+        if self.talk.hearing.count and not self.telling:
+            self.tell_later(LEFT_OUT_SECONDS)
         self.has_answered.set()
+
+    def tell_later(self, seconds: float) -> None:
+        self.telling = asyncio.get_running_loop().call_later(seconds, self.tell_left_out)
+
+    def tell_left_out(self) -> None:
+        """Tells how much talk was left out, or a moment later where a part isn't whole."""
+        self.telling = None
+        if not self.is_over:
+            self.add(self.talk.left_out())
+            if self.talk.hearing.count:
+                self.tell_later(A_MOMENT)
 
     def connection_lost(self, exc: Exception | None) -> None:
         self.over.set()
+        if self.telling:
+            self.telling.cancel()
         self.can_write.set()
         self.add(self.talk.left())
         self.has_told.set()
@@ -112,8 +132,10 @@ class ServerEnd(asyncio.BufferedProtocol):
     # ---- to the server ----
 
     async def write(self, line: bytes) -> None:
-        """Writes a line, and waits while the server takes no more. To a server that has closed nothing is written."""
-        if not self.is_over:
+        """Writes a line, and waits while the server takes no more. To a server that has closed nothing is written. What
+        isn't to be written is answered here."""
+        self.add(self.talk.own_answers())
+        if line and not self.is_over:
             self.transport.write(line)
             await self.can_write.wait()
         while len(self.talk.owed) > MOST_OWED and not self.is_over:

@@ -4,6 +4,7 @@ import asyncio
 
 from aiohttp import WSCloseCode, web
 from ficsd_companions.limits.addresses import Address
+from ficsd_companions.limits.saying import Saying
 
 from . import closes, seats
 from .away import Away
@@ -88,7 +89,7 @@ class Tabs:
         self.porter.give(address)
         server = None
         try:
-            server = await self.server_end()
+            server = await self.server_end(address)
             gate.become_tab()
             await tab.prepare(request)
             await Link(tab, gate, server, address).run()
@@ -99,9 +100,9 @@ class Tabs:
             if server:
                 server.close()
 
-    async def server_end(self, keeps_told: bool = False) -> ServerEnd:
-        """A new link of the server."""
-        talk = Talk(self.settings.refuses_stamps)
+    async def server_end(self, address: Address, keeps_told: bool = False) -> ServerEnd:
+        """A new link of the server, for who comes from that address."""
+        talk = Talk(self.settings.refuses_stamps, Saying(address))
         try:
             async with asyncio.timeout(SERVER_SECONDS):
                 _, server = await asyncio.get_running_loop().create_connection(
@@ -157,7 +158,7 @@ class Tabs:
             raise closes.closed(why)
         self.porter.give(address)
         try:
-            server = await self.server_end(keeps_told=True)
+            server = await self.server_end(address, keeps_told=True)
         except Closed:
             self.porter.take_back(address)
             raise

@@ -75,6 +75,12 @@ const NEWS = [
   ["goodbye", "Goodbye\\."],
 ];
 
+/** What the go-between says itself, in place of an answer or of what it has left out. */
+const GO_BETWEENS = [
+  ["hushed", `Not said, since that is more than others can read: another line in ${N} seconds\\.`],
+  ["left-out", `\\(${N} lines? of talk left out\\)`],
+];
+
 const RANKS = [["text-rank", "(?<rank>[pnbrqkPNBRQK-]{8})"]];
 const NUMERIC = new Set(["n", "game", "whiteLeft", "blackLeft"]);
 
@@ -84,7 +90,7 @@ function compiled(rows) {
   return rows.map(([kind, form]) => [/** @type {LineKind} */ (kind), new RegExp(`^${form}$`)]);
 }
 
-const GENERAL = compiled([...REPLIES, ...NEWS]);
+const GENERAL = compiled([...REPLIES, ...NEWS, ...GO_BETWEENS]);
 const BY_COMMAND = Object.fromEntries(Object.entries(LISTS).map(([name, rows]) => [name, compiled(rows)]));
 const REST = compiled(RANKS);
 

@@ -2,6 +2,7 @@
  * that begins with an empty line is news; any other answers the oldest line that was sent. The link outlives a
  * WebSocket that breaks, and the page too: `seat.js` says how. */
 
+import { mayBeKept } from "./keepable.js";
 import { PROMPTS } from "./lines.js";
 import { Seat } from "./seat.js";
 import { ACKNOWLEDGEMENT, GREETING, sealed, stampNow } from "./stamps.js";
@@ -25,14 +26,14 @@ export class Link {
    * which `line` is null for news; `acknowledges` says whether a board line is to be acknowledged where the server asks
    * for it; `found` gets the name under which a link is in that the page has come back to, and whether what came
    * meanwhile follows; `told` what the go-between says, `isIn` whether a member is in, `waits` that the link is lost
-   * for the moment; `ended` the code of its end.
+   * for the moment, by that code of a close; `ended` the code of its end.
    * @param {string} url @param {boolean} isStamped @param {KeptLink | null} kept @param {LinkListeners} listeners */
   constructor(url, isStamped, kept, listeners) {
     this.isStamped = isStamped;
     this.listeners = listeners;
     // the lines that were sent and aren't answered, the oldest first
     /** @type {Owed[]} */
-    this.owed = (kept?.owed ?? []).map((line) => ({ line, keep: () => {} }));
+    this.owed = (kept?.owed ?? []).map((line) => ({ line, at: 0, keep: () => {} }));
     /** @type {string[]} */
     this.lines = kept?.lines ?? []; // of the part that isn't whole
     this.prompt = kept?.prompt ?? "";
@@ -94,8 +95,8 @@ export class Link {
       return Promise.resolve(this.listeners.take({ line, lines: refusal ? [refusal] : [], prompt: this.prompt }));
     }
     return new Promise((keep) => {
-      this.owed.push({ line, keep });
       this.seat.send(this.isStamped ? sealed(line, stampNow()) : line);
+      this.owed.push({ line, at: this.seat.sentCount, keep });
     });
   }
 
@@ -129,6 +130,7 @@ export class Link {
       return;
     }
     const answered = this.owed.shift();
+    this.seat?.arrived(answered?.at ?? 0);
     const answer = this.listeners.take({ line: answered?.line ?? null, lines, prompt });
     answered?.keep(answer);
   }
@@ -154,8 +156,11 @@ export class Link {
     this.seat.leave();
   }
 
-  /** What a page that begins anew has to know of it. */
+  /** What a page that begins anew has to know of it: what is underway, unless a password may be among it. */
   get keep() {
-    return { seat: this.seat.keep, owed: this.owed.map((it) => it.line), lines: this.lines, prompt: this.prompt };
+    const lines = this.owed.map((it) => it.line);
+    const { seat: { keep: seat }, prompt } = this;
+    return lines.every(mayBeKept) ? { seat, owed: lines, lines: this.lines, prompt }
+      : { seat: { ...seat, sentCount: 0, sent: [], isAnew: true }, owed: [], lines: [], prompt };
   }
 }

@@ -4,7 +4,6 @@
 const MARK = "\x01"; // of messages between the page and the go-between alone
 const PROTOCOL = "seat";
 const DONE = 1000;
-const MOST_SENT = 600; // messages that are kept to be sent again
 const HELD = 30_000; // milliseconds for which the go-between holds a seat
 const TRIES_FOR = 120_000; // milliseconds
 const SOON = 700; // milliseconds between two tries while the seat is held
@@ -24,8 +23,8 @@ async function isThere() {
 
 export class Seat {
   /** `kept` is what `keep` gave before the page began anew, or null. `taken` gets the go-between's answer, `hear` each
-   * message, `told` what it tells the page itself, `waits` whether the link is lost for the moment, and `ended` the
-   * code of the close for good. `isIn` says whether there is anything to come back to.
+   * message, `told` what it tells the page itself, `waits` that the link is lost for the moment, by that code of a
+   * close, and `ended` the code of the close for good. `isIn` says whether there is anything to come back to.
    * @param {string} url @param {KeptSeat | null} kept @param {SeatListeners} listeners */
   constructor(url, kept, listeners) {
     this.url = url;
@@ -33,7 +32,8 @@ export class Seat {
     this.token = kept?.token ?? null;
     this.heard = kept?.heard ?? null; // messages, or null where the page doesn't know
     this.sentCount = kept?.sentCount ?? 0;
-    this.sent = kept?.sent ?? []; // the last ones
+    this.sent = kept?.sent ?? []; // the last ones, of which nobody has said that they have arrived
+    this.isAnew = kept?.isAnew ?? false; // the page begins anew, and doesn't know what it has sent
     this.isTaken = false; // there was an answer on this socket
     this.isOver = false;
     this.lostSince = 0;
@@ -45,7 +45,8 @@ export class Seat {
     const socket = new WebSocket(this.url, PROTOCOL);
     this.socket = socket;
     this.isTaken = false;
-    socket.onopen = () => this.say({ seat: this.token, ...(this.token === null ? {} : { heard: this.heard }) });
+    socket.onopen = () => this.say({ seat: this.token, ...(this.token === null ? {} : { heard: this.heard }),
+      ...(this.isAnew ? { anew: true } : {}) });
     socket.onmessage = (message) => socket === this.socket && this.receive(message.data);
     socket.onclose = (event) => socket === this.socket && this.closed(event.code);
     return socket;
@@ -70,10 +71,12 @@ export class Seat {
    * @param {Taken} answer */
   take(answer) {
     this.isTaken = true;
+    this.isAnew = false;
     this.token = answer.seat;
     this.lostSince = 0;
     if (answer.taken === "same") {
-      this.missed(answer.heard).forEach((it) => this.socket.send(it));
+      this.arrived(answer.heard);
+      this.sent.forEach((it) => this.socket.send(it));
       this.sentCount = Math.max(this.sentCount, answer.heard);
     } else {
       this.heard = 0;
@@ -83,11 +86,11 @@ export class Seat {
     this.listeners.taken(answer);
   }
 
-  /** The messages behind the first so many, which didn't arrive.
-   * @param {number} arrived */
-  missed(arrived) {
-    const count = Math.max(0, this.sentCount - arrived);
-    return count ? this.sent.slice(-count) : [];
+  /** So many messages have arrived: they are forgotten.
+   * @param {number} count */
+  arrived(count) {
+    const missing = Math.max(0, this.sentCount - count);
+    this.sent = missing ? this.sent.slice(-missing) : [];
   }
 
   /** Sends a message, at once or as soon as the page is back.
@@ -95,7 +98,6 @@ export class Seat {
   send(message) {
     this.sentCount += 1;
     this.sent.push(message);
-    this.sent = this.sent.slice(-MOST_SENT);
     if (this.isTaken) {
       this.socket.send(message);
     }
@@ -130,7 +132,7 @@ export class Seat {
       this.end(code);
     } else {
       if (isFirst) {
-        this.listeners.waits();
+        this.listeners.waits(code);
       }
       setTimeout(() => this.comeBack(code), isFirst ? 0 : gone < HELD ? SOON : LATER);
     }

@@ -26,9 +26,14 @@ export class Answer {
     return this.line ?? "";
   }
 
+  /** Whether the go-between didn't pass the line on, since the member says too much. */
+  get isHushed() {
+    return this.events[0]?.kind === "hushed";
+  }
+
   /** Whether it was done: it wasn't refused, and the link didn't end before the answer. */
   get isDone() {
-    return !this.refusal && this.prompt !== "";
+    return !this.refusal && !this.isHushed && this.prompt !== "";
   }
 
   /** The events of one kind.
@@ -75,7 +80,7 @@ export class Session {
       found: (name, isSame) => isPresent() && this.found(name, isSame),
       told: (it) => isPresent() && this.emit({ kind: "told", it }),
       isIn: () => this.me !== "" || this.isComingBack,
-      waits: () => isPresent() && this.emit({ kind: "link-lost" }),
+      waits: (code) => isPresent() && this.emit({ kind: "link-lost", code }),
       ended: (code) => isPresent() && this.end(code),
     });
     this.link = link;
@@ -171,7 +176,9 @@ export class Session {
   async act(line) {
     this.emit({ kind: "acting", command: commandOf(line) });
     const answer = await this.ask(line);
-    this.emit(answer.refusal ? { kind: "complaint", n: answer.refusal } : { kind: "settled" });
+    if (!answer.isHushed) {
+      this.emit(answer.refusal ? { kind: "complaint", n: answer.refusal } : { kind: "settled" });
+    }
     return answer;
   }
 }

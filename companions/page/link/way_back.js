@@ -1,8 +1,9 @@
-/** A way back in, behind a reload and a lost link. The go-between holds a seat for half a minute; behind that who has
- * an account enters again, and asks to go on with the game that was adjourned. A bar says what goes on. */
+/** A way back in, behind a reload, a lost link and a server that begins anew. The go-between holds a seat for half a
+ * minute; behind that, and where the server has ended, who has an account enters again, and asks to go on with the game
+ * that was adjourned. A bar says what goes on. */
 
 import { GONE } from "./link.js";
-import { byId } from "../shell/elements.js";
+import { byId, tellMember } from "../shell/elements.js";
 import { Remembered } from "./remembered.js";
 import { hasText, t } from "../shell/texts.js";
 import { showView } from "../shell/views.js";
@@ -10,6 +11,9 @@ import { showView } from "../shell/views.js";
 const KEY = "seat";
 const PASSWORD = "password: ";
 const STAYS = 5_000; // milliseconds
+const LOOKS = [0, 500, 2_000]; // milliseconds before each look at the shelf, to which a game comes a little later
+const ANEW = 1001; // the code of a close by a server that ends, perhaps to begin anew
+const GUEST = /^Guest[A-Z]{4}$/; // a name that the server gives
 const LOST = [GONE, 1001, 1005, 1006, 4004]; // codes of a close that nobody wished for
 
 /** What a member is told where a link has ended by that code of a close.
@@ -51,12 +55,16 @@ export class WayBack {
     this.prompt = "";
     /** @type {string[]} */
     this.opponents = []; // of the games that are to go on
+    /** @type {Set<string>} */
+    this.awaited = new Set(); // with whom adjourned games go on as soon as they ask for it
     this.hiding = 0;
     session.on("partners", (event) => this.remembered.partner(event.who));
     session.on("parted", () => this.remembered.partner(""));
-    session.on("link-lost", () => this.show("way.lost"));
+    session.on("link-lost", ({ code }) => this.show(code === ANEW ? "way.anew" : "way.lost"));
     session.on("link-back", (event) => this.back(event));
     session.on("link-gone", () => this.gone());
+    session.on("resume-asked", ({ who }) => this.awaited.delete(who) && session.act(`resume ${who}`));
+    session.on(["creating", "continuing"], () => this.awaited.clear());
     session.onAnswer((answer) => this.take(answer));
     window.addEventListener("pagehide", () => this.keep());
     document.addEventListener("visibilitychange", () => (document.hidden ? this.keep() : this.forget()));
@@ -95,7 +103,9 @@ export class WayBack {
    * @param {Happened<'entered'>} event */
   entered({ who, isBack }) {
     if (!isBack) {
+      this.awaited.clear();
       this.remembered.clear();
+      this.hide();
       const waits = this.opponents;
       this.opponents = [];
       if (this.kept?.me.toLowerCase() === who.toLowerCase()) {
@@ -128,7 +138,7 @@ export class WayBack {
     const { me, games } = /** @type {KeptPage} */ (this.kept);
     this.opponents = games.filter((it) => it.role === "mine" && !it.end)
       .map((it) => (it.white === me ? it.black : it.white));
-    byId("login-name").value = /^Guest/.test(me) ? "" : me;
+    byId("login-name").value = GUEST.test(me) ? "" : me;
     this.show(this.opponents.length ? "way.gone-in-game" : "way.gone", true);
   }
 
@@ -138,6 +148,19 @@ export class WayBack {
     this.forget();
     this.hide();
     return LOST.includes(code) && me !== "" && this.password !== "";
+  }
+
+  /** Asks the member to enter again, behind the end of a link under that name that nobody wished for, with games
+   * against those opponents.
+   * @param {LinkEnd} end @param {string[]} opponents */
+  askToEnter({ code, me }, opponents) {
+    if (LOST.includes(code) && me && !GUEST.test(me)) {
+      this.kept = { me, games: [] };
+      this.opponents = opponents;
+      byId("login-name").value = me;
+      byId("login-password").focus();
+      this.show("way.asks");
+    }
   }
 
   /** Enters again under an account, to go on with the games against those opponents. Whether the member is in.
@@ -157,18 +180,34 @@ export class WayBack {
     return session.isIn;
   }
 
-  /** Asks to go on with the games against those players that lie on the server's shelf.
+  /** Asks to go on with the games against those players that lie on the server's shelf, and says which do.
    * @param {string[]} opponents */
   async resume(opponents) {
     if (!opponents.length) {
       return;
     }
-    const answer = await this.session.ask("stored");
-    const names = [...answer.all("stored"), ...answer.all("stored-pair")]
-      .flatMap((it) => [it.white, it.black, it.third, it.fourth]);
-    for (const other of opponents.filter((it) => names.includes(it))) {
-      this.session.act(`resume ${other}`);
+    const names = await this.storedWith(opponents);
+    this.awaited = new Set(opponents.filter((it) => names.includes(it)));
+    for (const other of [...this.awaited]) {
+      await this.session.ask(`resume ${other}`); // who isn't here yet asks later
     }
+    tellMember(opponents.map((who) => t(names.includes(who) ? "way.adjourned" : "way.not-kept", { who })).join(" "));
+  }
+
+  /** With whom the member has adjourned games, once these are among them or it is late.
+   * @param {string[]} opponents */
+  async storedWith(opponents) {
+    /** @type {(string | undefined)[]} */
+    let names = [];
+    for (const wait of LOOKS) {
+      if (!opponents.every((it) => names.includes(it))) {
+        await new Promise((keep) => { setTimeout(keep, wait); });
+        const answer = await this.session.ask("stored");
+        names = [...answer.all("stored"), ...answer.all("stored-pair")]
+          .flatMap((it) => [it.white, it.black, it.third, it.fourth]);
+      }
+    }
+    return names;
   }
 
   /** @param {string} key */

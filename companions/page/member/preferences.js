@@ -1,8 +1,8 @@
-/** What a member prefers at the board, kept by the browser for the next time. */
+/** What a member prefers, kept by the browser for the next time. */
 
 const KEY = "preferences";
 /** @type {Record<PreferenceName, boolean>} */
-const USUAL = { sounds: true, notes: false, premoves: true, legal: true, queen: false, flag: true };
+const USUAL = { sounds: true, notes: false, premoves: true, legal: true, queen: false, flag: true, guests: true };
 
 export class Preferences {
   /** `store` keeps texts by their keys; a browser that keeps nothing may have none.

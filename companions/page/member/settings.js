@@ -8,6 +8,7 @@ import { onLanguage, t } from "../shell/texts.js";
 
 const LISTS = /** @type {const} */ (["censor", "noplay"]);
 const VARIABLES = ["open", "shout", "seek"];
+const GUEST = /^Guest[A-Z]{4}$/; // a name that the server gives
 
 /** The box of a variable.
  * @param {string} name */
@@ -16,9 +17,10 @@ function boxOf(name) {
 }
 
 export class Settings {
-  /** @param {Session} session */
-  constructor(session) {
+  /** @param {Session} session @param {Preferences} preferences */
+  constructor(session, preferences) {
     this.session = session;
+    this.preferences = preferences;
     session.on("entered", (event) => { byId("register-name").value = event.who; });
     /** @type {Record<LISTS[number], Map<string, string>>} */
     this.kept = { censor: new Map(), noplay: new Map() }; // by the name in small letters
@@ -37,6 +39,18 @@ export class Settings {
    * @param {string} who */
   isKeptAway(who) {
     return LISTS.some((it) => this.kept[it].has(who.toLowerCase()));
+  }
+
+  /** Whether the member has named that player as one of whom it is told nothing.
+   * @param {string} who */
+  isHidden(who) {
+    return this.kept.censor.has(who.toLowerCase());
+  }
+
+  /** Whether what that player says is shown.
+   * @param {string} who */
+  isShown(who) {
+    return !this.isHidden(who) && (this.preferences.get("guests") || !GUEST.test(who));
   }
 
   /** Whether the member wants to be asked by that player.

@@ -3,6 +3,7 @@
 
 import { forgetNotice, tellMember } from "./elements.js";
 import { inWords } from "../link/refusals.js";
+import { t } from "./texts.js";
 
 const REFUSAL = "refusal";
 const LAST_OF_BOARD = 17; // the numbers up to it are those of boards
@@ -20,6 +21,7 @@ export function listenForRefusals(session) {
     shown = n;
     tellMember(inWords(n), REFUSAL);
   });
+  session.on("hushed", ({ n }) => tellMember(t("talk.hushed", { n }), REFUSAL));
   session.on("settled", () => forgetNotice(REFUSAL));
   session.on(["board", "lost", "drawn", "stopped", "pair-ended"], () => {
     if (isOfBoard(shown)) {

@@ -4,14 +4,16 @@ import { element, icon } from "./elements.js";
 
 const states = new WeakMap(); // of each row what it says
 
-/** What a button may name: a command, the game it is `at`, a field to `fill`, a `room` of the talk, a game to `show`,
- * it `dismiss`es, or a player to `challenge`. */
-const NAMED = /** @type {const} */ (["command", "at", "fill", "dismiss", "room", "show", "challenge"]);
+/** What a button may name: a command, the game it is `at`, a field to `fill`, a `room` of the talk, one that it `leaves`,
+ * a game to `show`, what it `dismiss`es, or a player to `challenge`. */
+const NAMED = /** @type {const} */ (["command", "at", "fill", "dismiss", "room", "leaves", "show", "challenge"]);
 
 /** A button that says `label`, or shows a drawing, with the label below it where there is one, or has parts as a row
  * has.
  * @param {RowButton} it */
-export function buttonOf({ label = "", name = label, drawing, parts, className = "", isOff = false, ...rest }) {
+export function buttonOf(
+  { label = "", name = label, drawing, parts, className = "", isOff = false, isPressed, ...rest },
+) {
   const button = element("button", className);
   button.disabled = isOff;
   if (drawing) {
@@ -23,6 +25,9 @@ export function buttonOf({ label = "", name = label, drawing, parts, className =
     button.append(...parts ? partsOf(parts) : [label]);
   }
   button.setAttribute("aria-label", name);
+  if (isPressed !== undefined) {
+    button.setAttribute("aria-pressed", String(isPressed));
+  }
   for (const key of NAMED.filter((it) => rest[it] !== undefined)) {
     button.dataset[key] = String(rest[key]);
   }

@@ -1,18 +1,53 @@
 /** The box of the talk: a room for all, one for the game, one for the partner, and one for each channel and person,
- * each behind a tab. What is said in a room that isn't seen is counted at its tab. */
+ * each behind a tab. What is said in a room that isn't seen is counted at its tab. However much is said, it is drawn
+ * once a frame. */
 
 import { byId, element, onClickAt } from "../shell/elements.js";
 import { lineToldIn } from "./told_line.js";
+import { t } from "../shell/texts.js";
 
 const KEPT = 500; // lines of a room
 /** @type {Record<string, number>} */
 const STEPS = { ArrowLeft: -1, ArrowRight: 1 };
+const UNCOUNTED = ["own", "happened", "left-out"]; // kinds of lines that nobody has to read
+
+/** A line as it is shown; who says it stands out, and a line of the server at its end is a button.
+ * @param {SaidLine} line */
+function rowOf({ who = "", said, kind }) {
+  const row = element("p", kind);
+  const line = lineToldIn({ kind, said });
+  if (line) {
+    const button = element("button", "", line);
+    button.dataset.types = line;
+    row.append(nameOf(who, kind), `: ${said.slice(0, -line.length)}`, button);
+  } else if (who) {
+    row.append(nameOf(who, kind), `: ${said}`);
+  } else {
+    row.textContent = said;
+  }
+  return row;
+}
+
+/** Who has said a line; a click on another's name leads to its room.
+ * @param {string} who @param {string} kind */
+function nameOf(who, kind) {
+  const name = element("b", "", who);
+  if (kind !== "own") {
+    name.dataset.room = `person ${who}`;
+    name.title = t("talk.of", { who });
+  }
+  return name;
+}
 
 class Room {
   /** @param {string} key @param {number} id */
   constructor(key, id) {
     this.key = key;
     this.unread = 0;
+    /** @type {SaidLine[]} */
+    this.fresh = []; // the last lines, as far as they aren't drawn
+    /** @type {SaidLine | undefined} */
+    this.last = undefined;
     this.tab = element("button");
     this.tab.id = `tab-${id}`;
     this.tab.role = "tab";
@@ -29,24 +64,37 @@ class Room {
     this.panel.setAttribute("aria-labelledby", this.tab.id);
   }
 
-  /** A line; who says it stands out, and a line of the server at its end is a button.
-   * @param {SaidLine} line */
-  add({ who = "", said, kind }) {
-    const row = element("p", kind);
-    const line = lineToldIn({ kind, said });
-    if (line) {
-      const button = element("button", "", line);
-      button.dataset.types = line;
-      row.append(element("b", "", who), `: ${said.slice(0, -line.length)}`, button);
-    } else if (who) {
-      row.append(element("b", "", who), `: ${said}`);
-    } else {
-      row.textContent = said;
+  /** @param {SaidLine} line */
+  add(line) {
+    this.last = line;
+    this.fresh.push(line);
+    if (this.fresh.length > KEPT) {
+      this.fresh.shift();
     }
-    this.panel.append(row);
-    while (this.panel.children.length > KEPT) {
-      this.panel.firstChild?.remove();
+  }
+
+  /** So many more lines were left out behind the last one, which says so already where it was one of them.
+   * @param {number} n */
+  leaveOut(n) {
+    const isMore = this.last?.kind === "left-out";
+    const sum = n + (isMore ? this.last?.n ?? 0 : 0);
+    if (isMore && !this.fresh.pop()) {
+      this.panel.lastChild?.remove();
     }
+    const count = sum.toLocaleString(document.documentElement.lang || undefined);
+    this.add({ kind: "left-out", n: sum, said: t(sum === 1 ? "talk.left-out-one" : "talk.left-out", { n: count }) });
+  }
+
+  /** Shows the lines that aren't drawn yet; the last ones stay. */
+  draw() {
+    if (this.fresh.length) {
+      this.panel.append(...this.fresh.splice(0).map(rowOf));
+      [...this.panel.children].slice(0, -KEPT).forEach((it) => it.remove());
+      this.toEnd();
+    }
+  }
+
+  toEnd() {
     this.panel.scrollTop = this.panel.scrollHeight;
   }
 
@@ -78,6 +126,7 @@ export class Rooms {
     /** @type {Map<string, Room>} */
     this.byKey = new Map();
     this.made = 0;
+    this.frame = 0; // in which it is shown
     this.chosen = "";
     onClickAt(byId("rooms"), "[data-room]", (tab, event) => {
       event.stopPropagation();
@@ -144,11 +193,8 @@ export class Rooms {
     if (room && this.isSeen()) {
       room.read();
     }
-    this.all.forEach((it) => it.show(it.key === this.chosen));
-    if (room) {
-      room.panel.scrollTop = room.panel.scrollHeight;
-    }
-    this.changed();
+    this.show();
+    room?.toEnd();
   }
 
   /** A line of a room that is there; what the member says itself isn't unread, nor what it reads elsewhere.
@@ -159,10 +205,32 @@ export class Rooms {
       return;
     }
     room.add(line);
-    if (!isRead && line.kind !== "own" && line.kind !== "happened" && !(key === this.chosen && this.isSeen())) {
+    if (!isRead && !UNCOUNTED.includes(line.kind) && !(key === this.chosen && this.isSeen())) {
       room.count();
     }
-    room.show(key === this.chosen);
+    this.showSoon();
+  }
+
+  /** So many lines were left out in a room.
+   * @param {string} key @param {number} n */
+  leaveOut(key, n) {
+    this.byKey.get(key)?.leaveOut(n);
+    this.showSoon();
+  }
+
+  /** Shows what has changed, with the next frame. */
+  showSoon() {
+    this.frame ||= requestAnimationFrame(() => this.show());
+  }
+
+  /** Shows what was said and isn't drawn, and what is unread. */
+  show() {
+    cancelAnimationFrame(this.frame);
+    this.frame = 0;
+    this.all.forEach((it) => {
+      it.show(it.key === this.chosen);
+      it.draw();
+    });
     this.changed();
   }
 

@@ -37,20 +37,24 @@ function happenedInWords(event) {
 
 export class Talk {
   /** `atGame(line)` sends a line for the game that is shown, if there is one; `isForeign(event)` says of what is told
-   * of a game that the member neither plays nor looks on there; `isKeptAway(who)` of whom nothing is wanted.
+   * of a game that the member neither plays nor looks on there; `isKeptAway(who)` of whom nothing is wanted;
+   * `isShown(who)` of whom what it says is shown, and `isHidden(who)` who was named as one of whom it isn't.
    * @param {Session} session @param {TalkListeners} listeners */
-  constructor(session, { atGame, isForeign, isKeptAway }) {
+  constructor(session, { atGame, isForeign, isKeptAway, isShown, isHidden }) {
     this.session = session;
     this.atGame = atGame;
     this.isKeptAway = isKeptAway;
+    this.isShown = isShown;
+    this.isHidden = isHidden;
     this.rooms = new Rooms(isTalkSeen, () => this.show());
     /** @param {Happened<"kibitz" | AtGame>} event @param {() => void} act */
     const here = (event, act) => !isForeign(event) && act();
-    session.on("tell", (event) => this.hear(this.person(event.who), event));
+    session.on("tell", (event) => isShown(event.who) && this.hear(this.person(event.who), event));
     session.on("partner-tell", (event) => this.hear(this.partner(), event));
-    session.on("channel-tell", (event) => this.hear(this.channel(event.n), event));
-    session.on("shout", (event) => this.hear(ALL, event));
-    session.on("kibitz", (event) => here(event, () => this.hear(this.game(), event)));
+    session.on("channel-tell", (event) => isShown(event.who) && this.hear(this.channel(event.n), event));
+    session.on("shout", (event) => isShown(event.who) && this.hear(ALL, event));
+    session.on("kibitz", (event) => isShown(event.who) && here(event, () => this.hear(this.game(), event)));
+    session.on("left-out", ({ n }) => this.rooms.leaveOut(ALL, n));
     session.on(AT_GAMES, (event) => here(event, () => this.happen(this.game(), event)));
     session.on(IN_HALL, (event) => this.happen(ALL, event));
     session.on("partners", () => this.partner());
@@ -214,6 +218,8 @@ export class Talk {
       this.channel(Number(first));
     } else if (command === "-channel") {
       this.rooms.close(roomOfChannel(Number(first)));
+    } else if (command.endsWith("censor")) {
+      this.show();
     } else if (command === "inchannel") {
       const names = answer.all("player").map((it) => it.who).join(", ") || t("channel.nobody");
       const members = t("channel.members", { n: Number(first), names });
@@ -267,14 +273,30 @@ export class Talk {
     const [kind, n] = key.split(" ");
     const acts = byId("room-acts");
     acts.hidden = !["channel", "person"].includes(kind);
-    if (acts.dataset.of === `${key} ${t("close")}`) {
-      return;
+    const buttons = kind === "channel" ? this.actsOfChannel(key, n)
+      : kind === "person" ? this.actsOfPerson(key, n) : [];
+    const state = JSON.stringify(buttons);
+    if (acts.dataset.of !== state) {
+      acts.dataset.of = state;
+      acts.replaceChildren(...buttons.map(buttonOf));
     }
-    acts.dataset.of = `${key} ${t("close")}`;
-    const leave = buttonOf({ drawing: "close", name: t(kind === "channel" ? "channel.leave" : "close") });
-    leave.dataset.leaves = key;
-    const who = buttonOf({ drawing: "people", name: t("channel.who"), command: `inchannel ${n}` });
-    acts.replaceChildren(...kind === "channel" ? [who, leave] : [leave]);
+  }
+
+  /** @param {string} key @param {string} n
+   * @returns {RowButton[]} */
+  actsOfChannel(key, n) {
+    return [{ drawing: "people", name: t("channel.who"), command: `inchannel ${n}` },
+      { drawing: "close", name: t("channel.leave"), leaves: key }];
+  }
+
+  /** What a person says is shown, or isn't, at all places.
+   * @param {string} key @param {string} n
+   * @returns {RowButton[]} */
+  actsOfPerson(key, n) {
+    const who = this.rooms.byKey.get(key)?.name.textContent ?? n;
+    const isHidden = this.isHidden(who);
+    return [{ drawing: "hide", name: t("talk.hide", { who }), command: `${isHidden ? "-" : "+"}censor ${who}`,
+      isPressed: isHidden }, { drawing: "close", name: t("close"), leaves: key }];
   }
 
   forget() {

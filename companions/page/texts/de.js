@@ -37,8 +37,8 @@ export const TEXTS = {
     + "behalten, melden Sie ihn an, sobald Sie da sind.",
   "login.wants-password": "{name} hat ein Konto. Geben Sie das Passwort an, oder nehmen Sie einen anderen Namen.",
   "link.ended": "Die Verbindung ist zu Ende. Sie können wieder eintreten.",
-  "link.ended-in-game": "Die Verbindung ist zu Ende. Ihre Partie ist vertagt, wenn beide ein Konto haben, sonst "
-    + "verloren.",
+  "link.ended-in-game": "Die Verbindung ist zu Ende. Treten Sie wieder ein: dann wird gesagt, was aus Ihrer Partie "
+    + "geworden ist.",
 
   // colours, men, variants, terms
   white: "Weiß",
@@ -164,6 +164,7 @@ export const TEXTS = {
   "prefer.legal": "mögliche Züge zeigen",
   "prefer.queen": "immer in eine Dame umwandeln",
   "prefer.flag": "bei Zeitüberschreitung des Gegners den Sieg beanspruchen",
+  "prefer.guests": "zeigen, was Gäste ohne eigenen Namen sagen",
   "title.call": "({n}) Anfrage – {title}",
   "note.challenge": "{who} fordert Sie heraus: {terms}",
   "note.partner-asked": "{who} möchte Ihr Partner sein.",
@@ -173,6 +174,10 @@ export const TEXTS = {
   // the way back in
   "way.lost": "Die Verbindung ist weg, und die Seite kommt von selbst zurück. Ihr Platz wird eine halbe Minute "
     + "gehalten.",
+  "way.anew": "Der Server beginnt neu, und die Seite kommt von selbst zurück.",
+  "way.asks": "Kommen Sie mit Ihrem Passwort wieder herein, nach dem die Seite einmal fragt.",
+  "way.adjourned": "Die Partie gegen {who} ist vertagt und geht weiter, sobald auch {who} da ist.",
+  "way.not-kept": "Die Partie gegen {who} wurde nicht aufbewahrt.",
   "way.back": "Sie sind wieder da.",
   "way.enters": "Der Platz ist weg. Die Seite meldet Sie wieder an.",
   "way.gone": "Der Platz wird nicht mehr gehalten. Kommen Sie wieder herein.",
@@ -329,6 +334,11 @@ export const TEXTS = {
   "talk.open": "Mit jemandem sprechen oder einem Kanal beitreten",
   "talk.go": "Los",
   "talk.me": "Sie",
+  "talk.hushed": "Das wurde nicht gesagt, denn so viel kann niemand lesen. Eine weitere Zeile geht in {n} Sekunden.",
+  "talk.left-out": "… {n} Zeilen ausgelassen",
+  "talk.left-out-one": "… eine Zeile ausgelassen",
+  "talk.hide": "Nicht zeigen, was {who} sagt",
+  "talk.of": "Mit {who} reden",
   "talk.unread": "{n} ungelesen",
   "talk.to-all": "Allen zurufen",
   "talk.to-game": "Zur Partie sagen",

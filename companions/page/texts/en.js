@@ -37,7 +37,7 @@ export const TEXTS = {
     + "register once you are in.",
   "login.wants-password": "{name} has an account. Give its password, or take another name.",
   "link.ended": "The link has ended. You can come in again.",
-  "link.ended-in-game": "The link has ended. Your game is adjourned where both players have accounts, and else lost.",
+  "link.ended-in-game": "The link has ended. Come in again: then you are told what became of your game.",
 
   // colours, men, variants, terms
   white: "White",
@@ -161,6 +161,7 @@ export const TEXTS = {
   "prefer.legal": "show legal moves",
   "prefer.queen": "always promote to a queen",
   "prefer.flag": "claim the win when my opponent's time is up",
+  "prefer.guests": "show what guests without a name of their own say",
   "title.call": "({n}) Asked of you – {title}",
   "note.challenge": "{who} challenges you: {terms}",
   "note.partner-asked": "{who} offers to be your partner.",
@@ -169,6 +170,10 @@ export const TEXTS = {
 
   // the way back in
   "way.lost": "The link is lost, and the page comes back by itself. Your seat is held for half a minute.",
+  "way.anew": "The server begins anew, and the page comes back by itself.",
+  "way.asks": "Come in again with your password, for which the page asks once.",
+  "way.adjourned": "The game against {who} is adjourned, and goes on once {who} is here too.",
+  "way.not-kept": "The game against {who} wasn't kept.",
   "way.back": "You are back.",
   "way.enters": "The seat is gone. The page enters again under your name.",
   "way.gone": "The seat isn't held any more. Come in again.",
@@ -321,6 +326,11 @@ export const TEXTS = {
   "talk.open": "Talk to a player, or join a channel",
   "talk.go": "Go",
   "talk.me": "You",
+  "talk.hushed": "That wasn't said, since others can't read so much. Another line can be said in {n} seconds.",
+  "talk.left-out": "… {n} lines of talk left out",
+  "talk.left-out-one": "… one line of talk left out",
+  "talk.hide": "Don't show what {who} says",
+  "talk.of": "Talk with {who}",
   "talk.unread": "{n} unread",
   "talk.to-all": "Shout to all",
   "talk.to-game": "Say at the game",

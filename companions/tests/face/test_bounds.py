@@ -24,7 +24,7 @@ def test_a_client_that_takes_nothing_is_cut_off(face: Face) -> None:
     begin = time.monotonic()
     with pytest.raises(OSError):
         while time.monotonic() - begin < GONE_WITHIN:
-            server.say("\n\rBen tells you: " + "x" * 400 + "\n\rfics% ")
+            server.say("\n\rBen told you: " + "x" * 400 + "\n\rfics% ")
     assert time.monotonic() - begin < GONE_WITHIN
 
 

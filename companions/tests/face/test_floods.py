@@ -15,7 +15,7 @@ AT_MOST, EVER = 0.05, 0.2  # seconds of the go-between's processor time, for nin
 MIB, FLOOD = 2**20, "You are cut off: a flood"
 MOST_MEMORY = 300 * MIB
 READING_SECONDS = 60
-TELL = b"\n\rBen tells you: " + b"x" * 400 + b"\n\rfics% "
+TELL = b"\n\rBen told you: " + b"x" * 400 + b"\n\rfics% "
 
 
 def in_words(delays: list[float]) -> str:
@@ -80,7 +80,7 @@ def delays(face: Face, client: End, server: End, seconds: float) -> tuple[list[f
     waited, costs, end = [], [], time.monotonic() + seconds
     while time.monotonic() < end:
         begin, cost = time.perf_counter(), face.run.exact_seconds()
-        client.say("tell ben hi\n")
+        client.say("zz hi\n")
         server.until(b"\n")
         server.say("(told 1)\n\rfics% ")
         client.until(b"fics% ")

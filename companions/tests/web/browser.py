@@ -13,6 +13,7 @@ from tests.kit import paths
 from tests.kit.go_between import GoBetween
 from tests.kit.running import Server, wait_until
 
+from . import storages
 from .chromium import Chromium
 from .firefox import Firefox
 from .plain import Plain
@@ -85,6 +86,7 @@ class Window:
 
     def __init__(self, browser: Browser, address: str, name: str) -> None:
         self.browser, self.name = browser, name
+        self.secrets: set[str] = set()  # the passwords that were typed in it
         self.driver = self.browser.driver
         self.origin = "/".join(address.split("/")[:3])
         Window.in_front = None
@@ -182,6 +184,8 @@ class Window:
         self.element(css).click()
 
     def write(self, field: str, text: str) -> None:
+        if field.endswith("password"):
+            self.secrets.add(text)
         element = self.element(f"#{field}")
         element.clear()
         element.send_keys(text)
@@ -249,6 +253,8 @@ class Window:
 
     def command(self, line: str) -> None:
         """Any line, in the box of commands, which is closed behind it."""
+        if line.startswith("register "):
+            self.secrets.add(line.partition(" ")[2])
         self.open("commands", "#commands-open")
         self.write("command", line)
         self.click("#command-send")
@@ -305,7 +311,11 @@ class Evening:
     def end(self) -> None:
         for window in self.windows:
             if window.handle in window.driver.window_handles:
-                window.close()
+                try:
+                    if window.secrets:
+                        storages.check(window)
+                finally:
+                    window.close()
         for link in self.plains.values():
             link.close()
 

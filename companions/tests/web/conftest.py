@@ -16,6 +16,7 @@ from tests.kit.running import Server
 from .played import Played, playing
 from .priority import first
 from .tabs import Tabs
+from .wire import Wire
 
 if TYPE_CHECKING:
     from .browser import Browser, Evening
@@ -56,6 +57,14 @@ def go_between(server: Server, words: tuple[object, ...], page: Path) -> Iterato
     it = GoBetween(server.port, words, page)
     yield it
     it.end()
+
+
+@pytest.fixture
+def wire(go_between: GoBetween) -> Iterator[Wire]:
+    """A wire to the go-between, which a test can cut."""
+    it = Wire(go_between.port)
+    yield it
+    it.close()
 
 
 @pytest.fixture

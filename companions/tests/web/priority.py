@@ -6,6 +6,7 @@ from collections.abc import Iterator
 from pathlib import Path
 
 FIRST = -15  # the priority of what is timed
+GROUP, GROUP_FIRST = Path("/proc/self/autogroup"), -8  # that of the session, where the system groups by sessions
 
 
 def tasks_of(process: int) -> list[int]:
@@ -17,6 +18,21 @@ def tasks_of(process: int) -> list[int]:
             for child in (thread / "children").read_text().split():
                 found += tasks_of(int(child))
     return found
+
+
+@contextlib.contextmanager
+def first_of_sessions() -> Iterator[None]:
+    """Lets this session go before others, where the system deals with each as one."""
+    before = None
+    with contextlib.suppress(OSError):
+        before = GROUP.read_text(encoding="utf-8").rpartition(" ")[2]
+        GROUP.write_text(f"{GROUP_FIRST}\n", encoding="utf-8")
+    try:
+        yield
+    finally:
+        if before is not None:
+            with contextlib.suppress(OSError):
+                GROUP.write_text(before, encoding="utf-8")
 
 
 @contextlib.contextmanager
@@ -32,7 +48,8 @@ def first() -> Iterator[None]:
                 os.setpriority(os.PRIO_PROCESS, task, FIRST)
                 before[task] = priority
     try:
-        yield
+        with first_of_sessions():
+            yield
     finally:
         for task, priority in before.items():
             with contextlib.suppress(ProcessLookupError):

@@ -64,7 +64,7 @@ def test_another_day(evening: Evening, store: Path) -> None:
         assert it.is_seen('#stored [data-command^="resume "]')
     evening.server.end()
     for it in windows:
-        it.until(lambda: it.is_seen("#login"), "the login")
+        it.sees("begins anew", "#way-back")
     assert (evening.go_between.rest(), evening.go_between.out) == (0, ["ready", "closed"])
     evening.end()
     goes_on(evening, store)

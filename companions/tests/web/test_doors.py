@@ -123,7 +123,7 @@ async def test_the_end_of_the_server(played: Played) -> None:
         end.close()
     for tab, _ in links:
         assert await tab.part() == ["", "Ben shouts: good night", "fics% "]
-        assert (await tab.closed())[0] == aiohttp.WSCloseCode.OK
+        assert (await tab.closed())[0] == aiohttp.WSCloseCode.GOING_AWAY
     assert await asyncio.to_thread(played.go_between.rest) == 0
     assert played.go_between.out == ["ready", "closed"]
 

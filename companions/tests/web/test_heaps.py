@@ -21,7 +21,7 @@ GONE_WITHIN = 60  # seconds, of a tab that takes nothing
 class Talker(Answers):
     """The server's end of a link that says more than anybody reads, as far as it is read."""
 
-    TEXT = b"".join(b"\n\rBen tells you: %d %s\n\rfics%% " % (n, b"x" * 400) for n in range(64))
+    TEXT = b"".join(b"\n\rBen told you: %d %s\n\rfics%% " % (n, b"x" * 400) for n in range(64))
 
     def __init__(self) -> None:
         self.is_paused = False

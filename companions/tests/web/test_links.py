@@ -45,13 +45,13 @@ async def test_a_character_above_255_reaches_the_server_as_utf_8(played: Played)
 async def test_lines_that_are_sent_ahead_are_answered_in_order(played: Played) -> None:
     tab, end = await played.entered()
     for n in range(500):
-        await tab.send(f"tell ben {n}")
+        await tab.send(f"zz {n}")
     for n in range(500):
-        assert await end.line() == b"tell ben %d\n" % n
-        await end.say(f"(told {n})\n\rfics% \n\rBen tells you: {n}\n\rfics% ")
+        assert await end.line() == b"zz %d\n" % n
+        await end.say(f"(told {n})\n\rfics% \n\rBen told you: {n}\n\rfics% ")
     for n in range(500):
         assert await tab.part() == [f"(told {n})", "fics% "]
-        assert await tab.part() == ["", f"Ben tells you: {n}", "fics% "]
+        assert await tab.part() == ["", f"Ben told you: {n}", "fics% "]
 
 
 async def test_what_is_no_line_closes_both_sides(played: Played) -> None:
@@ -88,12 +88,26 @@ async def test_the_servers_end_closes_the_tab_behind_its_last_line(played: Playe
     tab, end = await played.entered()
     await tab.send("quit")
     assert await end.line() == b"quit\n"
-    await end.say("".join(f"Ben tells you: {n}\n\r" for n in range(3000)) + "Goodbye.\n\r")
+    await end.say("".join(f"Ben told you: {n}\n\r" for n in range(3000)) + "Goodbye.\n\r")
     end.close()
     for n in range(3000):
-        assert await tab.message() == f"Ben tells you: {n}"
+        assert await tab.message() == f"Ben told you: {n}"
     assert await tab.message() == "Goodbye."
     assert (await tab.closed())[0] == aiohttp.WSCloseCode.OK
+
+
+async def test_an_end_without_a_goodbye_is_told_as_one_to_come_back_behind(played: Played) -> None:
+    tab, end = await played.entered()
+    await end.say("\n\rBen tells you: Goodbye.\n\rfics% ")
+    assert await tab.part() == ["", "Ben tells you: Goodbye.", "fics% "]
+    end.close()
+    assert (await tab.closed())[0] == aiohttp.WSCloseCode.GOING_AWAY
+
+
+async def test_an_end_before_the_login(played: Played) -> None:
+    tab, end = await played.link()
+    end.close()
+    assert (await tab.closed())[0] == aiohttp.WSCloseCode.GOING_AWAY
 
 
 async def test_what_came_before_a_reset_is_told(played: Played) -> None:
@@ -103,9 +117,9 @@ async def test_what_came_before_a_reset_is_told(played: Played) -> None:
     assert isinstance(end.writer.transport, asyncio.Transport)
     end.writer.transport.pause_reading()  # there are lines that weren't read as it is reset
     for n in range(200):
-        await tab.send(f"tell ben {n} too late")
+        await tab.send(f"zz {n} too late")
     # those that are taken at once have come, and others come one by one
-    taken = sum(len(f"tell ben {n} too late\n") for n in range(PACE_AT_ONCE))
+    taken = sum(len(f"zz {n} too late\n") for n in range(PACE_AT_ONCE))
     assert await async_wait_until(lambda: unread(end.writer.get_extra_info("socket")) >= taken)
     await end.say("Goodbye.\n\r")
     end.writer.transport.abort()

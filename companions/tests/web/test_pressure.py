@@ -8,7 +8,7 @@ from .played import Played
 
 LINES = 40000
 AHEAD, PACE_SECONDS = 180, 0.025
-LINE = "Ben tells you: {} " + "x" * 400
+LINE = "Ben told you: {} " + "x" * 400
 MOST_UNDERWAY = 12 * 2**20  # bytes: what the system's sockets and the go-between may hold together
 
 

@@ -149,13 +149,13 @@ async def test_where_too_much_was_missed_it_begins_anew_with_the_last_of_it(play
     tab, end, token = await played.seated()
     tab.cut()
     for n in range(2 * KEPT):
-        await end.say(f"\n\rBen tells you: {n}\n\rfics% ")
+        await end.say(f"\n\rBen told you: {n}\n\rfics% ")
     ends = [end.writer.get_extra_info(it)[1] for it in ("peername", "sockname")]
     assert await async_wait_until(lambda: played.unread(*ends) == 0)
     again, answer = await played.seat(token, heard=4)
     assert answer["taken"] == "anew"
     told = [await again.part() for _ in range(KEPT // 3 + 1)]  # the first one is cut off
-    assert told[-1] == ["", f"Ben tells you: {2 * KEPT - 1}", "fics% "]
+    assert told[-1] == ["", f"Ben told you: {2 * KEPT - 1}", "fics% "]
     assert all(it[0] == "" and it[-1] == "fics% " for it in told)
 
 

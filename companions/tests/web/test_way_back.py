@@ -15,13 +15,6 @@ pytestmark = pytest.mark.browser
 SECRET = "swordfish"
 
 
-@pytest.fixture
-def wire(go_between: GoBetween) -> Iterator[Wire]:
-    it = Wire(go_between.port)
-    yield it
-    it.close()
-
-
 @contextlib.contextmanager
 def begun_anew(evening: Evening, wire: Wire) -> Iterator[None]:
     """Another go-between before the same server, in the place of the first one."""
