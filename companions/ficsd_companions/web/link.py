@@ -149,7 +149,7 @@ class Link:
             await self.settle()
             if self.talk.name:
                 self.address.guesses.give_back()
-            elif self.talk.refusal is Refusal.WRONG_PASSWORD:
+            elif self.talk.login_refusal is Refusal.WRONG_PASSWORD:
                 self.gate.porter.refused.wrong_password(self.gate.visitor)
 
     async def settle(self) -> None:

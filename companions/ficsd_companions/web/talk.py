@@ -59,7 +59,7 @@ class Talk:
         self.has_sent = self.is_stamped = self.has_left = False
         self.taken = 0  # lines of the tab, as it counts them
         self.name: str | None = None
-        self.refusal: Refusal | None = None  # the last one before the login is done
+        self.login_refusal: Refusal | None = None  # the last one before the login is done
         self.prompt: str | None = None
 
     # ---- from the tab ----
@@ -192,7 +192,7 @@ class Talk:
         if self.name is None and self.asked_by is Asker.THE_TAB:
             read = parse(line)
             self.name = read.who if isinstance(read, Entered) else None
-            self.refusal = read.refusal.refusal if isinstance(read, Refused) else None
+            self.login_refusal = read.refusal.refusal if isinstance(read, Refused) else None
 
 
 def as_news(messages: Iterable[str], is_within: bool) -> list[str]:
