@@ -93,7 +93,11 @@ impl Roster {
 fn opponents_of(accounts: &Accounts, white: bool, one: &Member, another: &Member) -> Opponents
     ensures { result ≡ opponents_of accounts.now white one.now another.now }
 {
-    Opponents::facing(white, player_of(accounts, one), player_of(accounts, another))
+    Opponents::facing(
+        white,
+        player_of(accounts, one),
+        player_of(accounts, another),
+    )
 }
 
 /// Whether the offering player has White: where exactly one of the two gives a simul the giver has it, and else it is
