@@ -12,7 +12,7 @@ from .proxies import Proxies
 
 PLACES = 256
 WAITING = 512  # connections that are no tabs
-REFUSED_REQUESTS = 32  # as which a tab counts that isn't let in
+REFUSED_REQUESTS = 32  # as which a tab counts that isn't let in, and a request that has a body
 SPARE = 48  # files for the program itself, and for connections that are being closed
 REASONS = {closes.FULL: Why.FULL, closes.MANY_TABS: Why.MANY_LINKS, closes.TOO_OFTEN: Why.TOO_OFTEN}
 

@@ -12,7 +12,7 @@ from .archived import Archived
 from .gate import Gate, gate_of
 from .hosts import Hosts
 from .pages import Pages, add_headers
-from .porter import Porter
+from .porter import REFUSED_REQUESTS, Porter
 from .proxies import Proxies
 from .server_end import PIECE
 from .settings import Settings
@@ -116,6 +116,7 @@ class GoBetween:
 
     async def answer(self, request: web.Request, handler: Handler, gate: Gate) -> web.StreamResponse:
         if request.body_exists:
+            self.porter.visitor(request, gate).requests.promise(REFUSED_REQUESTS)
             gate.ends(BODY_SECONDS)
             raise closing(web.HTTPBadRequest(text="no request has a body here"))
         if not self.hosts.has(request.headers.get("Host", "")):

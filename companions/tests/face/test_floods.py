@@ -12,6 +12,8 @@ from tests.kit.running import wait_until
 from .conftest import GREETING, End, Face, end_of
 
 AT_MOST, EVER = 0.05, 0.2  # seconds of the go-between's processor time, for nine of ten answers and for all
+# by the clock, of what answers take at the median of a calm run: at the median, and for nine of ten
+MEDIAN_AT_MOST, NINE_AT_MOST = 10, 30
 MIB, FLOOD = 2**20, "You are cut off: a flood"
 MOST_MEMORY = 300 * MIB
 READING_SECONDS = 60
@@ -101,6 +103,9 @@ def check_harm(face: Face, count: int, text: bytes) -> None:
         f"{face.memory() / MIB:.0f} MiB",
         flush=True,
     )
+    calm = statistics.median(alone)
+    assert statistics.median(waited) < MEDIAN_AT_MOST * calm
+    assert waited[len(waited) * 9 // 10] < NINE_AT_MOST * calm
     assert costs[len(costs) * 9 // 10] < AT_MOST
     assert costs[-1] < EVER
     # the words reach who reads while it sends; who doesn't is cut off all the same

@@ -39,7 +39,9 @@ KINDS = {
     "silence": b"",
     "steady-lines": frame(TEXT, b"who"),
     "requests": b"GET / HTTP/1.1\r\nHost: 127.0.0.1\r\n\r\n",
+    "bodies": b"POST / HTTP/1.1\r\nHost: 127.0.0.1\r\nContent-Length: 1000000000\r\n\r\n",  # and so the body
 }
+NO_TABS = KINDS["requests"], KINDS["bodies"]
 RATES = {"steady-lines": 40 * len(frame(TEXT, b"who"))}
 
 
@@ -50,7 +52,7 @@ class Tab:
         self.piece, self.rate = piece, rate
         self.link = socket.create_connection(("127.0.0.1", port), timeout=30)
         self.heard = b""
-        self.is_tab = piece != KINDS["requests"]
+        self.is_tab = piece not in NO_TABS
         if self.is_tab:
             self.shake_hands()
         self.link.setblocking(False)

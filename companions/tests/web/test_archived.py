@@ -215,9 +215,9 @@ async def test_others_meanwhile(large: None, served: Played) -> None:
     waits = []
     while not search.done():
         before = seconds(served)
-        await tab.send("tell ben 1")
+        await tab.send("zz 1")
         await end.line()
-        await end.say("(told 1)\n\rfics% ")
+        await end.say("Ok.\n\rfics% ")
         await tab.part()
         waits.append(seconds(served) - before)
     found = await search

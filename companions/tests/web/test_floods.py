@@ -2,7 +2,7 @@
 
 How long an answer takes is told as a clock has it, and as the processor time that the go-between took for others and it
 meanwhile: where the machine has time for it the two are the same, and where it hasn't the second says what the
-go-between is to blame for."""
+go-between is to blame for. By the clock it is held to what answers take in the same run while nobody does harm."""
 
 import asyncio
 import statistics
@@ -18,6 +18,8 @@ pytestmark = [pytest.mark.words("--tabs-from-one", 64), pytest.mark.usefixtures(
 
 SECONDS = 6
 AT_MOST, EVER = 0.05, 0.2  # seconds of processor time, for nine of ten answers and for all
+# by the clock, of what answers take at the median of a calm run: at the median, and for nine of ten
+MEDIAN_AT_MOST, NINE_AT_MOST = 10, 30
 FLOOD = "4007 a flood: more than "
 
 
@@ -52,6 +54,9 @@ async def beside(played: Played, kind: str, tabs: int, patience: float = SECONDS
         delays, costs = await timed(played, tab, SECONDS)
         told = [it for it in (await run.communicate())[0].decode().splitlines() if it]
     print(f"\n{tabs} of {kind}: {said(delays)}; in processor time {said(costs)}; alone {said(alone)}", flush=True)
+    calm = statistics.median(alone)
+    assert statistics.median(delays) < MEDIAN_AT_MOST * calm
+    assert delays[len(delays) * 9 // 10] < NINE_AT_MOST * calm
     assert costs[len(costs) * 9 // 10] < AT_MOST
     assert costs[-1] < EVER
     return told
@@ -99,6 +104,11 @@ async def test_40_lines_a_second_of_32(played: Played) -> None:
 async def test_requests_of_32(played: Played) -> None:
     """No tabs: as many requests as an address may make, as fast as they are taken."""
     await beside(played, "requests-again", 32)
+
+
+async def test_bodies_of_100_that_come_again(played: Played) -> None:
+    """Each sends a body without end, and another one once it is cut off."""
+    await beside(played, "bodies-again", 100)
 
 
 async def test_pings_of_32_that_come_again(played: Played) -> None:
