@@ -29,7 +29,7 @@ look();
 window.shifts = [];
 if (PerformanceObserver.supportedEntryTypes.includes("layout-shift")) {
   new PerformanceObserver((list) => list.getEntries().forEach((it) => it.hadRecentInput
-    || window.shifts.push([it.value, it.sources.map(({ node }) => node?.outerHTML?.slice(0, 90) ?? node?.textContent)])))
+    || window.shifts.push([it.value, it.sources.map(({ node }) => (node?.outerHTML ?? node?.textContent)?.slice(0, 90))])))
     .observe({ type: "layout-shift", buffered: false });
 }"""
 MOVED = "return window.moved"
