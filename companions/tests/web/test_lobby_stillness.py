@@ -29,8 +29,7 @@ look();
 window.shifts = [];
 if (PerformanceObserver.supportedEntryTypes.includes("layout-shift")) {
   new PerformanceObserver((list) => list.getEntries().forEach((it) => it.hadRecentInput
-    || window.shifts.push([it.value, it.sources.map(({ node }) => node?.outerHTML?.slice(0, 80)
-      ?? node?.textContent)])))
+    || window.shifts.push([it.value, it.sources.map(({ node }) => (node?.outerHTML ?? node?.textContent)?.slice(0, 90))])))
     .observe({ type: "layout-shift", buffered: false });
 }"""
 MOVED = "return window.moved"
@@ -42,6 +41,16 @@ PEOPLE = ("Dan", "Eve", "Fay", "Gus", "Hal", "Ida")
 def put_mouse(window: Window, css: str) -> None:
     window.front()
     ActionChains(window.driver).move_to_element(window.element(css)).perform()
+
+
+def accepts(evening: Evening, black: str, white: str) -> bool:
+    """Accepts a challenge, which may be on its way still."""
+    evening.plain(black).ask(f"accept {white}")
+    return True
+
+
+def is_listed(window: Window, white: str) -> bool:
+    return white in window.texts("#games .player")
 
 
 @pytest.mark.parametrize("size", (NARROW, (820, 1180), WIDE, (1920, 1080)), ids=lambda it: f"{it[0]}")
@@ -63,8 +72,7 @@ def test_an_evening(evening: Evening, size: Size) -> None:
     cat.until(lambda: len(cat.texts("#seeks .time")) == 5, "five seeks")
     for white, black in (("Dan", "Fay"), ("Gus", "Hal")):
         evening.plain(white).ask(f"match {black} 5 0 white")
-        evening.plain(black).ask(f"accept {white}")
-    cat.until(lambda: len(cat.all("#games .small-game .foot")) >= 2, "two games")
+        cat.until(lambda: accepts(evening, black, white) and is_listed(cat, white), "their game")
     kim.ask("match Cat 5 0")
     cat.sees("Kim challenges you", "#calls")
     kim.ask("withdraw Cat")
