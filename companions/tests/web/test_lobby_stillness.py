@@ -29,7 +29,8 @@ look();
 window.shifts = [];
 if (PerformanceObserver.supportedEntryTypes.includes("layout-shift")) {
   new PerformanceObserver((list) => list.getEntries().forEach((it) => it.hadRecentInput
-    || window.shifts.push([it.value, it.sources.map(({ node }) => (node?.outerHTML ?? node?.textContent)?.slice(0, 90))])))
+    || window.shifts.push([it.value, it.sources.map(({ node }) =>
+      (node?.outerHTML ?? node?.textContent)?.slice(0, 80))])))
     .observe({ type: "layout-shift", buffered: false });
 }"""
 MOVED = "return window.moved"
