@@ -37,7 +37,7 @@ async def test_it_begins_by_an_opening_and_agrees_to_no_draw_at_once(evening: Ev
     game = await ann.challenges("5 0 black")
     await ann.turn(game, 1)
     assert game.board.short in ("e4", "d4", "c4", "Nf3")
-    for ply, word in ((1, "a7a6"), (3, "h7h6"), (5, "a6a5")):
+    for ply, word in ((1, "e7e6"), (3, "g8f6"), (5, "f8e7")):  # whatever White plays, these are allowed
         await ann.turn(game, ply)
         await ann.member.act(game, "draw")
         await ann.member.move(game, word)

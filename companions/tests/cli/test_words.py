@@ -18,7 +18,7 @@ from tests.kit.running import PATIENCE, Run, ended
 
 PROJECT = tomllib.loads((paths.COMPANIONS / "pyproject.toml").read_text(encoding="utf-8"))
 PROGRAMS = list(PROJECT["project"]["scripts"])
-AT_THIS_MACHINE = {"fics_accounts", "fics_watch"}  # programs that take no HOST:PORT
+AT_THIS_MACHINE = {"fics_accounts", "fics_names", "fics_watch"}  # programs that take no HOST:PORT
 
 
 @pytest.mark.parametrize(
@@ -69,6 +69,7 @@ def further_words(name: str, folder: Path, listens: int) -> list[object]:
         "fics_bot": ["--name", "House", "--engine", "house:1", "--program", paths.program],
         "fics_director": ["--file", folder / "evening", "--chief", "Zoe", "--program", paths.program],
         "fics_face": ["--listen", listens],
+        "fics_ratings": [],
         "fics_scribe": ["--archive", folder / "archive"],
         "fics_web": ["--listen", listens],
     }[name]
@@ -92,7 +93,9 @@ async def test_each_program_connects_by_ipv6(name: str, door: socket.socket, tmp
     listens = free_port()
     where = Address(*door.getsockname()[:2])
     assert str(where).startswith("[::1]:")
-    run = Run(paths.companion(name), "--server", where, *further_words(name, tmp_path, listens))
+    further = further_words(name, tmp_path, listens)
+    command = ["--archive", tmp_path / "archive", "serve"] if name == "fics_ratings" else []
+    run = Run(paths.companion(name), *command, "--server", where, *further)
     try:
         async with AsyncExitStack() as stack:
             if name in ("fics_face", "fics_web"):
