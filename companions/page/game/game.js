@@ -108,6 +108,8 @@ export class Game {
     }
     const from = this.knownFrom;
     [...earlier.places].filter(([ply]) => ply < from).forEach(([ply, place]) => this.places.set(ply, place));
+    this.hands ??= earlier.hands; // no man has come into a hand since one is told
+    this.known.filter(({ board }) => board.ply >= from).forEach((it) => { it.hands ??= this.hands; });
   }
 
   /** @param {number} ply */

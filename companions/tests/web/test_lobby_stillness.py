@@ -27,10 +27,10 @@ const look = () => {
 };
 look();
 window.shifts = [];
+const textOf = ({ node }) => (node?.outerHTML ?? node?.textContent)?.slice(0, 90);
 if (PerformanceObserver.supportedEntryTypes.includes("layout-shift")) {
   new PerformanceObserver((list) => list.getEntries().forEach((it) => it.hadRecentInput
-    || window.shifts.push([it.value, it.sources.map(({ node }) =>
-      (node?.outerHTML ?? node?.textContent)?.slice(0, 80))])))
+    || window.shifts.push([it.value, it.sources.map(textOf)])))
     .observe({ type: "layout-shift", buffered: false });
 }"""
 MOVED = "return window.moved"
