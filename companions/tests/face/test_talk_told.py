@@ -35,12 +35,12 @@ def test_news_that_were_left_out_are_not_told(face: Face) -> None:
 def says(client: End, server: End, line: str) -> bool:
     """Whether a line is passed on to the server; else the client is told why not."""
     client.say(f"{line}\nbacklog\n")
-    said = server.asked()
+    said = server.until(b"\n")
     is_said = said != "backlog\n"
     if is_said:
         server.say("(told 1)\n\rfics% ")
         client.until(b"fics% ")
-        assert server.asked() == "backlog\n"
+        assert server.until(b"\n") == "backlog\n"
     else:
         assert client.until(b"fics% ") == TOO_MUCH
     server.say("refused 26 BadMove\n\rfics% ")
@@ -52,7 +52,7 @@ def test_who_says_too_much_is_told_so(face: Face) -> None:
     client, server = face.entered()
     for line in ("shout hi", "tell Ben hi", "t 7 hi"):
         client.say(f"{line}\n")
-        assert server.asked().split(" ")[0] == line.split(" ")[0].replace("t", "tell", line[:2] == "t ")
+        assert server.until(b"\n").split(" ")[0] == line.split(" ")[0].replace("t", "tell", line[:2] == "t ")
         server.say("(told 1)\n\rfics% ")
         client.until(b"fics% ")
     said = [says(client, server, "shout hi") for _ in range(SAID_AT_ONCE)]

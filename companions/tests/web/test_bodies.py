@@ -119,5 +119,5 @@ async def test_frames_with_masks_however_they_are_cut(played: Played) -> None:
     await end.say("Entered as Ann.\n\rfics% ")
     for text in (b"x" * 125, b"x" * 126, b"x" * 1000):
         writer.write(frame(TEXT, text))
-        assert await end.asked() == text + b"\n"
+        assert await end.line() == text + b"\n"
     writer.close()

@@ -93,7 +93,7 @@ async def test_news_that_were_left_out_are_no_part(played: Played) -> None:
 async def test_an_answer_keeps_its_own_lines(played: Played) -> None:
     tab, end = await played.entered()
     await tab.send("who")
-    assert await end.asked() == b"who\n"
+    assert await end.line() == b"who\n"
     await end.say("Ann\n\rFlo\n\r" + "".join(f"Flo shouts: {n}\n\r" for n in range(FLOOD)) + "fics% ")
     part = await tab.part()
     assert part[:2] == ["Ann", "Flo"]
@@ -122,14 +122,14 @@ async def says(tab: Tab, end: End, line: str) -> bool:
     """Whether a line is passed on to the server; else the tab is told why not."""
     await tab.send(line)
     await tab.send("who")
-    said = await end.asked()
+    said = await end.line()
     if said == b"who\n":
         assert TOO_MUCH.fullmatch((await tab.answer())[0])
     else:
         assert said == line.encode() + b"\n"
         await end.say("(told 1)\n\rfics% ")
         assert await tab.answer() == ["(told 1)", "fics% "]
-        assert await end.asked() == b"who\n"
+        assert await end.line() == b"who\n"
     await end.say("Ann\n\rfics% ")
     assert await tab.answer() == ["Ann", "fics% "]
     return said != b"who\n"
@@ -147,7 +147,7 @@ async def test_an_alias_is_no_way_round(played: Played) -> None:
     tab, end = await played.entered()
     for text in ("alias z shout hi", "alias y $@"):
         await tab.send(text)
-        assert await end.asked() == text.encode() + b"\n"
+        assert await end.line() == text.encode() + b"\n"
         await end.say("Ok.\n\rfics% ")
         assert await tab.answer() == ["Ok.", "fics% "]
     said = [await says(tab, end, line) for line in ["z", "y shout hi"] * SAID_AT_ONCE]
@@ -159,7 +159,7 @@ async def test_moves_and_lists_are_no_talk(played: Played) -> None:
     tab, end = await played.entered()
     for line in ["e4", "who", "sought", "+channel 7", "+censor Flo", "takeback 2", "set shout 0", "resign"] * 5:
         await tab.send(line)
-        assert await end.asked() == line.encode() + b"\n"
+        assert await end.line() == line.encode() + b"\n"
         await end.say("Ok.\n\rfics% ")
         assert await tab.answer() == ["Ok.", "fics% "]
 
@@ -169,9 +169,9 @@ async def test_the_answer_comes_in_its_turn(played: Played) -> None:
     for n in range(SAID_AT_ONCE + 2):
         await tab.send(f"shout {n}")
     await tab.send("who")
-    lines = [await end.asked() for _ in range(SAID_AT_ONCE)]
+    lines = [await end.line() for _ in range(SAID_AT_ONCE)]
     assert lines == [f"shout {n}\n".encode() for n in range(SAID_AT_ONCE)]
-    assert await end.asked() == b"who\n"
+    assert await end.line() == b"who\n"
     for n in range(SAID_AT_ONCE):
         await end.say(f"(told {n})\n\rfics% ")
         assert await tab.answer() == [f"(told {n})", "fics% "]
