@@ -25,7 +25,7 @@ SUITE = "bookworm"
 PATIENCE = 7200  # seconds
 REBOOTED = 133  # by which systemd-nspawn says that its machine wants to be booted again
 # with what the packages depend on, since the booted machine has no network but its own
-NEEDED = "systemd,systemd-sysv,dbus,iproute2,procps,sqlite3,python3,python3-aiohttp"
+NEEDED = "systemd,systemd-sysv,dbus,iproute2,procps,sqlite3,python3,python3-aiohttp,esbuild"
 # how the blocks of the page that are run begin
 BLOCKS = {
     "setup": "./ficsd --build",
