@@ -146,6 +146,7 @@ interface Taken {
   stamped: boolean;
   plain: boolean;
   archive?: boolean;
+  ratings?: boolean;
 }
 
 interface KeptSeat {

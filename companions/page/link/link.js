@@ -50,10 +50,10 @@ export class Link {
 
   /** There is a seat: a new one begins with a greeting, and on one's own the link goes on.
    * @param {Taken} answer */
-  taken({ taken, name, prompt, stamped, plain, archive = false }) {
+  taken({ taken, name, prompt, stamped, plain, archive = false, ratings = false }) {
     const isFirst = !this.isKnown;
     this.isKnown = true;
-    this.listeners.told({ archive });
+    this.listeners.told({ archive, ratings });
     if (taken === "new") {
       this.begin(plain, isFirst);
       return;

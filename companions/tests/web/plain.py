@@ -29,11 +29,16 @@ class Plain:
         self.heard += self.parts[0].lines
         return self.parts.popleft()
 
-    def ask(self, line: str) -> None:
-        """Sends a line, and waits for its answer."""
-        self.socket.sendall(line.encode() + b"\n")
-        while self.part().is_news:
+    def answer(self) -> list[str]:
+        """The lines of the next answer."""
+        while (part := self.part()).is_news:
             pass
+        return part.lines
+
+    def ask(self, line: str) -> list[str]:
+        """Sends a line; the lines of its answer."""
+        self.socket.sendall(line.encode() + b"\n")
+        return self.answer()
 
     def hears(self, line: str) -> None:
         """Waits until it was told that line."""

@@ -10,7 +10,7 @@ from tests.ratings import paper
 from tests.ratings.evenings import rated
 
 from .archived_games import complaints, opened
-from .browser import Evening
+from .browser import Evening, Window
 
 pytestmark = pytest.mark.browser
 
@@ -36,6 +36,15 @@ def points(archive: Path, pool: str, name: str) -> str:
     return str(round(paper.rate(archive)[pool, name][0]))
 
 
+def cells(window: Window, rows: str) -> list[list[str]]:
+    """The texts of the cells of each row of a table."""
+    return window.script(
+        """return [...document.querySelectorAll(arguments[0])]
+        .map((row) => [...row.cells].map((it) => it.textContent))""",
+        rows,
+    )
+
+
 def test_beside_names(evening: Evening, archive: Path) -> None:
     ann, ben = evening.window("Ann"), evening.window("Ben")
     ann.sees(f"Ann {points(archive, 'blitz', 'Ann')}", "#players")  # the pool with most of its games
@@ -53,16 +62,15 @@ def test_a_players_page_and_a_ladder(evening: Evening, archive: Path) -> None:
     window.until(lambda: window.texts("#ladders-list a")[:1] == ["Bullet 2"], "the ladders")
     window.click("#ladders-list li:nth-child(2) a")
     window.until(lambda: window.is_seen("#ladder"), "the ladder")
-    rows = [it.split() for it in window.texts("#ladder-rows tr")]
-    assert [it[:3] for it in rows] == [
+    assert [it[:3] for it in cells(window, "#ladder-rows tr")] == [
         ["1", "Ann", points(archive, "blitz", "Ann")],
         ["2", "Ben", points(archive, "blitz", "Ben")],
     ]
     window.click("#ladder-rows a")
     window.until(lambda: window.is_seen("#ratings"), "the player's ratings")
-    assert [it.split()[1] for it in window.texts("#ratings-rows tr")] == [
-        points(archive, "bullet", "Ann") + "?",
-        points(archive, "blitz", "Ann"),
+    assert [it[:2] for it in cells(window, "#ratings-rows tr")] == [
+        ["Bullet", points(archive, "bullet", "Ann") + "?"],
+        ["Blitz", points(archive, "blitz", "Ann")],
     ]
     assert len(window.all("#curves .curve circle")) == 10  # a day each; of bullet there is one alone, and no curve
     assert not complaints(evening, window)

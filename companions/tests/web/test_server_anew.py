@@ -93,7 +93,7 @@ def test_a_game_that_was_adjourned_is_told_and_goes_on(evening: Evening, wire: W
     wire.is_cut = True
     evening.go_between.end()  # so that its links of the server are cut, and the game is adjourned
     cat = evening.plain("Cat")
-    ann.until(lambda: "Ann" not in cat.ask("who") and "Ben" not in cat.ask("who"), "that both have left the server")
+    ann.until(lambda: cat.ask("who") == ["Cat"], "that both have left the server")
     kept = evening.server
     ann.until(lambda: "2 accounts, 1 games" in kept.kept(), "that the game is in the store")
     wire.cut(stays=True)

@@ -29,7 +29,7 @@ def test_a_flood_is_one_line(evening: Evening) -> None:
         shown = [it for it in said(ann) if it.startswith("Flo: ")]
         return len(shown) + sum(left_out) == FLOOD
 
-    flo.read()
+    assert [flo.answer() for _ in range(FLOOD)] == [["(told 2)"]] * FLOOD
     ann.until(counted, "all of the flood, shown or counted")
     assert len(said(ann, "left-out")) <= 3
 
@@ -42,7 +42,7 @@ def test_who_isnt_shown(evening: Evening) -> None:
     ann.click('#said [data-said="all"] p.shout b')
     ann.click('#room-acts [data-command="+censor Flo"]')
     ann.until(lambda: ann.seen('#room-acts [aria-pressed="true"]'), "that Flo isn't shown")
-    assert "refused 36" in flo.ask("tell Ann hm")
+    assert flo.ask("tell Ann hm") == ["refused 36 Refuses"]
     flo.ask("shout two")
     ben.ask("shout three")
     ann.until(lambda: said(ann) == ["Flo: one", "Ben: three"], "another one's shout alone")
@@ -87,4 +87,6 @@ def test_who_says_too_much_is_told_so(evening: Evening) -> None:
     shown = said(ann, "own")
     assert AT_ONCE <= len(shown) < AT_ONCE + 5
     assert field() == f"hello {len(shown)}"
-    assert ben.ask("").count("Ann shouts: ") == len(shown)
+    ben.hears(f"Ann shouts: hello {len(shown) - 1}")
+    ben.ask("")  # an empty line brings the news that there are
+    assert [it for it in ben.heard if "hello" in it] == [f"Ann shouts: hello {n}" for n in range(len(shown))]

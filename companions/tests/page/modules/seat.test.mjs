@@ -5,6 +5,7 @@ import test from "node:test";
 
 import { page } from "./page.mjs";
 
+const { Link } = await page("link/link.js");
 const { Seat } = await page("link/seat.js");
 const MARK = "\x01";
 
@@ -164,4 +165,15 @@ test("what is for the go-between alone is told only where the seat is given, and
   assert.deepEqual(socket.sent, [MARK + JSON.stringify(wish)]);
   socket.breaks(1006);
   assert.equal(seat.tell(wish), false);
+});
+
+test("what the go-between has is told to the page, and what it doesn't have too", () => {
+  for (const has of [{}, { archive: true }, { archive: true, ratings: true }]) {
+    const told = [];
+    new Link("ws://here/link", false, null, { told: (it) => told.push(it), found: () => {} });
+    const socket = Socket.all.at(-1);
+    socket.opens();
+    socket.answers({ taken: "new", heard: 0, ...has });
+    assert.deepEqual(told, [{ archive: false, ratings: false, ...has }]);
+  }
 });
