@@ -45,6 +45,12 @@ class Plain:
         while line not in self.heard:
             self.part()
 
+    def leave(self) -> None:
+        """Leaves the server, which answers by closing the link."""
+        self.socket.sendall(b"quit\n")
+        while self.socket.recv(65536):
+            pass
+
     def close(self) -> None:
         self.socket.close()
 

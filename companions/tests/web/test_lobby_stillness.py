@@ -80,7 +80,7 @@ def test_an_evening(evening: Evening, size: Size) -> None:
     cat.until(lambda: "Kim" not in cat.text("#calls"), "no challenge")
     evening.plain("Dan").ask("resign")
     cat.until(lambda: "Dan" not in "".join(cat.texts("#games li:not(.free):not(.gone) .player")), "one game")
-    evening.plain("Ida").ask("quit")
+    evening.plain("Ida").leave()
     cat.until(lambda: "Ida" not in cat.texts("#players .who"), "Ida gone")
     jo.ask("seek 1 0")
     cat.sees("1+0", "#seeks .time")

@@ -98,7 +98,7 @@ def test_it_is_spoken_and_put_by_keyboard(evening: Evening) -> None:
     ann.script("arguments[0].focus()", ann.square("g1"))
     ann.press(Keys.ENTER, Keys.ARROW_UP, Keys.ARROW_UP, Keys.ARROW_LEFT, Keys.ENTER)
     waits(ann, "f3 g1")
-    ann.sees("g1f3 waits", "#spoken")
+    ann.sees("Premove: g1f3", "#spoken")
     assert "premove" in ann.square("f3").get_attribute("aria-label")
     ben.move("e7", "e5")
     ben.sees_man("wN", "f3")

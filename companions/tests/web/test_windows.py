@@ -76,7 +76,8 @@ def test_two_boards(evening: Evening, size: Size) -> None:
     evening.play(ann, ben, ("e2e4", "d7d5", "e4d5"))
     evening.play(dan, cat, ("e2e4", "d7d5", "e4d5"))
     ann.sees_man("wP", "d5", "partner")
-    check_in_sight(ann, [*BOARD, *PLATES, *PARTNER, "#draw", "#resign", "#flag", "#status"])
+    field = ["#move", "#move-send"] if size == LOW else []
+    check_in_sight(ann, [*BOARD, *PLATES, *PARTNER, *field, "#draw", "#resign", "#flag", "#status"])
     assert ann.script(WIDTH) >= LEAST_BOARD[size] - 140
     ann.type("e5") if ann.is_seen("#move") else ann.move("a2", "a6")
     ann.until(lambda: ann.is_seen("#notice"), "a refusal")
