@@ -214,6 +214,7 @@ def try_full_disk() -> None:
             "exit-code",
             [
                 f"ficsd: kept: ... accounts and 0 adjourned games; {ALL_OF_ONE.replace('1', '0', 1)}",
+                "ficsd: not kept: Ann - Ben",
                 "ficsd: LOST: the disk takes nothing (No space left on device), so accounts and games that are "
                 "new since then are lost, 1 of those that ran just now among them",
             ],
