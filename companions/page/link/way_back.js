@@ -57,13 +57,14 @@ export class WayBack {
     this.opponents = []; // of the games that are to go on
     /** @type {Set<string>} */
     this.awaited = new Set(); // with whom adjourned games go on as soon as they ask for it
+    this.asked = ""; // with whom it has just asked to go on, as long as that isn't answered
     this.hiding = 0;
     session.on("partners", (event) => this.remembered.partner(event.who));
     session.on("parted", () => this.remembered.partner(""));
     session.on("link-lost", ({ code }) => this.show(code === ANEW ? "way.anew" : "way.lost"));
     session.on("link-back", (event) => this.back(event));
     session.on("link-gone", () => this.gone());
-    session.on("resume-asked", ({ who }) => this.awaited.delete(who) && session.act(`resume ${who}`));
+    session.on("resume-asked", ({ who }) => this.agree(who));
     session.on(["creating", "continuing"], () => this.awaited.clear());
     session.onAnswer((answer) => this.take(answer));
     window.addEventListener("pagehide", () => this.keep());
@@ -189,9 +190,19 @@ export class WayBack {
     const names = await this.storedWith(opponents);
     this.awaited = new Set(opponents.filter((it) => names.includes(it)));
     for (const other of [...this.awaited]) {
+      this.asked = other;
       await this.session.ask(`resume ${other}`); // who isn't here yet asks later
     }
+    this.asked = "";
     tellMember(opponents.map((who) => t(names.includes(who) ? "way.adjourned" : "way.not-kept", { who })).join(" "));
+  }
+
+  /** Goes on with whom asks for it, where that is awaited. A question of one's own that is on its way says so already.
+   * @param {string} who */
+  agree(who) {
+    if (who !== this.asked && this.awaited.delete(who)) {
+      this.session.act(`resume ${who}`);
+    }
   }
 
   /** With whom the member has adjourned games, once these are among them or it is late.
