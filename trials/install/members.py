@@ -61,7 +61,7 @@ def try_members() -> None:
     says(
         "members: that game isn't rated",
         re.findall("Ann - House 0-1 (.*)", shell("fics_ratings --archive /var/lib/private/fics_scribe history ann")[0]),
-        ["not rated: House is a program"],
+        ["not rated: it has fewer than two moves"],
     )
     ann.say("tell scribe message ben see you on Friday")
     ann.until("Scribe tells you: It is kept")
