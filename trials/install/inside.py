@@ -60,9 +60,9 @@ passed_over: list[str] = []
 
 def try_stop_and_start() -> None:
     shell("systemctl stop ficsd")
-    says("stop: all are inactive", states(), ["inactive"] * len(MEMBERS))
+    says("stop: all are inactive", states(), ["inactive"] * 3)
     time.sleep(8)
-    says("stop: all stay inactive for longer than any rests before it starts again", states(), ["inactive"] * len(MEMBERS))
+    says("stop: all stay inactive for longer than any rests before it starts again", states(), ["inactive"] * 3)
     says("stop: nobody listens", listening(), [])
     says("stop: no process is left", servers(), [])
     says("stop: it ended well", shown("ficsd", "Result"), "success")
@@ -321,7 +321,7 @@ def try_removal() -> None:
     whole = check()
     shell("apt-get remove -y ficsd ficsd-companions")
     says("remove: nobody listens, and no process is left", (listening(), servers()), ([], []))
-    says("remove: no member is left", members.states_of_members(), ["inactive"] * len(MEMBERS))
+    says("remove: no member is left", members.states_of_members(), ["inactive"] * len(members.MEMBERS))
     says("remove: the second club's is gone too", (is_heard(CLUB), is_heard(CLUB_PAGE)), (False, False))
     says("remove: the store stays", os.path.exists(STORE), True)
     text, status = shell("apt-get purge -y ficsd ficsd-companions")
