@@ -4,8 +4,8 @@ import { element, icon } from "./elements.js";
 
 const states = new WeakMap(); // of each row what it says
 
-/** What a button may name: a command, the game it is `at`, a field to `fill`, a `room` of the talk, one that it `leaves`,
- * a game to `show`, what it `dismiss`es, or a player to `challenge`. */
+/** What a button may name: a command, the game it is `at`, a field to `fill`, a `room` of the talk, one that it
+ * `leaves`, a game to `show`, what it `dismiss`es, or a player to `challenge`. */
 const NAMED = /** @type {const} */ (["command", "at", "fill", "dismiss", "room", "leaves", "show", "challenge"]);
 
 /** A button that says `label`, or shows a drawing, with the label below it where there is one, or has parts as a row

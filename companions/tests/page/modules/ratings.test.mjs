@@ -18,7 +18,8 @@ test("the pool of terms is that of the archive's games", () => {
 });
 
 test("a curve goes by days from the left to the right, and by ratings from below to above", () => {
-  const { spots, high, low } = spotsOf([["2026-11-01", 1500, 300], ["2026-11-02", 1600, 100], ["2026-11-11", 1550, 90]]);
+  const days = [["2026-11-01", 1500, 300], ["2026-11-02", 1600, 100], ["2026-11-11", 1550, 90]];
+  const { spots, high, low } = spotsOf(days);
   assert.deepEqual([high, low], [1600, 1500]);
   assert.ok(spots[0].x < spots[1].x && (spots[2].x - spots[1].x) / (spots[1].x - spots[0].x) - 9 < 0.001);
   assert.ok(spots[1].y < spots[2].y && spots[2].y < spots[0].y);
@@ -52,7 +53,10 @@ async function shown(ratings, status = 200) {
   return { withRating, asked, anew, isTold: (it) => told({ it }) };
 }
 
-const ANN = [{ pool: "blitz", points: 1612, isProvisional: false }, { pool: "bullet", points: 1500, isProvisional: true }];
+const ANN = [
+  { pool: "blitz", points: 1612, isProvisional: false },
+  { pool: "bullet", points: 1500, isProvisional: true },
+];
 
 test("where the go-between says nothing of ratings nobody asks for them", async () => {
   const { withRating, asked, isTold } = await shown({ Ann: ANN });

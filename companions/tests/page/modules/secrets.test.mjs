@@ -40,7 +40,8 @@ function linkOf(kept = null, fields = { taken: "new", heard: 0 }) {
   const socket = Socket.last;
   socket.onopen();
   const asked = JSON.parse(socket.sent.shift().slice(MARK.length));
-  socket.says(MARK + JSON.stringify({ seat: "T", name: "Ann", prompt: "fics% ", stamped: false, plain: false, ...fields }));
+  const seat = { seat: "T", name: "Ann", prompt: "fics% ", stamped: false, plain: false, ...fields };
+  socket.says(MARK + JSON.stringify(seat));
   return { link, socket, asked };
 }
 
