@@ -1,6 +1,5 @@
 """What is in a store: read from the store itself, or from a copy of it while a server has it."""
 
-import shutil
 import sqlite3
 import tempfile
 from collections.abc import Callable, Iterator
@@ -8,7 +7,7 @@ from contextlib import closing, contextmanager
 from pathlib import Path
 from typing import TypeVar
 
-from ficsd_companions.watch.shelf import log_of, marks
+from ficsd_companions.watch.shelf import is_copied
 
 from . import records
 from .faults import Refused, said_in_words
@@ -75,13 +74,3 @@ def copied(path: Path) -> Iterator[Copy]:
             copy = Copy(path, base)
             copy.check_table()
             yield copy
-
-
-def is_copied(path: Path, copy: Path) -> bool:
-    """Copies the store and its log, which belong together: whether nothing was put meanwhile."""
-    before = marks(path)
-    shutil.copyfile(path, copy)
-    log_of(copy).unlink(missing_ok=True)
-    if log_of(path).exists():
-        shutil.copyfile(log_of(path), log_of(copy))
-    return marks(path) == before

@@ -38,19 +38,22 @@ def log_of(path: Path) -> Path:
     return path.with_name(path.name + "-wal")
 
 
+def is_copied(path: Path, copy: Path) -> bool:
+    """Copies the store and its log: whether nothing was put into them meanwhile, so that the two belong together."""
+    before = marks(path)
+    shutil.copyfile(path, copy)
+    log_of(copy).unlink(missing_ok=True)
+    if log_of(path).exists():
+        shutil.copyfile(log_of(path), log_of(copy))
+    return marks(path) == before
+
+
 @contextmanager
 def copied(path: Path, folder: Path) -> Iterator[sqlite3.Connection]:
     """A copy of the file and its log in a folder, opened by SQLite."""
     with tempfile.TemporaryDirectory(dir=folder) as inner:
         copy = Path(inner, "club.db")
-        for _ in range(TRIES):
-            before = marks(path)
-            shutil.copy(path, copy)
-            log_of(copy).unlink(missing_ok=True)
-            if log_of(path).exists():
-                shutil.copy(log_of(path), log_of(copy))
-            if marks(path) == before:  # so that the two belong together
-                break
+        any(is_copied(path, copy) for _ in range(TRIES))
         with closing(sqlite3.connect(copy)) as base:
             yield base
 
