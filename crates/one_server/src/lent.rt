@@ -69,8 +69,8 @@ pub fn alone(one: &mut Part, session: u32, timed: &Timed, reply: &mut Reply) -> 
     }
 }
 
-/// Makes a pair act whose plan has no desk, or that is refused, on the lobby, and writes its reply. Running out of memory
-/// changes nothing but what stands in place of the reply.
+/// Makes a pair act whose plan has no desk, or that is refused, on the lobby, and writes its reply. Running out of
+/// memory changes nothing but what stands in place of the reply.
 fn put_planned(
     lobby: &mut Lobby,
     session: u32,

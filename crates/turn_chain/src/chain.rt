@@ -14,8 +14,9 @@ use std::sync::Wait;
 use turn_table::{Pass, Turns};
 
 /// Makes an act, and waits for the turns of its parts. The gate is told of each part once it is out. The pass holds no
-/// part, before and after. The reply is written over what stands in its place. Answers `NoMemory` only when out of memory, and then there is no entry: the parts are as
-/// they were. An act that never runs out of memory is always made. It may wait for ever.
+/// part, before and after. The reply is written over what stands in its place. Answers `NoMemory` only when out of
+/// memory, and then there is no entry: the parts are as they were. An act that never runs out of memory is always made.
+/// It may wait for ever.
 pub fn run<S: Steps, G: Gate, R: Wait>(
     rt: &R,
     alloc: Global,
@@ -57,10 +58,10 @@ pub fn run<S: Steps, G: Gate, R: Wait>(
 }
 
 /// Makes an act, and waits for nobody. The pass holds no part, before and after. Where the act is made, its reply is
-/// written over what stands in its place. `Busy` says that at a step of this
-/// call the turn word of that part, a part of the act, was 1: another pass had the turn. The act comes back, there is
-/// no entry, and a part that was out is put back as it was. Answers `NoMemory` only when out of memory, and then there
-/// is no entry either. An act that never runs out of memory is made, or finds a part busy.
+/// written over what stands in its place. `Busy` says that at a step of this call the turn word of that part, a part of
+/// the act, was 1: another pass had the turn. The act comes back, there is no entry, and a part that was out is put back
+/// as it was. Answers `NoMemory` only when out of memory, and then there is no entry either. An act that never runs out
+/// of memory is made, or finds a part busy.
 pub fn try_run<S: Steps>(
     alloc: Global,
     table: &Turns<S>,

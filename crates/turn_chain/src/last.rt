@@ -17,7 +17,8 @@ pub struct Lent<P> {
     pub value: P,
 }
 
-/// Makes an act that has one part, which is out, and writes its reply. After running out of memory the part goes back as it was.
+/// Makes an act that has one part, which is out, and writes its reply. After running out of memory the part goes back
+/// as it was.
 pub fn alone<S: Steps>(
     alloc: Global,
     table: &Turns<S>,
@@ -52,7 +53,8 @@ pub fn alone<S: Steps>(
     }
 }
 
-/// Makes an act that has two parts, which are out, and writes its reply. After running out of memory both go back as they were.
+/// Makes an act that has two parts, which are out, and writes its reply. After running out of memory both go back as
+/// they were.
 pub fn together<S: Steps>(
     alloc: Global,
     table: &Turns<S>,
