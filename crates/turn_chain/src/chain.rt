@@ -59,9 +59,9 @@ pub fn run<S: Steps, G: Gate, R: Wait>(
 
 /// Makes an act, and waits for nobody. The pass holds no part, before and after. Where the act is made, its reply is
 /// written over what stands in its place. `Busy` says that at a step of this call the turn word of that part, a part of
-/// the act, was 1: another pass had the turn. The act comes back, there is no entry, and a part that was out is put back
-/// as it was. Answers `NoMemory` only when out of memory, and then there is no entry either. An act that never runs out
-/// of memory is made, or finds a part busy.
+/// the act, was 1: another pass had the turn. The act comes back, there is no entry, and a part that was out is put
+/// back as it was. Answers `NoMemory` only when out of memory, and then there is no entry either. An act that never
+/// runs out of memory is made, or finds a part busy.
 pub fn try_run<S: Steps>(
     alloc: Global,
     table: &Turns<S>,

@@ -76,7 +76,14 @@ pub fn together<S: Steps>(
     ensures err { OnErr result (HasNotRun S.core pass.old.view pass.new.view) }
     ensures sure { S.sure act.now → IsOk result }
 {
-    let made = S::together(alloc, &mut one.value, &mut two.value, pass.number(), act, reply);
+    let made = S::together(
+        alloc,
+        &mut one.value,
+        &mut two.value,
+        pass.number(),
+        act,
+        reply,
+    );
     match &made {
         Ok(_) => {
             table.commit(pass);
