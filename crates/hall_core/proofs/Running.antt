@@ -1,17 +1,13 @@
 -- What the chain of an act says of a view, said of a pass of the hall.
 use Rattle.std.proofs.Common.{◌≡◌, ℕ, Bool, [], ◌∷◌, ◌++◌, true, false, ap, sym, subst, ◌∙◌}
 use Rattle.std.proofs.lemmas.List.{append_assoc, append-nil}
-use Rattle.std.specs.Prelude.{IfOk, OnErr}
-use Rattle.std.specs.declared.result.Result.{Result}
-use Rattle.std.specs.declared.result.Result.TheVariants.{Ok, Err}
 use Rattle.histories.specs.Core.{Touches}
 use Rattle.histories.specs.History.{IsPrefix, calls_of, entry, state, Legal}
-use Rattle.memory.specs.declared.NoMemory.{NoMemory}
 use Rattle.one_server.specs.declared.act.Timed.{Timed}
 use Rattle.one_server.specs.declared.part.Part.{Part}
 use Rattle.one_server.specs.declared.reply.Reply.{Reply}
 use Rattle.one_server.specs.House.{house}
-use Rattle.one_server.specs.Running.{IsKnown, Log, Made, Runs, Ran as IsAnswered}
+use Rattle.one_server.specs.Running.{IsKnown, Log, Made, Ran as IsAnswered}
 use Rattle.one_server.specs.Whole.{IsWhole}
 use Rattle.one_server.proofs.Replies.{last_reply}
 use Rattle.turn_table.specs.declared.view.View.{View}
@@ -60,10 +56,6 @@ module _ (v w : PassStanding Part Timed Reply) (same : fixed w.view ≡ fixed v.
     only = λ e. absurd cc;
   }
 
-  pub runs : IsWhole v.view.opening → (timed : Timed) (r : Result Reply NoMemory) → IfOk r (λ x. HasRun house v.view timed x w.view) → OnErr r (HasNotRun house v.view w.view) → Runs (runs_of (pass_state v false)) timed r (runs_of (pass_state w false))
-  runs whole timed (Ok r) ran unmade = answered whole timed r ran
-  runs whole timed (Err e) ran unmade = unanswered unmade
-
   -- a part that was busy
   pub busy_part : (short : Bool) (timed : Timed) (part : ℕ) → ViewBusy house v.view timed part w.view → FoundBusy (pass_state v short) timed part (pass_state w short)
   busy_part short timed part found = record {
@@ -71,9 +63,9 @@ module _ (v w : PassStanding Part Timed Reply) (same : fixed w.view ≡ fixed v.
     last = found.last;
   }
 
-  pub came : IsWhole v.view.opening → (short : Bool) (timed : Timed) (t : Tried Timed Reply) → ViewCameTo house v.view timed t w.view → CameTo (pass_state v short) timed (ran_of t) (pass_state w short)
-  came whole short timed (tried.Done r) ran = answered whole timed r ran
-  came whole short timed (tried.Busy part act) found = (unanswered found.0, ap (λ (x : Timed). x.act) found.1, busy_part short timed part found.2)
+  pub came : IsWhole v.view.opening → (short : Bool) (timed : Timed) (t : Tried Timed) (r : Reply) → ViewCameTo house v.view timed t r w.view → CameTo (pass_state v short) timed (ran_of t r) (pass_state w short)
+  came whole short timed tried.Done r ran = answered whole timed r ran
+  came whole short timed (tried.Busy part act) r found = (unanswered found.0, ap (λ (x : Timed). x.act) found.1, busy_part short timed part found.2)
 
   -- the pass afterwards
   pub hall_pass : IsHallPass v → w.view.held ≡ [] → IsKnown (runs_of (pass_state w false)) → IsHallPass w

@@ -27,7 +27,7 @@ CameTo old timed (Done reply) new = IsAnswered (runs_of old) timed reply (runs_o
 CameTo old timed (Busy number act) new =
     Made (runs_of old) [] (runs_of new) × (act ≡ timed.act) × FoundBusy old timed number new
 
--- what the chain of an act came to, without the moment of an act that comes back
-abbrev pub ran_of : Tried Timed Reply → Ran
-ran_of (tried.Done reply) = Done reply
-ran_of (tried.Busy number timed) = Busy number timed.act
+-- what the chain of an act came to, with the reply where it was made, and without the moment of an act that comes back
+abbrev pub ran_of : Tried Timed → Reply → Ran
+ran_of tried.Done reply = Done reply
+ran_of (tried.Busy number timed) reply = Busy number timed.act

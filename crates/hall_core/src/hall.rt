@@ -114,8 +114,9 @@ impl Hall {
         ensures sure { NeedsNoMemory act → IsOk result }
     {
         let timed = Timed { moment, act };
-        let tried = turn_chain::try_run(alloc, &self.turns, &mut pass.pass, timed)?;
-        Ok(ran_of(tried))
+        let mut reply = Reply::blank();
+        let tried = turn_chain::try_run(alloc, &self.turns, &mut pass.pass, timed, &mut reply)?;
+        Ok(ran_of(tried, reply))
     }
 
     /// Makes an act of the pass's session at `moment`, in milliseconds, and waits for the turns of its parts. The gate
@@ -137,7 +138,19 @@ impl Hall {
         ensures sure { NeedsNoMemory act → IsOk result }
     {
         let timed = Timed { moment, act };
-        turn_chain::run(rt, alloc, &self.turns, &mut pass.pass, gate, &timed)
+        let mut reply = Reply::blank();
+        let Ok(()) = turn_chain::run(
+            rt,
+            alloc,
+            &self.turns,
+            &mut pass.pass,
+            gate,
+            &timed,
+            &mut reply,
+        ) else {
+            return Err(NoMemory);
+        };
+        Ok(reply)
     }
 
     /// Gives the lobby and the desks back, once every pass that was split was joined into the first one. They are the

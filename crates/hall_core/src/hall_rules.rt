@@ -46,8 +46,9 @@ impl Steps for HallRules {
         one: &mut BoxedPart,
         session: u32,
         act: &Timed,
-    ) -> Result<Reply, NoMemory> {
-        one_server::alone(&mut *one.part, session, act)
+        reply: &mut Reply,
+    ) -> Result<(), NoMemory> {
+        one_server::alone(&mut *one.part, session, act, reply)
     }
 
     fn together(
@@ -56,7 +57,8 @@ impl Steps for HallRules {
         two: &mut BoxedPart,
         session: u32,
         act: &Timed,
-    ) -> Result<Reply, NoMemory> {
-        one_server::together(alloc, &mut *one.part, &mut *two.part, session, act)
+        reply: &mut Reply,
+    ) -> Result<(), NoMemory> {
+        one_server::together(alloc, &mut *one.part, &mut *two.part, session, act, reply)
     }
 }

@@ -16,12 +16,13 @@ pub enum Ran {
     Busy(u8, Act),
 }
 
-/// What the chain of an act came to, without the moment of an act that comes back.
-pub fn ran_of(tried: Tried<Timed, Reply>) -> Ran
-    ensures { result ≡ ran_of tried }
+/// What the chain of an act came to, with the reply where the act was made, and without the moment of an act that comes
+/// back.
+pub fn ran_of(tried: Tried<Timed>, reply: Reply) -> Ran
+    ensures { result ≡ ran_of tried reply }
 {
     match tried {
-        Tried::Done(reply) => Ran::Done(reply),
+        Tried::Done => Ran::Done(reply),
         Tried::Busy { part, act } => Ran::Busy(part, act.act),
     }
 }

@@ -1,17 +1,18 @@
 //! The parts that an act is lent, and its step on them, for whoever keeps the parts apart.
-ghost use Rattle.std.specs.Prelude.{◌≡◌, None, Some, IfOk, IsOk, OnOk, OnErr};
+ghost use Rattle.std.specs.Prelude.{◌≡◌, None, Some, IsOk, OnOk, OnErr};
 ghost use Rattle.one_server.specs.declared.part.Part.TheVariants.{Lobby as TheLobby};
-ghost use Rattle.one_server.specs.Acts.{IsEvent, FitsAct, NeedsNoMemory, first_part, second_part};
-ghost use Rattle.one_server.specs.House.{house_answer, house_one, house_two};
+ghost use Rattle.one_server.specs.Acts.{IsEvent, FitsAct, NeedsNoMemory, first_part, planned_desk, second_part};
+ghost use Rattle.one_server.specs.House.{house_answer, house_one, house_two, pair_lobby, pair_reply};
+ghost use Rattle.lobby_state.specs.Plans.{NamesDesk, plan_of};
 ghost use Rattle.one_server.specs.Lent.{IsFirstOf, AreBothOf};
 
 use crate::act::{Act, Timed};
 use crate::part::Part;
 use crate::reply::Reply;
 use crate::resuming::alone_step;
-use crate::steps::{desk_step, lobby_step, pair_step};
+use crate::steps::{pair_step, put_desk, put_lobby};
 use clock_ledger::Moment;
-use lobby_state::Lobby;
+use lobby_state::{Lobby, PairAct};
 use memory::NoMemory;
 use std::alloc::Global;
 
@@ -40,51 +41,74 @@ pub fn second_part(lobby: &Lobby, session: u32, act: &Act) -> Option<u8>
     }
 }
 
-/// Makes an act that has one part on that part. Running out of memory changes nothing, and an act that needs no memory
-/// of its own doesn't meet it.
-pub fn alone(one: &mut Part, session: u32, timed: &Timed) -> Result<Reply, NoMemory>
+/// Makes an act that has one part on that part, and writes its reply. Running out of memory changes nothing but what
+/// stands in place of the reply, and an act that needs no memory of its own doesn't meet it.
+pub fn alone(one: &mut Part, session: u32, timed: &Timed, reply: &mut Reply) -> Result<(), NoMemory>
     requires event { IsEvent timed.now }
     requires first { IsFirstOf one.old timed.now.act }
     requires single { second_part one.old session timed.now.act ≡ None }
-    ensures reply { IfOk result (λ r. r ≡ house_answer one.old None session timed.now.moment timed.now.act) }
+    ensures reply { OnOk result (reply.new ≡ house_answer one.old None session timed.now.moment timed.now.act) }
     ensures after { OnOk result (one.new ≡ house_one one.old None session timed.now.moment timed.now.act) }
     ensures err { OnErr result (one.new ≡ one.old) }
     ensures sure { NeedsNoMemory timed.now.act → IsOk result }
 {
     match one {
         Part::Lobby(lobby) => match &timed.act {
-            Act::Lobby(act) => lobby_step(lobby, session, timed.moment, act),
-            Act::Pair(act) => match lobby.plan(session, act) {
-                Err(cause) => Ok(Reply::Refused(cause)),
-                Ok(plan) => Ok(Reply::Pair(alone_step(lobby, &plan)?)),
-            },
+            Act::Lobby(act) => put_lobby(lobby, session, timed.moment, act, reply),
+            Act::Pair(act) => put_planned(lobby, session, act, reply),
             Act::Desk { .. } => unreachable!(),
         },
         Part::Desk(desk) => match &timed.act {
-            Act::Desk { serial, act, .. } => desk_step(
-                desk,
-                session,
-                Moment::new(timed.moment),
-                *serial,
-                act,
-            ),
+            Act::Desk { serial, act, .. } => {
+                let moment = Moment::new(timed.moment);
+                put_desk(desk, session, moment, *serial, act, reply)
+            }
             Act::Lobby(_) => unreachable!(),
             Act::Pair(_) => unreachable!(),
         },
     }
 }
 
-/// Makes an act that has two parts on the lobby and the desk of its plan. Running out of memory changes nothing.
+/// Makes a pair act whose plan has no desk, or that is refused, on the lobby, and writes its reply. Running out of
+/// memory changes nothing but what stands in place of the reply.
+fn put_planned(
+    lobby: &mut Lobby,
+    session: u32,
+    act: &PairAct,
+    reply: &mut Reply,
+) -> Result<(), NoMemory>
+    requires names { NamesDesk act.now }
+    requires single { planned_desk (plan_of lobby.old session act.now) ≡ None }
+    ensures reply { OnOk result (reply.new ≡ pair_reply (plan_of lobby.old session act.now) None) }
+    ensures after { OnOk result (lobby.new ≡ pair_lobby lobby.old (plan_of lobby.old session act.now) None) }
+    ensures err { OnErr result (lobby.new ≡ lobby.old) }
+{
+    match lobby.plan(session, act) {
+        Err(cause) => {
+            *reply = Reply::Refused(cause);
+            Ok(())
+        }
+        Ok(plan) => {
+            *reply = Reply::Pair(alone_step(lobby, &plan)?);
+            Ok(())
+        }
+    }
+}
+
+/// Makes an act that has two parts on the lobby and the desk of its plan, and writes its reply. Running out of memory
+/// changes nothing but what stands in place of the reply.
 pub fn together(
     alloc: Global,
     one: &mut Part,
     two: &mut Part,
     session: u32,
     timed: &Timed,
-) -> Result<Reply, NoMemory>
+    reply: &mut Reply,
+) -> Result<(), NoMemory>
     requires event { IsEvent timed.now }
     requires both { AreBothOf one.old two.old session timed.now.act }
-    ensures reply { IfOk result (λ r. r ≡ house_answer one.old (Some two.old) session timed.now.moment timed.now.act) }
+    ensures reply { OnOk result
+        (reply.new ≡ house_answer one.old (Some two.old) session timed.now.moment timed.now.act) }
     ensures one { OnOk result (one.new ≡ house_one one.old (Some two.old) session timed.now.moment timed.now.act) }
     ensures two { OnOk result (two.new ≡ house_two one.old two.old session timed.now.moment timed.now.act) }
     ensures err_one { OnErr result (one.new ≡ one.old) }
@@ -102,5 +126,11 @@ pub fn together(
     let Ok(plan) = lobby.plan(session, act) else {
         unreachable!();
     };
-    pair_step(alloc, lobby, desk, Moment::new(timed.moment), &plan)
+    match pair_step(alloc, lobby, desk, Moment::new(timed.moment), &plan) {
+        Ok(made) => {
+            *reply = made;
+            Ok(())
+        }
+        Err(NoMemory) => Err(NoMemory),
+    }
 }

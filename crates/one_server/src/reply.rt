@@ -18,8 +18,20 @@ pub enum Reply {
     Pair(PairReply),
 }
 
-// A reply is moved from the server to the session.
+// A reply is moved from the server to the session. On its way there it is written in its place, and not handed on.
 const _: () = prove!(size_of::<Reply>() <= 400);
+
+impl Reply {
+    ghost use Rattle.std.specs.Prelude.{◌≡◌};
+    ghost use Rattle.one_server.specs.House.{no_parts};
+
+    /// What stands in the place of a reply before it is written.
+    pub fn blank() -> Reply
+        ensures { result ≡ no_parts }
+    {
+        Reply::Pair(PairReply::Kept)
+    }
+}
 
 /// What the lobby and a desk answer together.
 #[derive(Clone, Copy)]

@@ -30,9 +30,36 @@ pub fn lobby_step(
     ensures err { OnErr result (lobby.new ≡ lobby.old) }
     ensures sure { LobbyNeedsNoMemory act.now → IsOk result }
 {
+    let mut reply = Reply::blank();
+    match put_lobby(lobby, session, moment, act, &mut reply) {
+        Ok(()) => Ok(reply),
+        Err(NoMemory) => Err(NoMemory),
+    }
+}
+
+/// The same, and the reply is written over what stands in its place.
+pub(crate) fn put_lobby(
+    lobby: &mut Lobby,
+    session: u32,
+    moment: u64,
+    act: &LobbyAct,
+    reply: &mut Reply,
+) -> Result<(), NoMemory>
+    requires { FitsLobby act.now }
+    ensures reply { OnOk result (reply.new ≡ lobby_reply (lobby_answer lobby.old session act.now)) }
+    ensures after { OnOk result (lobby.new ≡ lobby_after lobby.old session act.now) }
+    ensures err { OnErr result (lobby.new ≡ lobby.old) }
+    ensures sure { LobbyNeedsNoMemory act.now → IsOk result }
+{
     match lobby.act(session, moment, act) {
-        Ok(reply) => Ok(Reply::Lobby(reply)),
-        Err(Fail::Refused(cause)) => Ok(Reply::Refused(cause)),
+        Ok(made) => {
+            *reply = Reply::Lobby(made);
+            Ok(())
+        }
+        Err(Fail::Refused(cause)) => {
+            *reply = Reply::Refused(cause);
+            Ok(())
+        }
         Err(Fail::Memory) => Err(NoMemory),
     }
 }
@@ -52,9 +79,37 @@ pub fn desk_step(
     ensures err { OnErr result (desk.new ≡ desk.old) }
     ensures memory { OnErr result (needs_memory act.now ≡ true) }
 {
+    let mut reply = Reply::blank();
+    match put_desk(desk, session, moment, serial, act, &mut reply) {
+        Ok(()) => Ok(reply),
+        Err(NoMemory) => Err(NoMemory),
+    }
+}
+
+/// The same, and the reply is written over what stands in its place.
+pub(crate) fn put_desk(
+    desk: &mut Desk,
+    session: u32,
+    moment: Moment,
+    serial: u64,
+    act: &DeskAct,
+    reply: &mut Reply,
+) -> Result<(), NoMemory>
+    requires fits { FitsDeskAct act.now }
+    ensures reply { OnOk result (reply.new ≡ desk_reply (desk_answer desk.old session moment serial act.now)) }
+    ensures after { OnOk result (desk.new ≡ desk_after desk.old session moment serial act.now) }
+    ensures err { OnErr result (desk.new ≡ desk.old) }
+    ensures memory { OnErr result (needs_memory act.now ≡ true) }
+{
     match desk.act(session, moment, serial, act) {
-        Ok(reply) => Ok(Reply::Desk(reply)),
-        Err(Fail::Refused(cause)) => Ok(Reply::Refused(cause)),
+        Ok(made) => {
+            *reply = Reply::Desk(made);
+            Ok(())
+        }
+        Err(Fail::Refused(cause)) => {
+            *reply = Reply::Refused(cause);
+            Ok(())
+        }
         Err(Fail::Memory) => Err(NoMemory),
     }
 }

@@ -5,7 +5,7 @@ use Rattle.std.specs.List.{slice_get}
 use Rattle.std.specs.declared.option.Option.TheVariants.{Some}
 use Rattle.std.specs.declared.result.Result.{Result}
 use Rattle.std.specs.declared.result.Result.TheVariants.{Ok, Err}
-use Rattle.std.specs.Prelude.{IfOk, OnErr}
+use Rattle.std.specs.Prelude.{OnOk, OnErr}
 use Rattle.histories.specs.Core.{Core, Lawful}
 use Rattle.histories.specs.History.{IsPrefix, calls_of, entry, state, Legal}
 use Rattle.histories.proofs.Histories.{prefix_trans}
@@ -77,8 +77,8 @@ module _ {P A R : Type 0} (c : Core P A R) where
     pub same_busy : fixed w ≡ fixed v
     same_busy = ap fixed busy ∙ ap fixed e
 
-    pub came_busy : k ≡ c.first a → CameTo c v a (Busy k a) w
-    came_busy first =
+    pub came_busy : (r : R) → k ≡ c.first a → CameTo c v a (Busy k a) r w
+    came_busy r first =
         let seen : u.seen ≡ w.seen = ap (λ (x : View P A R). x.seen) (sym busy) in
         let made : w.made ≡ v.made = ap (λ (x : View P A R). x.made) busy ∙ ap (λ (x : View P A R). x.made) e in (
           record {
@@ -106,8 +106,8 @@ module _ {P A R : Type 0} (c : Core P A R) where
     pub same_given : fixed y ≡ fixed v
     same_given = ap fixed back ∙ ap fixed busy ∙ once.same
 
-    pub came_given : k ≡ c.first a → slice_get (state c u.opening w.seen) k ≡ Some p → c.second p w.number a ≡ Some s → CameTo c v a (Busy s a) y
-    came_given first value second =
+    pub came_given : (r : R) → k ≡ c.first a → slice_get (state c u.opening w.seen) k ≡ Some p → c.second p w.number a ≡ Some s → CameTo c v a (Busy s a) r y
+    came_given r first value second =
         let number : w.number ≡ v.number = ap (λ (z : View P A R). z.number) once.same in
         let opening : u.opening ≡ v.opening = ap (λ (z : View P A R). z.opening) e in
         let seen : w.seen ≡ y.seen = ap (λ (z : View P A R). z.seen) (sym busy) ∙ ap (λ (z : View P A R). z.seen) (sym back) in
@@ -130,10 +130,10 @@ module _ {P A R : Type 0} (c : Core P A R) where
 
   -- what both halves came to
   module _ (v u w : View P A R) (a : A) (since : Since v u) where
-    pub ok_since : (r : Result R NoMemory) → IfOk r (λ x. HasRun c u a x w) → IfOk r (λ x. HasRun c v a x w)
-    ok_since (Ok x) ran = ran_since v u w a x since ran
-    ok_since (Err e) ran = ran
+    pub ok_since : (r : Result Unit NoMemory) (x : R) → OnOk r (HasRun c u a x w) → OnOk r (HasRun c v a x w)
+    ok_since (Ok done) x ran = ran_since v u w a x since ran
+    ok_since (Err e) x ran = ran
 
-    pub err_since : (r : Result R NoMemory) → OnErr r (HasNotRun c u w) → OnErr r (HasNotRun c v w)
+    pub err_since : (r : Result Unit NoMemory) → OnErr r (HasNotRun c u w) → OnErr r (HasNotRun c v w)
     err_since (Ok x) unmade = unmade
     err_since (Err e) unmade = unmade_since v u w since unmade

@@ -28,9 +28,10 @@ module _ {P A R : Type 0} (c : Core P A R) where
     pub part : Touches c (state c v.opening w.seen) v.number a s
     pub last : w.busy ≡ v.busy ++ s ∷ []
 
-  abbrev pub CameTo : View P A R → A → Tried A R → View P A R → Type 0
-  CameTo v a (Done r) w = HasRun v a r w
-  CameTo v a (Busy s b) w = HasNotRun v w × (b ≡ a) × FoundBusy v a s w
+  -- a call that waits for nobody: the act was made, and got the reply r; or its part s was busy, and it comes back
+  abbrev pub CameTo : View P A R → A → Tried A → R → View P A R → Type 0
+  CameTo v a Done r w = HasRun v a r w
+  CameTo v a (Busy s b) r w = HasNotRun v w × (b ≡ a) × FoundBusy v a s w
 
   -- the act is in flight and not committed, and these of its parts are out, the one taken last first
   pub record Ready (v : View P A R) (a : A) (held : List (ℕ × P)) : Type 0 where

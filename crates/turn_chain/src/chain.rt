@@ -1,6 +1,6 @@
 //! One act of a pass, from its beginning to the parts given back.
 
-ghost use Rattle.std.specs.Prelude.{◌≡◌, [], IfOk, IsOk, OnErr};
+ghost use Rattle.std.specs.Prelude.{◌≡◌, [], IfOk, IsOk, OnOk, OnErr};
 ghost use Rattle.turn_chain.specs.Chain.{fixed, HasRun, HasNotRun, CameTo};
 
 use crate::gate::tell;
@@ -14,8 +14,9 @@ use std::sync::Wait;
 use turn_table::{Pass, Turns};
 
 /// Makes an act, and waits for the turns of its parts. The gate is told of each part once it is out. The pass holds no
-/// part, before and after. Answers `NoMemory` only when out of memory, and then there is no entry: the parts are as
-/// they were. An act that never runs out of memory is always made. It may wait for ever.
+/// part, before and after. The reply is written over what stands in its place. Answers `NoMemory` only when out of
+/// memory, and then there is no entry: the parts are as they were. An act that never runs out of memory is always made.
+/// It may wait for ever.
 pub fn run<S: Steps, G: Gate, R: Wait>(
     rt: &R,
     alloc: Global,
@@ -23,14 +24,15 @@ pub fn run<S: Steps, G: Gate, R: Wait>(
     pass: &mut Pass<S>,
     gate: &G,
     act: &S::Act,
-) -> Result<S::Reply, NoMemory>
+    reply: &mut S::Reply,
+) -> Result<(), NoMemory>
     requires here { pass.old.home ≡ table.now }
     requires idle { pass.old.view.held ≡ [] }
     requires fits { S.core.fits act.now }
     ensures here { pass.new.home ≡ pass.old.home }
     ensures idle { pass.new.view.held ≡ [] }
     ensures same { fixed pass.new.view ≡ fixed pass.old.view }
-    ensures ok { IfOk result (λ reply. HasRun S.core pass.old.view act.now reply pass.new.view) }
+    ensures ok { OnOk result (HasRun S.core pass.old.view act.now reply.new pass.new.view) }
     ensures err { OnErr result (HasNotRun S.core pass.old.view pass.new.view) }
     ensures sure { S.sure act.now → IsOk result }
 {
@@ -44,7 +46,7 @@ pub fn run<S: Steps, G: Gate, R: Wait>(
         value,
     };
     let Some(second) = second else {
-        return last::alone(alloc, table, pass, one, act);
+        return last::alone(alloc, table, pass, one, act, reply);
     };
     let value = table.take(rt, pass, second);
     tell(gate, pass, second);
@@ -52,26 +54,28 @@ pub fn run<S: Steps, G: Gate, R: Wait>(
         number: second,
         value,
     };
-    last::together(alloc, table, pass, one, two, act)
+    last::together(alloc, table, pass, one, two, act, reply)
 }
 
-/// Makes an act, and waits for nobody. The pass holds no part, before and after. `Busy` says that at a step of this
-/// call the turn word of that part, a part of the act, was 1: another pass had the turn. The act comes back, there is
-/// no entry, and a part that was out is put back as it was. Answers `NoMemory` only when out of memory, and then there
-/// is no entry either. An act that never runs out of memory is made, or finds a part busy.
+/// Makes an act, and waits for nobody. The pass holds no part, before and after. Where the act is made, its reply is
+/// written over what stands in its place. `Busy` says that at a step of this call the turn word of that part, a part of
+/// the act, was 1: another pass had the turn. The act comes back, there is no entry, and a part that was out is put
+/// back as it was. Answers `NoMemory` only when out of memory, and then there is no entry either. An act that never
+/// runs out of memory is made, or finds a part busy.
 pub fn try_run<S: Steps>(
     alloc: Global,
     table: &Turns<S>,
     pass: &mut Pass<S>,
     act: S::Act,
-) -> Result<Tried<S::Act, S::Reply>, NoMemory>
+    reply: &mut S::Reply,
+) -> Result<Tried<S::Act>, NoMemory>
     requires here { pass.old.home ≡ table.now }
     requires idle { pass.old.view.held ≡ [] }
     requires fits { S.core.fits act }
     ensures here { pass.new.home ≡ pass.old.home }
     ensures idle { pass.new.view.held ≡ [] }
     ensures same { fixed pass.new.view ≡ fixed pass.old.view }
-    ensures ok { IfOk result (λ tried. CameTo S.core pass.old.view act tried pass.new.view) }
+    ensures ok { IfOk result (λ tried. CameTo S.core pass.old.view act tried reply.new pass.new.view) }
     ensures err { OnErr result (HasNotRun S.core pass.old.view pass.new.view) }
     ensures sure { S.sure act → IsOk result }
 {
@@ -86,7 +90,8 @@ pub fn try_run<S: Steps>(
         value,
     };
     let Some(second) = second else {
-        return Ok(Tried::Done(last::alone(alloc, table, pass, one, &act)?));
+        last::alone(alloc, table, pass, one, &act, reply)?;
+        return Ok(Tried::Done);
     };
     let Some(value) = table.try_take(pass, second) else {
         table.give(pass, first, one.value);
@@ -96,5 +101,6 @@ pub fn try_run<S: Steps>(
         number: second,
         value,
     };
-    Ok(Tried::Done(last::together(alloc, table, pass, one, two, &act)?))
+    last::together(alloc, table, pass, one, two, &act, reply)?;
+    Ok(Tried::Done)
 }

@@ -1,6 +1,6 @@
 //! The second half of an act: its parts are out, it is made on them, and they go back.
 
-ghost use Rattle.std.specs.Prelude.{◌≡◌, [], ◌∷◌, None, Some, IfOk, IsOk, OnErr};
+ghost use Rattle.std.specs.Prelude.{◌≡◌, [], ◌∷◌, None, Some, IsOk, OnOk, OnErr};
 ghost use Rattle.turn_chain.specs.Chain.{fixed, HasRun, HasNotRun, Ready};
 
 use crate::steps::Steps;
@@ -17,14 +17,16 @@ pub struct Lent<P> {
     pub value: P,
 }
 
-/// Makes an act that has one part, which is out. After running out of memory the part goes back as it was.
+/// Makes an act that has one part, which is out, and writes its reply. After running out of memory the part goes back
+/// as it was.
 pub fn alone<S: Steps>(
     alloc: Global,
     table: &Turns<S>,
     pass: &mut Pass<S>,
     mut one: Lent<S::Part>,
     act: &S::Act,
-) -> Result<S::Reply, NoMemory>
+    reply: &mut S::Reply,
+) -> Result<(), NoMemory>
     requires here { pass.old.home ≡ table.now }
     requires fits { S.core.fits act.now }
     requires ready { Ready S.core pass.old.view act.now ((one.number, one.value) ∷ []) }
@@ -33,11 +35,11 @@ pub fn alone<S: Steps>(
     ensures here { pass.new.home ≡ pass.old.home }
     ensures idle { pass.new.view.held ≡ [] }
     ensures same { fixed pass.new.view ≡ fixed pass.old.view }
-    ensures ok { IfOk result (λ reply. HasRun S.core pass.old.view act.now reply pass.new.view) }
+    ensures ok { OnOk result (HasRun S.core pass.old.view act.now reply.new pass.new.view) }
     ensures err { OnErr result (HasNotRun S.core pass.old.view pass.new.view) }
     ensures sure { S.sure act.now → IsOk result }
 {
-    let made = S::alone(alloc, &mut one.value, pass.number(), act);
+    let made = S::alone(alloc, &mut one.value, pass.number(), act, reply);
     match &made {
         Ok(_) => {
             table.commit(pass);
@@ -51,7 +53,8 @@ pub fn alone<S: Steps>(
     }
 }
 
-/// Makes an act that has two parts, which are out. After running out of memory both go back as they were.
+/// Makes an act that has two parts, which are out, and writes its reply. After running out of memory both go back as
+/// they were.
 pub fn together<S: Steps>(
     alloc: Global,
     table: &Turns<S>,
@@ -59,7 +62,8 @@ pub fn together<S: Steps>(
     mut one: Lent<S::Part>,
     mut two: Lent<S::Part>,
     act: &S::Act,
-) -> Result<S::Reply, NoMemory>
+    reply: &mut S::Reply,
+) -> Result<(), NoMemory>
     requires here { pass.old.home ≡ table.now }
     requires fits { S.core.fits act.now }
     requires ready { Ready S.core pass.old.view act.now ((two.number, two.value) ∷ (one.number, one.value) ∷ []) }
@@ -68,11 +72,18 @@ pub fn together<S: Steps>(
     ensures here { pass.new.home ≡ pass.old.home }
     ensures idle { pass.new.view.held ≡ [] }
     ensures same { fixed pass.new.view ≡ fixed pass.old.view }
-    ensures ok { IfOk result (λ reply. HasRun S.core pass.old.view act.now reply pass.new.view) }
+    ensures ok { OnOk result (HasRun S.core pass.old.view act.now reply.new pass.new.view) }
     ensures err { OnErr result (HasNotRun S.core pass.old.view pass.new.view) }
     ensures sure { S.sure act.now → IsOk result }
 {
-    let made = S::together(alloc, &mut one.value, &mut two.value, pass.number(), act);
+    let made = S::together(
+        alloc,
+        &mut one.value,
+        &mut two.value,
+        pass.number(),
+        act,
+        reply,
+    );
     match &made {
         Ok(_) => {
             table.commit(pass);

@@ -20,9 +20,16 @@ impl Steps for Counters {
         }
     }
 
-    fn alone(_alloc: Global, one: &mut u64, _session: u32, _act: &Bump) -> Result<u64, NoMemory> {
+    fn alone(
+        _alloc: Global,
+        one: &mut u64,
+        _session: u32,
+        _act: &Bump,
+        reply: &mut u64,
+    ) -> Result<(), NoMemory> {
         *one = one.wrapping_add(1);
-        Ok(*one)
+        *reply = *one;
+        Ok(())
     }
 
     fn together(
@@ -31,9 +38,11 @@ impl Steps for Counters {
         two: &mut u64,
         _session: u32,
         _act: &Bump,
-    ) -> Result<u64, NoMemory> {
+        reply: &mut u64,
+    ) -> Result<(), NoMemory> {
         *one = one.wrapping_add(1);
         *two = two.wrapping_add(1);
-        Ok(*one)
+        *reply = *one;
+        Ok(())
     }
 }

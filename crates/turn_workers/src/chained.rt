@@ -1,5 +1,7 @@
 //! Acts on two counters, made by the chain that every server of parts shares.
 
+ghost use Rattle.std.specs.Prelude.{◌≡◌, []};
+
 use memory::NoMemory;
 use std::alloc::Global;
 use std::cell::Cell;
@@ -28,16 +30,35 @@ pub fn three_acts<R: Wait>(rt: &R, alloc: Global) -> Result<([u64; 3], u64), NoM
     let order = Order {
         digits: Cell::new(0),
     };
-    let one = run(rt, alloc, &table, &mut pass, &order, &Bump::Both)?;
-    let two = run(rt, alloc, &table, &mut pass, &order, &Bump::First)?;
-    let three = run(rt, alloc, &table, &mut pass, &order, &Bump::Both)?;
+    let one = made(rt, alloc, &table, &mut pass, &order, &Bump::Both)?;
+    let two = made(rt, alloc, &table, &mut pass, &order, &Bump::First)?;
+    let three = made(rt, alloc, &table, &mut pass, &order, &Bump::Both)?;
     Ok(([one, two, three], order.digits.get()))
 }
 
-/// What a try came to: the reply, or the part that was busy.
-fn outcome(tried: Tried<Bump, u64>) -> Result<u64, u8> {
+/// Makes an act, and gives its reply.
+fn made<G: Gate, R: Wait>(
+    rt: &R,
+    alloc: Global,
+    table: &Turns<Counters>,
+    pass: &mut Pass<Counters>,
+    gate: &G,
+    act: &Bump,
+) -> Result<u64, NoMemory>
+    requires here { pass.old.home ≡ table.now }
+    requires idle { pass.old.view.held ≡ [] }
+    ensures here { pass.new.home ≡ pass.old.home }
+    ensures idle { pass.new.view.held ≡ [] }
+{
+    let mut reply = 0;
+    run(rt, alloc, table, pass, gate, act, &mut reply)?;
+    Ok(reply)
+}
+
+/// What a try came to: the reply that was written, or the part that was busy.
+fn outcome(tried: Tried<Bump>, reply: u64) -> Result<u64, u8> {
     match tried {
-        Tried::Done(reply) => Ok(reply),
+        Tried::Done => Ok(reply),
         Tried::Busy { part, act: _ } => Err(part),
     }
 }
@@ -47,19 +68,29 @@ fn outcome(tried: Tried<Bump, u64>) -> Result<u64, u8> {
 pub fn tries_beside<R: Wait>(rt: &R, alloc: Global) -> Result<[Result<u64, u8>; 3], NoMemory> {
     let (table, mut base) = Turns::<Counters>::new(alloc, Vec::from_array(alloc, [0, 0])?)?;
     let mut other = table.split(&mut base);
+    let mut reply = 0;
     table.begin(&mut base, &Bump::Both);
     let first = table.take(rt, &mut base, 0);
     let second = table.take(rt, &mut base, 1);
-    let held = outcome(try_run(alloc, &table, &mut other, Bump::Both)?);
+    let held = outcome(
+        try_run(alloc, &table, &mut other, Bump::Both, &mut reply)?,
+        reply,
+    );
     table.give(&mut base, 0, first);
-    let half_held = outcome(try_run(alloc, &table, &mut other, Bump::Both)?);
+    let half_held = outcome(
+        try_run(alloc, &table, &mut other, Bump::Both, &mut reply)?,
+        reply,
+    );
     table.give(&mut base, 1, second);
-    let free = outcome(try_run(alloc, &table, &mut other, Bump::Both)?);
+    let free = outcome(
+        try_run(alloc, &table, &mut other, Bump::Both, &mut reply)?,
+        reply,
+    );
     Ok([held, half_held, free])
 }
 
 /// An act that nobody stands beside, with the gate that holds nobody.
 pub fn open_gate<R: Wait>(rt: &R, alloc: Global) -> Result<u64, NoMemory> {
     let (table, mut pass) = Turns::<Counters>::new(alloc, Vec::from_array(alloc, [4, 0])?)?;
-    run(rt, alloc, &table, &mut pass, &OpenGate::new(), &Bump::First)
+    made(rt, alloc, &table, &mut pass, &OpenGate::new(), &Bump::First)
 }

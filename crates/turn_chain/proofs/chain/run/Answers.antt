@@ -12,7 +12,7 @@ returns-in_default-clause-ok g c =
     let a = c.args.act.now in
     let core = g.S.Served.core in
     let once = since_trans v u w (since_begun core v u a b.begun b.seen) (since_taken core u w c.first_part-first.result c.take-value.result w.busy t.taken t.seen) in
-    ok_since core v w c.alone.new.pass.view a once c.alone.result c.alone.ensures.ok
+    ok_since core v w c.alone.new.pass.view a once c.alone.result c.alone.new.reply c.alone.ensures.ok
 
 pub returns-in_default-clause-err : goal.returns-in_default-clause-err
 returns-in_default-clause-err g c =
@@ -49,7 +49,7 @@ returns-clause-ok g c =
     let x = c.take-value-2.new.pass.view in
     let d = c.take-value-2.ensures in
     let twice = since_trans v w x once (since_taken core w x c.in-Some.second c.take-value-2.result x.busy d.taken d.seen) in
-    ok_since core v x c.together.new.pass.view a twice c.together.result c.together.ensures.ok
+    ok_since core v x c.together.new.pass.view a twice c.together.result c.together.new.reply c.together.ensures.ok
 
 pub returns-clause-err : goal.returns-clause-err
 returns-clause-err g c =

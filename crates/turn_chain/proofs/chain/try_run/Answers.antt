@@ -12,7 +12,7 @@ returns-in_default-second-clause-ok g c =
     let b = c.begin.ensures in
     let t = c.in-Some.ensures in
     let once = since_trans v u w (since_begun core v u c.args.act b.begun b.seen) (since_taken core u w c.first_part-first.result c.in-Some.value u.busy t.taken t.seen) in
-    ran_since core v w c.alone.new.pass.view c.args.act c.in_ok-alone.field-0 once c.in_ok-alone.ensures.ok
+    ran_since core v w c.alone.new.pass.view c.args.act c.alone.new.reply once c.in_ok-alone.ensures.ok
 
 pub try_take-requires-2-clause-not_held : goal.try_take-requires-2-clause-not_held
 try_take-requires-2-clause-not_held g c κs within =
@@ -37,7 +37,7 @@ returns-clause-ok g c =
     let x = c.try_take-2.new.pass.view in
     let d = c.in-Some-try_take.ensures in
     let twice = since_trans v w x once (since_taken core w x c.in-Some-second.second c.in-Some-try_take.value w.busy d.taken d.seen) in
-    ran_since core v x c.together.new.pass.view c.args.act c.in_ok-together.field-0 twice c.in_ok-together.ensures.ok
+    ran_since core v x c.together.new.pass.view c.args.act c.together.new.reply twice c.in_ok-together.ensures.ok
 
 pub returns-in_default-clause-same : goal.returns-in_default-clause-same
 returns-in_default-clause-same g c =
@@ -46,7 +46,7 @@ returns-in_default-clause-same g c =
 pub returns-in_default-clause-ok : goal.returns-in_default-clause-ok
 returns-in_default-clause-ok g c =
     came_busy g.S.Served.core c.args.pass.now.view c.begin.new.pass.view c.try_take.new.pass.view c.args.act c.first_part-first.result c.begin.ensures.begun c.begin.ensures.seen c.in_default.ensures.busy
-    c.first_part-first.ensures
+    c.args.reply.now c.first_part-first.ensures
 
 pub returns-in_err-alone-clause-err : goal.returns-in_err-alone-clause-err
 returns-in_err-alone-clause-err g c =
@@ -82,7 +82,7 @@ returns-in_default-try_take-clause-ok g c =
     let t = c.in-Some.ensures in
     came_given core c.args.pass.now.view c.begin.new.pass.view c.try_take.new.pass.view c.try_take-2.new.pass.view c.give.new.pass.view a c.first_part-first.result
     p c.in-Some-second.second b.begun b.seen t.taken t.seen c.in_default-try_take.ensures.busy c.give.ensures.given
-    c.first_part-first.ensures t.value (ap (λ n. core.second p n a) (sym c.number.ensures) ∙ (sym c.second_part-second.ensures ∙ c.in-Some-second.is))
+    c.args.reply.now c.first_part-first.ensures t.value (ap (λ n. core.second p n a) (sym c.number.ensures) ∙ (sym c.second_part-second.ensures ∙ c.in-Some-second.is))
 
 pub returns-in_err-together-clause-err : goal.returns-in_err-together-clause-err
 returns-in_err-together-clause-err g c =

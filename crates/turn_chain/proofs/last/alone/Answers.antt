@@ -1,5 +1,5 @@
 use Rattle.std.proofs.Common.{◌≡◌, None, ap, sym, subst, ◌∙◌}
-use Rattle.std.specs.Prelude.{IfOk, OnOk}
+use Rattle.std.specs.Prelude.{OnOk}
 use Rattle.turn_chain.specs.Chain.{HasRun}
 use Rattle.turn_chain.proofs.Ending.{lent_first, out_alone, named_alone, idle_alone, same_alone, ran_alone}
 use Rattle.turn_chain.proofs.last.alone.Goals as goal
@@ -53,6 +53,6 @@ returns-in-Ok-clause-ok g c =
     let k = c.args.one.number in
     let p = c.args.one.value in
     let told = c.commit.ensures.done a p None (out_alone g.S.Served.core v a k p r.ready r.first r.single) in
-    subst (λ made. IfOk made (λ reply. HasRun g.S.Served.core v a reply c.give.new.pass.view)) (sym c.in-Ok.is)
-    (ran_alone g.S.Served.core v a k p r.ready r.first r.single c.commit.new.pass.view told c.give.new.pass.view c.give.ensures.given c.in-Ok.field-0
-    ((subst (λ made. IfOk made (λ r. r ≡ g.S.Served.core.answer p None c.number.result a)) c.in-Ok.is c.alone-made.ensures.reply) ∙ ap (λ n. g.S.Served.core.answer p None n a) c.number.ensures))
+    subst (λ made. OnOk made (HasRun g.S.Served.core v a c.alone-made.new.reply c.give.new.pass.view)) (sym c.in-Ok.is)
+    (ran_alone g.S.Served.core v a k p r.ready r.first r.single c.commit.new.pass.view told c.give.new.pass.view c.give.ensures.given c.alone-made.new.reply
+    ((subst (λ made. OnOk made (c.alone-made.new.reply ≡ g.S.Served.core.answer p None c.number.result a)) c.in-Ok.is c.alone-made.ensures.reply) ∙ ap (λ n. g.S.Served.core.answer p None n a) c.number.ensures))

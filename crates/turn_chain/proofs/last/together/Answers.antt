@@ -1,5 +1,5 @@
 use Rattle.std.proofs.Common.{◌≡◌, Some, ap, sym, subst, ◌∙◌}
-use Rattle.std.specs.Prelude.{IfOk, OnOk, OnErr}
+use Rattle.std.specs.Prelude.{OnOk, OnErr}
 use Rattle.turn_chain.specs.Chain.{HasRun}
 use Rattle.turn_chain.specs.Lent.{AreBoth}
 use Rattle.turn_chain.proofs.Ending.{lent_both, out_both, named_again, named_first, named_second, idle_both, same_both, ran_both}
@@ -97,6 +97,6 @@ returns-in-Ok-clause-ok g c =
     let s = c.args.two.number in
     let q = c.args.two.value in
     let told = c.commit.ensures.done a p (Some q) (out_both g.S.Served.core v a g.S.Served.lawful r.fits k p s q r.ready r.first r.second) in
-    subst (λ made. IfOk made (λ reply. HasRun g.S.Served.core v a reply c.give-in-Ok.new.pass.view)) (sym c.in-Ok.is)
-    (ran_both g.S.Served.core v a g.S.Served.lawful r.fits k p s q r.ready r.first r.second c.commit.new.pass.view told c.give.new.pass.view c.give.ensures.given c.give-in-Ok.new.pass.view c.give-in-Ok.ensures.given c.in-Ok.field-0
-    ((subst (λ made. IfOk made (λ r. r ≡ g.S.Served.core.answer p (Some q) c.number.result a)) c.in-Ok.is c.together-made.ensures.reply) ∙ ap (λ n. g.S.Served.core.answer p (Some q) n a) c.number.ensures))
+    subst (λ made. OnOk made (HasRun g.S.Served.core v a c.together-made.new.reply c.give-in-Ok.new.pass.view)) (sym c.in-Ok.is)
+    (ran_both g.S.Served.core v a g.S.Served.lawful r.fits k p s q r.ready r.first r.second c.commit.new.pass.view told c.give.new.pass.view c.give.ensures.given c.give-in-Ok.new.pass.view c.give-in-Ok.ensures.given c.together-made.new.reply
+    ((subst (λ made. OnOk made (c.together-made.new.reply ≡ g.S.Served.core.answer p (Some q) c.number.result a)) c.in-Ok.is c.together-made.ensures.reply) ∙ ap (λ n. g.S.Served.core.answer p (Some q) n a) c.number.ensures))
