@@ -10,7 +10,7 @@ use cmd_lines::{End, status};
 use cmd_replay::replay;
 use edge_traits::{Keeper, OpenGate, Sink, Source};
 use real_edges::{NoStore, StdSink, StdSource, TcpDoor, WallClock};
-use serve_core::serve;
+use serve_call::serve;
 use std::alloc::{AllocError, Global};
 use std::io::ErrorKind;
 use std::net::{Net, TcpListener, TcpStream};

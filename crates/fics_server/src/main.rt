@@ -8,7 +8,7 @@ use cmd_run::run;
 use edge_traits::{Keeper, OpenGate};
 use file_keeper::{SqliteKeeper, StoreReader};
 use real_edges::{NoStore, StdSink, StdSource, TcpDoor, WallClock};
-use serve_core::serve;
+use serve_call::serve;
 use std::alloc::{AllocError, Global};
 use std::io::ErrorKind;
 use std::net::{Net, TcpListener, TcpStream};

@@ -9,6 +9,8 @@
 mod copied;
 mod records;
 mod sqlite_keeper;
+mod store;
+mod store_file;
 mod store_reader;
 
 pub use sqlite_keeper::SqliteKeeper;

@@ -31,7 +31,7 @@ use Rattle.restart_laws.proofs.OneShelf.{same_games}
 use Rattle.restart_laws.specs.Good.{LeavesGood, TellsGood}
 use Rattle.restart_laws.specs.Restart.{EndsWith, Evening, OpensBehind, RestartRestores, Restores}
 use Rattle.serve_core.proofs.Ending.{clean_last, text_last}
-use Rattle.serve_core.proofs.Opening.{table_agrees}
+use Rattle.serve_call.proofs.Opening.{table_agrees}
 use Rattle.serve_core.specs.Serving.{TellsAgreed}
 use Rattle.serve_core.specs.StewardLaws.{IsDone}
 use Rattle.serve_core.specs.Stewarding.{LeavesNoOrders}

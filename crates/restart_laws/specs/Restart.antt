@@ -14,7 +14,7 @@ use Rattle.one_server.specs.ResumedGames.{ResumesAsLeft}
 use Rattle.one_server.specs.Running.{Log}
 use Rattle.one_server.specs.Whole.{opened}
 use Rattle.one_server.specs.declared.part.Part.TheVariants.{Lobby as TheLobby}
-use Rattle.serve_core.specs.Opening.{IsLoaded}
+use Rattle.serve_call.specs.Opening.{IsLoaded}
 use Rattle.serve_core.specs.Outside.{Sheet}
 use Rattle.serve_core.specs.Serving.{HasServedAll}
 use Rattle.serve_core.specs.Stopping.{IsClean}

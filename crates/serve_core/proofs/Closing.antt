@@ -26,8 +26,8 @@ use Rattle.one_server.proofs.Made.{made_then}
 use Rattle.session_laws.specs.WhoSaves.{OthersServe}
 use Rattle.session_laws.proofs.OfHistories.{others_never_save}
 use Rattle.serve_core.specs.declared.end.ServeEnd.{ServeEnd}
-use Rattle.serve_core.specs.declared.settle.Supply.{Supply}
-use Rattle.serve_core.specs.declared.settle.Supply.TheVariants.{Enough, Short}
+use Rattle.serve_turn.specs.declared.supply.Supply.{Supply}
+use Rattle.serve_turn.specs.declared.supply.Supply.TheVariants.{Enough, Short}
 use Rattle.serve_core.specs.Keeping.{Underway}
 use Rattle.serve_core.specs.Sessions.{CameAs, CameBack, HadSession}
 use Rattle.serve_core.specs.Serving.{AgreesIn, EachHadSession, HasOneHistory, HasServedAll, IsUnused, TellsAgreed}
@@ -36,7 +36,7 @@ use Rattle.serve_core.specs.Outside.{Sheet}
 use Rattle.edge_traits.specs.Calls.{Store}
 use Rattle.serve_core.specs.Stewarding.{AreTurns, HasTended, MayEnd}
 use Rattle.serve_core.specs.Tending.{GivesQuiets, Tended, stand}
-use Rattle.serve_core.specs.Turns.{TurnsLast}
+use Rattle.serve_turn.specs.Turns.{TurnsLast}
 use Rattle.serve_core.proofs.Among.{in_map_from}
 use Rattle.serve_core.proofs.Keeping.{served_then}
 use Rattle.serve_core.proofs.LastTurn.{last_home, last_is, last_joined, last_leaves, last_made, last_number, last_opening, last_seen, last_splits, own_last}

@@ -11,14 +11,14 @@ use Rattle.serve_core.specs.declared.end.DoorEnd.{DoorEnd}
 use Rattle.serve_core.specs.declared.end.DoorEnd.TheVariants as door_end
 use Rattle.serve_core.specs.declared.end.ServeEnd.{ServeEnd}
 use Rattle.serve_core.specs.declared.end.ServeEnd.TheVariants.{Done, DoorFault, WriteFault, KeeperFault, Memory, Spent}
-use Rattle.serve_core.specs.declared.settle.Supply.{Supply}
-use Rattle.serve_core.specs.declared.settle.Supply.TheVariants.{Enough, Short}
+use Rattle.serve_turn.specs.declared.supply.Supply.{Supply}
+use Rattle.serve_turn.specs.declared.supply.Supply.TheVariants.{Enough, Short}
 use Rattle.serve_core.specs.StewardLaws.{IsDone}
 use Rattle.serve_core.specs.Stopping.{IsClean, end_of, is_short}
 use Rattle.serve_core.specs.Text.{Says, SaysText, closed_text, ready_text}
 use Rattle.serve_core.specs.Outside.{Sheet}
 use Rattle.serve_core.specs.Keeping.{Stopped}
-use Rattle.serve_core.specs.Turns.{supply_then}
+use Rattle.serve_turn.specs.Turns.{supply_then}
 
 -- ---- whether memory ran out
 

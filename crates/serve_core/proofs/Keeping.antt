@@ -21,9 +21,9 @@ use Rattle.edge_traits.specs.Calls.{Store}
 use Rattle.edge_traits.specs.declared.doorway.Answered.{Answered}
 use Rattle.edge_traits.specs.declared.doorway.Answered.TheVariants as answered
 use Rattle.steward_core.specs.declared.turn.StewardEnd.{StewardEnd}
-use Rattle.serve_core.specs.declared.settle.Supply.{Supply}
-use Rattle.serve_core.specs.declared.settle.Supply.TheVariants.{Enough, Short}
-use Rattle.serve_core.specs.Turns.{MadeTurn, supply_then}
+use Rattle.serve_turn.specs.declared.supply.Supply.{Supply}
+use Rattle.serve_turn.specs.declared.supply.Supply.TheVariants.{Enough, Short}
+use Rattle.serve_turn.specs.Turns.{MadeTurn, supply_then}
 use Rattle.serve_core.specs.Working.{Due, IsPaid}
 use Rattle.serve_core.specs.Keeping.{Comes, IsOwed, Underway, due_number, supply_after}
 use Rattle.serve_core.specs.Serving.{IsUnused}

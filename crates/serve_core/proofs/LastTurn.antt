@@ -18,9 +18,9 @@ use Rattle.one_server.specs.Running.{Log}
 use Rattle.one_server.specs.Whole.{IsWhole}
 use Rattle.hall_core.specs.Passes.{EveryoneJoined, PassState}
 use Rattle.steward_core.specs.declared.turn.StewardEnd.{StewardEnd}
-use Rattle.serve_core.specs.declared.settle.Supply.{Supply}
+use Rattle.serve_turn.specs.declared.supply.Supply.{Supply}
 use Rattle.serve_core.specs.Stewarding.{LeavesNoOrders, StewardTurn}
-use Rattle.serve_core.specs.Turns.{TurnsLast}
+use Rattle.serve_turn.specs.Turns.{TurnsLast}
 use Rattle.serve_core.proofs.Among.{in_map_from}
 use Rattle.serve_core.proofs.OrdersOver.{leaves_none}
 use Rattle.serve_core.proofs.Turning.{turn_home, turn_is, turn_made, turn_number, turn_opening, turn_splits}

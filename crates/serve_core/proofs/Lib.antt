@@ -11,9 +11,6 @@ pub mod Ending
 pub mod StewardLaws
 pub mod Closing
 pub mod Writing
-pub mod Opening
-pub mod ServeEnds
-pub mod Unopened
 pub mod Returning
 pub mod DesksOver
 pub mod GoodEnds

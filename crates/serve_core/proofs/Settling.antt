@@ -10,7 +10,7 @@ use Rattle.edge_traits.specs.Door.{DoorTale, IsOut, TakesBack}
 use Rattle.edge_traits.specs.WhereTold.{WhereTold}
 use Rattle.hall_core.specs.Passes.{IsJoined, PassState, divided, new_pass}
 use Rattle.link_core.specs.declared.link_end.LinkEnd.{LinkEnd}
-use Rattle.serve_core.specs.declared.settle.Supply.{Supply}
+use Rattle.serve_turn.specs.declared.supply.Supply.{Supply}
 use Rattle.serve_core.specs.Working.{Due, IsPaid}
 use Rattle.serve_core.specs.Keeping.{Comes, KeepsLeft, SameHall, Underway, supply_after}
 use Rattle.serve_core.proofs.Keeping.{given_here, given_not_first, given_out, kept_came, kept_paid}

@@ -15,13 +15,13 @@ use Rattle.steward_core.specs.declared.turn.StewardEnd.{StewardEnd}
 use Rattle.steward_core.specs.declared.turn.StewardEnd.TheVariants as steward
 use Rattle.steward_core.proofs.AgreedStill.{agreed_then, agreed_unsaved}
 use Rattle.one_server.proofs.Made.{made_none, made_then}
-use Rattle.serve_core.specs.declared.settle.Supply.{Supply}
-use Rattle.serve_core.specs.declared.settle.Supply.TheVariants.{Short}
+use Rattle.serve_turn.specs.declared.supply.Supply.{Supply}
+use Rattle.serve_turn.specs.declared.supply.Supply.TheVariants.{Short}
 use Rattle.serve_core.specs.Keeping.{supply_after}
 use Rattle.serve_core.specs.Stewarding.{AreTurns, MayEnd}
 use Rattle.serve_core.specs.Tending.{GivesQuiets, Stand, Tended, stand}
 use Rattle.edge_traits.specs.Calls.{Store}
-use Rattle.serve_core.specs.Turns.{MadeTurn, supply_then}
+use Rattle.serve_turn.specs.Turns.{MadeTurn, supply_then}
 use Rattle.serve_core.proofs.Keeping.{stays_short, then_short}
 use Rattle.serve_core.proofs.Telling.{where_as, where_same, where_then}
 use Rattle.serve_core.proofs.Turning.{may_end, turn_is, turns_append, turns_as}

@@ -8,20 +8,18 @@ use Rattle.lobby_shelf.specs.declared.order.Order.{Order}
 use Rattle.lobby_state.specs.declared.desk_in_use.DeskInUse.{DeskInUse}
 use Rattle.one_server.specs.declared.act.Timed.{Timed}
 use Rattle.one_server.specs.Running.{Log, RunnerState}
-use Rattle.hall_core.specs.Passes.{PassState, Fixed, fixed_of, runs_of}
+use Rattle.hall_core.specs.Passes.{PassState, Fixed}
 use Rattle.steward_core.specs.declared.clearing.ClearingEnd.{ClearingEnd}
 use Rattle.steward_core.specs.declared.clearing.ClearingEnd.TheVariants as clearing
 use Rattle.steward_core.specs.declared.turn.StewardEnd.{StewardEnd}
 use Rattle.steward_core.specs.declared.turn.StewardEnd.TheVariants.{Done, KeeperFault, Memory}
 use Rattle.steward_core.specs.Clearing.{AreClears, AsksAndClears, IsPartOf, IsClearing, acts_of, clears, rows_told}
 use Rattle.steward_core.specs.Saving.{AreFullRounds, EndsSaving, IsCutShort, IsSaveRound, IsSaving, last_number, says_saved, tells_upto}
-use Rattle.steward_core.specs.Agreement.{StaysAgreed}
-use Rattle.steward_core.specs.Turn.{TakesTurn, end_of_turn}
-use Rattle.serve_core.specs.declared.settle.Supply.{Supply}
-use Rattle.serve_core.specs.declared.settle.Supply.TheVariants.{Short}
+use Rattle.steward_core.specs.Turn.{end_of_turn}
+use Rattle.serve_turn.specs.declared.supply.Supply.{Supply}
 use Rattle.serve_core.specs.StewardLaws.{AreStewards, IsDone, IsStewards, times_asked, asks_once}
 use Rattle.serve_core.specs.Stewarding.{AreTurns, MayEnd, StewardTurn}
-use Rattle.serve_core.specs.Turns.{MadeTurn, supply_in}
+use Rattle.serve_turn.specs.Turns.{MadeTurn}
 use Rattle.steward_core.proofs.DesksCleared.{part_of_itself}
 
 -- entries of a steward that ask so often which desks are in use
@@ -222,23 +220,3 @@ module _ (end : StewardEnd) (supply : Supply) (before after : Store) (old new : 
 
   abbrev pub turn_is : StewardTurn
   turn_is = record { end = end; entries = turn.turn.entries; moment = turn.moment; carried = turn.turn.carried; turn = turn.turn.turn }
-
--- ---- a turn whose halves are known
-
-short_end : (cleared : ClearingEnd) (end : StewardEnd) → end ≡ Memory → supply_in cleared end ≡ Short
-short_end clearing.Memory end e = refl
-short_end clearing.Done end e = subst (λ (x : StewardEnd). supply_in clearing.Done x ≡ Short) (sym e) refl
-
-short_clearing : (cleared : ClearingEnd) (end : StewardEnd) → cleared ≡ clearing.Memory → supply_in cleared end ≡ Short
-short_clearing cleared end e = subst (λ (x : ClearingEnd). supply_in x end ≡ Short) (sym e) refl
-
-pub made_halves : (moment : ℕ) (cleared : ClearingEnd) (end : StewardEnd) (before after : Store) (old new : PassState) → fixed_of new ≡ fixed_of old → (t : TakesTurn moment end before after (runs_of old) (runs_of new))
-    → t.turn.cleared ≡ cleared → StaysAgreed before.table after.table (runs_of old) (runs_of new) → MadeTurn end (supply_in cleared end) before after old new
-made_halves moment cleared end before after old new shared t is agrees = record {
-  moment = moment;
-  shared = shared;
-  turn = t;
-  agrees = agrees;
-  short = short_end cleared end;
-  short_first = λ e. short_clearing cleared end (sym is ∙ e);
-}

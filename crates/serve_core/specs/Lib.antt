@@ -1,6 +1,5 @@
 pub mod EndLaws
 pub mod Laws
-pub mod Opening
 pub mod Outside
 pub mod Serving
 pub mod Sessions
@@ -9,7 +8,5 @@ pub mod Stewarding
 pub mod Stopping
 pub mod Text
 pub mod Keeping
-pub mod ServeEnds
 pub mod Tending
-pub mod Turns
 pub mod Working

@@ -8,8 +8,8 @@ use Rattle.hall_core.specs.Passes.{PassState, runs_of}
 use Rattle.steward_core.specs.Agreement.{StaysAgreed}
 use Rattle.edge_traits.specs.Calls.{Store}
 use Rattle.serve_core.specs.Stewarding.{AreTurns, MayEnd}
-use Rattle.serve_core.specs.declared.settle.Supply.{Supply}
-use Rattle.serve_core.specs.declared.settle.Supply.TheVariants.{Short}
+use Rattle.serve_turn.specs.declared.supply.Supply.{Supply}
+use Rattle.serve_turn.specs.declared.supply.Supply.TheVariants.{Short}
 
 -- where the door's thread stands: its pass, whether memory ran out somewhere, what the door tells, and the keeper
 pub record Stand : Type 0 where

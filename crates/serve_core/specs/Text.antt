@@ -10,7 +10,7 @@ use Rattle.steward_core.specs.declared.turn.StewardEnd.{StewardEnd}
 use Rattle.serve_core.specs.declared.end.DoorEnd.{DoorEnd}
 use Rattle.serve_core.specs.declared.end.DoorEnd.TheVariants as door_end
 use Rattle.serve_core.specs.declared.end.ServeEnd.{ServeEnd}
-use Rattle.serve_core.specs.declared.settle.Supply.{Supply}
+use Rattle.serve_turn.specs.declared.supply.Supply.{Supply}
 use Rattle.serve_core.specs.Outside.{Sheet}
 use Rattle.serve_core.specs.Stopping.{IsStopped, end_of, is_short}
 

@@ -9,9 +9,9 @@ ghost use Rattle.edge_traits.specs.Calls.{Store};
 ghost use Rattle.serve_core.specs.Tending.{Tended, stand};
 
 use crate::settle::Host;
-use crate::shared::Shared;
 use crate::worker::{start, work};
 use edge_traits::{Clock, Doorway, Gate};
+use serve_turn::Shared;
 use std::alloc::Global;
 use std::sync::atomic::AtomicBool;
 use std::sync::{Arc, Wait};

@@ -6,14 +6,14 @@ ghost use Rattle.edge_traits.specs.WhereTold.{WhereTold};
 ghost use Rattle.serve_core.specs.Keeping.{KeepsLeft, SameHall, Underway, Stopped};
 ghost use Rattle.edge_traits.specs.Calls.{Store, store_of};
 ghost use Rattle.serve_core.specs.Tending.{Tended, stand};
-ghost use Rattle.serve_core.specs.declared.settle.Supply.TheVariants.{Enough};
+ghost use Rattle.serve_turn.specs.declared.supply.Supply.TheVariants.{Enough};
 
 use crate::end::DoorEnd;
 use crate::round::round;
-use crate::settle::{Host, Supply};
-use crate::shared::Shared;
+use crate::settle::Host;
 use edge_traits::{Clock, Doorway, Gate, Keeper};
 use hall_core::HallPass;
+use serve_turn::{Shared, Supply};
 use std::sync::Wait;
 use std::thread::{self, Scope, Threads};
 

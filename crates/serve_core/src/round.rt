@@ -7,20 +7,19 @@ ghost use Rattle.edge_traits.specs.WhereTold.{WhereTold};
 ghost use Rattle.edge_traits.specs.Faults.{Rose};
 ghost use Rattle.serve_core.specs.Keeping.{Underway, Stopped};
 ghost use Rattle.serve_core.specs.Tending.{Tended, stand};
-ghost use Rattle.serve_core.specs.Turns.{MadeTurn, supply_then};
+ghost use Rattle.serve_turn.specs.Turns.{MadeTurn, supply_then};
 ghost use Rattle.serve_core.specs.declared.end.DoorEnd.{DoorEnd};
 ghost use Rattle.serve_core.specs.declared.end.DoorEnd.TheVariants.{Spent};
-ghost use Rattle.serve_core.specs.declared.settle.Supply.{Supply};
+ghost use Rattle.serve_turn.specs.declared.supply.Supply.{Supply};
 ghost use Rattle.steward_core.specs.declared.turn.StewardEnd.{StewardEnd};
 ghost use Rattle.steward_core.specs.declared.turn.StewardEnd.TheVariants.{KeeperFault};
 
 use crate::attend::attend;
 use crate::end::DoorEnd;
 use crate::settle::Host;
-use crate::shared::Shared;
-use crate::turn::turn;
 use edge_traits::{Came, Clock, Doorway, Gate, Keeper, Link};
 use hall_core::HallPass;
+use serve_turn::{Shared, turn};
 use std::sync::Wait;
 use std::thread::{Scope, Threads};
 

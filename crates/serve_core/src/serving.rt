@@ -13,19 +13,15 @@ ghost use Rattle.hall_core.specs.Passes.{first_pass, noted};
 ghost use Rattle.serve_core.specs.Serving.{HasServedAll, IsUnused};
 ghost use Rattle.serve_core.specs.Stopping.{IsClean, end_of, is_short};
 ghost use Rattle.serve_core.specs.Text.{closed_text, ready_text, whole_text};
-ghost use Rattle.serve_core.specs.Turns.{TurnsLast};
-ghost use Rattle.steward_core.specs.declared.turn.StewardEnd.{StewardEnd};
 ghost use Rattle.serve_core.specs.declared.end.ServeEnd.{ServeEnd};
 
 use crate::end::{DoorEnd, ServeEnd};
 use crate::hosting::host_links;
-use crate::settle::Supply;
-use crate::shared::Shared;
-use crate::turn::turn;
 use edge_traits::{Clock, Doorway, Gate, Keeper, Sent, Sink};
 use hall_core::{Hall, HallPass};
 use lobby_state::{Lobby, lobbies_are_well_formed};
 use one_server::every_state_agrees;
+use serve_turn::{Shared, Supply, last_turn};
 use std::alloc::Global;
 use std::sync::Wait;
 use std::thread::Threads;
@@ -172,26 +168,6 @@ fn is_short(supply: Supply, sent: Sent) -> bool
         (Supply::Enough, Sent::Memory) => true,
         (Supply::Enough, _) => false,
     }
-}
-
-/// The last turn of the steward, and whether memory ran out in it. The pass looks at the whole history before it and
-/// behind it.
-fn last_turn<T: Threads + Wait, C: Clock, G: Gate, P: Keeper>(
-    shared: &Shared<'_, T, C, G>,
-    pass: HallPass,
-    keeper: &mut P,
-) -> (HallPass, StewardEnd, Supply)
-    requires here { pass.home ≡ shared.now.hall.now }
-    ensures turn { TurnsLast result.1 result.2 (store_of P.table P.faults P.calls keeper.old)
-        (store_of P.table P.faults P.calls keeper.new) pass result.0 }
-    ensures fault { result.1 ≡ StewardEnd.KeeperFault → Rose (P.faults keeper.old) (P.faults keeper.new) }
-    ensures counted { P.faults keeper.old ≤ P.faults keeper.new }
-{
-    let mut pass = pass;
-    shared.hall.look(&mut pass);
-    let (mut pass, end, made) = turn(shared, pass, keeper);
-    shared.hall.look(&mut pass);
-    (pass, end, made)
 }
 
 /// How serving ends.

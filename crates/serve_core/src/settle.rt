@@ -8,37 +8,15 @@ ghost use Rattle.serve_core.specs.Keeping.{KeepsLeft, SameHall, Underway, supply
 ghost use Rattle.edge_traits.specs.Calls.{Store};
 ghost use Rattle.serve_core.specs.Tending.{Tended, stand};
 
-use crate::shared::Shared;
 use crate::worker::{Returned, Worker};
 use edge_traits::{Clock, Doorway, Gate, Link};
 use hall_core::{Hall, HallPass};
 use link_core::LinkEnd;
+use serve_turn::{Shared, Supply};
 use std::alloc::Global;
 use std::sync::atomic::AtomicBool;
 use std::sync::{Arc, Wait};
 use std::thread::Threads;
-
-/// Whether something ran out of memory so far: a worker, or a turn of the steward.
-#[derive(Clone, Copy)]
-pub enum Supply {
-    Enough,
-    Short,
-}
-
-impl Supply {
-    ghost use Rattle.std.specs.Prelude.{◌≡◌};
-    ghost use Rattle.serve_core.specs.Turns.{supply_then};
-
-    /// Whether something ran out of memory, once something did or didn't that came behind.
-    pub fn then(self, before: Supply) -> Supply
-        ensures { result ≡ supply_then self before }
-    {
-        match self {
-            Supply::Enough => before,
-            Supply::Short => Supply::Short,
-        }
-    }
-}
 
 /// What the door's thread keeps: the first pass, the workers that it started and hasn't joined, and whether memory ran
 /// out somewhere.

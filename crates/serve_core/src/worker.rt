@@ -4,11 +4,11 @@ ghost use Rattle.std.specs.Prelude.{◌≡◌, [], IfOk, IfErr};
 ghost use Rattle.edge_traits.specs.Link.{IsOpen};
 ghost use Rattle.serve_core.specs.Working.{Due, IsPaid};
 
-use crate::shared::Shared;
 use core::thread::Stack;
 use edge_traits::{Clock, Gate, Link};
 use hall_core::HallPass;
 use link_core::{LinkEnd, serve_link};
+use serve_turn::Shared;
 use std::alloc::Global;
 use std::marker::Model;
 use std::snapshot::Snapshot;

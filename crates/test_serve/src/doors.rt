@@ -6,7 +6,7 @@ use crate::held_stage::say;
 use crate::words::words_of;
 use edge_traits::{Came, Doorway, Heard, Link, OpenGate, Sent, StillClock};
 use memory_edges::{MemKeeper, MemSink};
-use serve_core::serve;
+use serve_call::serve;
 use std::alloc::Global;
 use std::sync::Arc;
 use std::sync::atomic::{AtomicBool, Ordering};

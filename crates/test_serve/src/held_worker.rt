@@ -7,7 +7,7 @@ use crate::held_stage::{Player, Seen, Stage};
 use crate::words::words_of;
 use edge_traits::{Came, Doorway, StillClock};
 use memory_edges::{MemKeeper, MemSink};
-use serve_core::serve;
+use serve_call::serve;
 use std::alloc::{AllocError, Global};
 use std::sync::Wait;
 use std::test::Fail;

@@ -6,7 +6,7 @@ use crate::timed_stage::{Players, Said, Stage};
 use crate::words::words_of;
 use edge_traits::{Came, Doorway, Heard, Link, OpenGate, Sent, StillClock};
 use memory_edges::{MemKeeper, MemSink};
-use serve_core::serve;
+use serve_call::serve;
 use std::alloc::{AllocError, Global};
 use std::sync::Wait;
 use std::test::Fail;

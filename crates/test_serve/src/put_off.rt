@@ -9,7 +9,7 @@ use edge_traits::{
     StillClock,
 };
 use memory_edges::MemSink;
-use serve_core::serve;
+use serve_call::serve;
 use std::alloc::Global;
 use std::sync::atomic::{AtomicBool, Ordering};
 use std::test::Fail;

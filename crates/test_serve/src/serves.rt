@@ -7,7 +7,7 @@ ghost use Rattle.memory_edges.specs.MemDoor.{AreNew};
 
 use edge_traits::{OpenGate, StillClock};
 use memory_edges::{LinkStep, MemDoor, MemKeeper, MemLink, MemSink};
-use serve_core::serve;
+use serve_call::serve;
 use std::alloc::{AllocError, Global};
 use std::sync::Wait;
 use std::test::Fail;

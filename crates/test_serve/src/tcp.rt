@@ -4,7 +4,7 @@ use crate::words::words_of;
 use edge_traits::{OpenGate, Sink};
 use memory_edges::{MemKeeper, MemSink};
 use real_edges::{TcpDoor, WallClock};
-use serve_core::serve;
+use serve_call::serve;
 use std::alloc::Global;
 use std::io::{self, ErrorKind, Read, Write};
 use std::net::{Net, TcpListener, TcpStream};

@@ -2,7 +2,7 @@ use Rattle.std.proofs.Common.{◌∙◌, arith, refl, rules}
 use Rattle.edge_traits.specs.Door.{KeepsLinks}
 use Rattle.serve_core.specs.Tending.{Stand, stand}
 use Rattle.edge_traits.specs.Calls.{Store, store_of}
-use Rattle.serve_core.specs.declared.settle.Supply.TheVariants.{Enough}
+use Rattle.serve_turn.specs.declared.supply.Supply.TheVariants.{Enough}
 use Rattle.serve_core.proofs.Stopping.{some_stops, stopped_on}
 use Rattle.serve_core.proofs.Telling.{where_same, links_then}
 use Rattle.serve_core.proofs.Tending.{tended_same, tended_then}

@@ -4,7 +4,7 @@ use Rattle.edge_traits.specs.WhereTold.{WhereTold}
 use Rattle.edge_traits.specs.Calls.{store_of}
 use Rattle.serve_core.specs.Keeping.{Underway}
 use Rattle.serve_core.specs.Tending.{Tended, stand}
-use Rattle.serve_core.specs.declared.settle.Supply.TheVariants.{Enough}
+use Rattle.serve_turn.specs.declared.supply.Supply.TheVariants.{Enough}
 use Rattle.serve_core.proofs.hosting.take_links.Given as goal
 
 abbrev pub invariant-loop : goal.invariant-loop

@@ -3,11 +3,11 @@ use Rattle.edge_traits.specs.Faults.{Rose}
 use Rattle.edge_traits.specs.Door.{Gives}
 use Rattle.edge_traits.specs.declared.doorway.Answered.TheVariants as answered
 use Rattle.edge_traits.specs.declared.doorway.Came.TheVariants as came
-use Rattle.serve_core.specs.declared.settle.Supply.{Supply}
+use Rattle.serve_turn.specs.declared.supply.Supply.{Supply}
 use Rattle.serve_core.specs.Keeping.{Underway}
 use Rattle.serve_core.specs.Tending.{Stand, Tended, stand}
 use Rattle.edge_traits.specs.Calls.{Store, store_of}
-use Rattle.serve_core.specs.Turns.{supply_then}
+use Rattle.serve_turn.specs.Turns.{supply_then}
 use Rattle.serve_core.proofs.Keeping.{kept_answered, kept_quiet}
 use Rattle.serve_core.proofs.Stopping.{stops_closed, stops_failed, stops_spent}
 use Rattle.serve_core.proofs.Telling.{links_came, links_stay, where_as}

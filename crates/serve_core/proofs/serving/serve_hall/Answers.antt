@@ -4,14 +4,14 @@ use Rattle.edge_traits.specs.declared.sink.Sent.TheVariants as sent
 use Rattle.serve_core.specs.declared.end.DoorEnd.TheVariants as door_end
 use Rattle.serve_core.specs.declared.end.ServeEnd.{ServeEnd}
 use Rattle.serve_core.specs.declared.end.ServeEnd.TheVariants.{DoorFault, KeeperFault, WriteFault}
-use Rattle.serve_core.specs.declared.settle.Supply.TheVariants.{Enough, Short}
+use Rattle.serve_turn.specs.declared.supply.Supply.TheVariants.{Enough, Short}
 use Rattle.serve_core.specs.Stopping.{IsClean, end_of, is_short}
 use Rattle.serve_core.specs.Outside.{Sheet}
 use Rattle.edge_traits.specs.Calls.{Store, store_of}
 use Rattle.serve_core.specs.Text.{closed_text, ready_text}
 use Rattle.serve_core.specs.Stewarding.{MayEnd}
 use Rattle.serve_core.specs.Tending.{stand}
-use Rattle.serve_core.specs.Turns.{supply_then}
+use Rattle.serve_turn.specs.Turns.{supply_then}
 use Rattle.serve_core.proofs.Closing.{all_served}
 use Rattle.serve_core.proofs.Ending.{LastEnds, closes_by, closes_unready, comes, short_before, short_made, short_turn, told_by}
 use Rattle.serve_core.proofs.Keeping.{kept_first}

@@ -20,8 +20,8 @@ use Rattle.lobby_load.specs.declared.refusals.StoreFault.{StoreFault}
 use Rattle.lobby_load.specs.declared.refusals.StoreFault.TheVariants as unopened
 use Rattle.lobby_state.specs.Lobby.{LobbyState}
 use Rattle.lobby_load.specs.Refused.{unopened_status}
-use Rattle.serve_core.specs.ServeEnds.{EndsCall, Counts, OneRose}
-use Rattle.serve_core.specs.Opening.{StaysUnopened}
+use Rattle.serve_call.specs.ServeEnds.{EndsCall, Counts, OneRose}
+use Rattle.serve_call.specs.Opening.{StaysUnopened}
 use Rattle.serve_core.specs.Outside.{Sheet}
 use Rattle.edge_traits.specs.Calls.{Store}
 use Rattle.serve_core.specs.declared.end.ServeEnd.{ServeEnd}

@@ -2,9 +2,9 @@ use Rattle.std.proofs.Common.{subst}
 use Rattle.edge_traits.specs.Calls.{Store, store_of}
 use Rattle.hall_core.specs.Passes.{PassState}
 use Rattle.steward_core.specs.Turn.{end_of_turn}
-use Rattle.serve_core.specs.Turns.{MadeTurn, supply_in}
-use Rattle.serve_core.proofs.Turning.{made_halves}
-use Rattle.serve_core.proofs.turn.turn.Goals as goal
+use Rattle.serve_turn.specs.Turns.{MadeTurn, supply_in}
+use Rattle.serve_turn.proofs.Halves.{made_halves}
+use Rattle.serve_turn.proofs.turn.turn.Goals as goal
 
 pub returns-clause-turn : goal.returns-clause-turn
 returns-clause-turn g c =

@@ -1,13 +1,13 @@
 use Rattle.std.proofs.Common.{inl, inr, ap}
 use Rattle.one_server.specs.Whole.{opened}
-use Rattle.serve_core.specs.Opening.{IsLoaded}
+use Rattle.serve_call.specs.Opening.{IsLoaded}
 use Rattle.serve_core.specs.Outside.{Sheet}
 use Rattle.edge_traits.specs.Calls.{Store, store_of}
 use Rattle.serve_core.specs.Text.{whole_text}
-use Rattle.serve_core.proofs.Opening.{appends_from, front_from, load_done, served_from, some_as, table_agrees}
-use Rattle.serve_core.proofs.ServeEnds.{told_from}
-use Rattle.serve_core.proofs.Unopened.{none_as, none_opened, unopened_by}
-use Rattle.serve_core.proofs.serve_call.serve_players.Goals as goal
+use Rattle.serve_call.proofs.Opening.{appends_from, front_from, load_done, served_from, some_as, table_agrees}
+use Rattle.serve_call.proofs.ServeEnds.{told_from}
+use Rattle.serve_call.proofs.Unopened.{none_as, none_opened, unopened_by}
+use Rattle.serve_call.proofs.serve_call.serve_players.Goals as goal
 use Rattle.cmd_lines.proofs.Rounds.{Rose-since}
 
 pub returns-in-Ok-clause-served : goal.returns-in-Ok-clause-served

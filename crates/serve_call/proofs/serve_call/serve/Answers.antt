@@ -3,9 +3,9 @@ use Rattle.std.specs.Prelude.{Contains}
 use Rattle.serve_core.specs.Outside.{Sheet}
 use Rattle.edge_traits.specs.Calls.{Store, store_of}
 use Rattle.lobby_load.specs.declared.refusals.StoreFault.TheVariants as unopened
-use Rattle.serve_core.proofs.Unopened.{unasked}
-use Rattle.serve_core.proofs.ServeEnds.{call_bad, call_calm, call_door, call_good, call_keeper, call_listed, call_text, call_told, call_usage, call_write, one_rose, usage_else, usage_front, usage_listed, usage_told}
-use Rattle.serve_core.proofs.serve_call.serve.Goals as goal
+use Rattle.serve_call.proofs.Unopened.{unasked}
+use Rattle.serve_call.proofs.ServeEnds.{call_bad, call_calm, call_door, call_good, call_keeper, call_listed, call_text, call_told, call_usage, call_write, one_rose, usage_else, usage_front, usage_listed, usage_told}
+use Rattle.serve_call.proofs.serve_call.serve.Goals as goal
 
 pub returns-in-Ok-clause-usage : goal.returns-in-Ok-clause-usage
 returns-in-Ok-clause-usage g c = λ e.

@@ -15,7 +15,7 @@ use Rattle.lobby_load.specs.Refused.{OnReadFault, OnWriteFault, UnlessWriteFault
 use Rattle.lobby_load.specs.Telling.{Tells}
 use Rattle.lobby_load.specs.declared.refusals.StoreFault.{StoreFault}
 use Rattle.lobby_load.specs.declared.refusals.StoreFault.TheVariants as unopened
-use Rattle.serve_core.specs.Opening.{CallsUnopened, StaysUnopened}
+use Rattle.serve_call.specs.Opening.{CallsUnopened, StaysUnopened}
 use Rattle.lobby_state.specs.Lobby.{LobbyState}
 use Rattle.serve_core.specs.Outside.{Sheet}
 use Rattle.edge_traits.specs.Calls.{Calls, Store}

@@ -8,8 +8,8 @@ use Rattle.steward_core.specs.declared.clearing.ClearingEnd.{ClearingEnd}
 use Rattle.steward_core.specs.declared.clearing.ClearingEnd.TheVariants as clearing
 use Rattle.steward_core.specs.declared.turn.StewardEnd.{StewardEnd}
 use Rattle.steward_core.specs.declared.turn.StewardEnd.TheVariants.{Done, KeeperFault, Memory}
-use Rattle.serve_core.specs.declared.settle.Supply.{Supply}
-use Rattle.serve_core.specs.declared.settle.Supply.TheVariants.{Enough, Short}
+use Rattle.serve_turn.specs.declared.supply.Supply.{Supply}
+use Rattle.serve_turn.specs.declared.supply.Supply.TheVariants.{Enough, Short}
 
 -- the first pass made a turn of the steward, at some moment, over a keeper that stood so before it and after; and it is known whether memory ran out in it
 pub record MadeTurn (end : StewardEnd) (supply : Supply) (before after : Store) (old new : PassState) : Type 0 where

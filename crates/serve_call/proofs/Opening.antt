@@ -32,7 +32,7 @@ use Rattle.hall_core.specs.Passes.{PassState}
 use Rattle.steward_core.proofs.StatesLead.{one_lobby}
 use Rattle.serve_core.specs.declared.end.ServeEnd.{ServeEnd}
 use Rattle.steward_core.specs.declared.turn.StewardEnd.{StewardEnd}
-use Rattle.serve_core.specs.Opening.{IsLoaded}
+use Rattle.serve_call.specs.Opening.{IsLoaded}
 use Rattle.serve_core.specs.Serving.{AgreesIn, HasServedAll, TellsAgreed}
 use Rattle.serve_core.specs.Text.{Says, SaysText, ready_text}
 use Rattle.serve_core.specs.Outside.{Sheet}

@@ -1,8 +1,8 @@
 use Rattle.std.proofs.Common.{subst}
 use Rattle.cmd_job.specs.Jobs.{Names}
 use Rattle.cmd_job.specs.declared.job.Job.{Job}
-use Rattle.serve_core.proofs.ServeEnds.{no_serve}
-use Rattle.serve_core.proofs.serve_call.asks_to_serve.Goals as goal
+use Rattle.serve_call.proofs.ServeEnds.{no_serve}
+use Rattle.serve_call.proofs.serve_call.asks_to_serve.Goals as goal
 
 pub returns-in-Ok-Serve-clause-asks : goal.returns-in-Ok-Serve-clause-asks
 returns-in-Ok-Serve-clause-asks c =

@@ -1,12 +1,12 @@
-//! A turn of the steward, with the hall's first pass.
+//! A turn of the steward, with the hall's first pass, and the last one.
 
 ghost use Rattle.std.specs.Prelude.{◌≡◌, ◌≤◌};
 ghost use Rattle.edge_traits.specs.Calls.{store_of};
 ghost use Rattle.edge_traits.specs.Faults.{Rose};
-ghost use Rattle.serve_core.specs.Turns.{MadeTurn, supply_in};
+ghost use Rattle.serve_turn.specs.Turns.{MadeTurn, TurnsLast, supply_in};
 
-use crate::settle::Supply;
 use crate::shared::Shared;
+use crate::supply::Supply;
 use clock_ledger::{LAST_MOMENT, Moment};
 use edge_traits::{Clock, Gate, Keeper};
 use hall_core::HallPass;
@@ -32,6 +32,26 @@ pub fn turn<T: Threads + Wait, C: Clock, G: Gate, P: Keeper>(
     let (cleared, saved) = turn_by_halves(shared.alloc, &mut seat, keeper, moment);
     let end = end_of_turn(cleared, saved);
     (seat.into_pass(), end, supply_in(cleared, end))
+}
+
+/// The last turn of the steward, and whether memory ran out in it. The pass looks at the whole history before it and
+/// behind it.
+pub fn last_turn<T: Threads + Wait, C: Clock, G: Gate, P: Keeper>(
+    shared: &Shared<'_, T, C, G>,
+    pass: HallPass,
+    keeper: &mut P,
+) -> (HallPass, StewardEnd, Supply)
+    requires here { pass.home ≡ shared.now.hall.now }
+    ensures turn { TurnsLast result.1 result.2 (store_of P.table P.faults P.calls keeper.old)
+        (store_of P.table P.faults P.calls keeper.new) pass result.0 }
+    ensures fault { result.1 ≡ StewardEnd.KeeperFault → Rose (P.faults keeper.old) (P.faults keeper.new) }
+    ensures counted { P.faults keeper.old ≤ P.faults keeper.new }
+{
+    let mut pass = pass;
+    shared.hall.look(&mut pass);
+    let (mut pass, end, made) = turn(shared, pass, keeper);
+    shared.hall.look(&mut pass);
+    (pass, end, made)
 }
 
 /// Whether memory ran out in a turn whose first half ended like this, and the whole of it like that.

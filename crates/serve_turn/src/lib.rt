@@ -1,0 +1,15 @@
+//! A turn of the steward, made with a hall's first pass.
+//!
+//! `turn` makes one at the present moment, and says how it ended and whether memory ran out in it; `last_turn` has the
+//! pass look at the whole history before it and behind it. The contracts (`specs/Turns.antt`): the pass made the
+//! entries of one turn and no others, the keeper had its calls alone, a table that agreed still agrees, and want of
+//! memory is told only with word that memory ran out.
+#![tactic(auto)]
+
+mod shared;
+mod supply;
+mod turn;
+
+pub use shared::Shared;
+pub use supply::Supply;
+pub use turn::{last_turn, turn};
