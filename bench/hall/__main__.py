@@ -2,12 +2,16 @@
 `pace_hall`."""
 
 import os
+import re
+import shutil
 import subprocess
 import sys
+import tempfile
 import time
 from collections.abc import Iterator
+from pathlib import Path
 
-from bench.measure import machine, program_for
+from bench.measure import checked, machine, words_for
 
 Run = tuple[float, float, int]  # its seconds, those of processors, and the acts that it says it made
 THREADS = [1, 2, 4, 8]
@@ -16,6 +20,9 @@ MOVE_ROUNDS = 600
 # what a member does in a full hall, and how often
 DEEDS = {"enter": 2_000, "match": 2_000, "start": 2_000, "post": 2_000, "partner": 2_000, "join": 2_000, "tell": 2_000}
 RUNS = 5
+# what is asked of the shelf, over how many games, and how often a thing is done whose instructions are counted
+ASKED, SHELVES, SHELF_ROUNDS, FULL_ROUNDS = ("stored", "resume", "adjourn"), (0, 100, 1_000, 9_000), 20, 200
+COUNTED = re.compile(r"Collected : (\d+)")
 
 
 def run(program: str, words: list[object]) -> Run:
@@ -64,9 +71,40 @@ def full_hall(program: str) -> None:
         print(f"{deed:<28}{rounds:>10}{1e6 * (busy - filled) / rounds:>26.2f}", flush=True)
 
 
-def main() -> None:
-    program = program_for("pace_hall", __doc__)
-    print(machine())
+def instructions(program: str, words: list[object]) -> int:
+    """The instructions of a run of the program on these words, which valgrind counts."""
+    with tempfile.NamedTemporaryFile() as file:
+        counter = ["valgrind", "--tool=callgrind", f"--callgrind-out-file={file.name}", program, *map(str, words)]
+        ran = subprocess.run(counter, capture_output=True, text=True, check=False)
+    found = COUNTED.search(ran.stderr)
+    if ran.returncode or not found or not ran.stdout.endswith(("acts\n", "rounds\n")):
+        sys.exit(f"bench: {' '.join(map(str, words))}: status {ran.returncode}, {ran.stdout!r}, {ran.stderr[-300:]!r}")
+    return int(found[1])
+
+
+def instructions_of_round(program: str, words: list[object], rounds: int) -> int:
+    """Those of one round, beyond the start and what is there before the first one."""
+    return (instructions(program, [*words, rounds]) - instructions(program, [*words, 0])) // rounds
+
+
+def print_instructions(programs: list[str]) -> None:
+    """Prints the tables of this folder's page that count instructions, the second one with a column a program."""
+    if not shutil.which("valgrind"):
+        sys.exit("bench: Debian's package valgrind isn't there, which counts instructions")
+    print("| Games on the shelf |" + "".join(f" {games:,} |" for games in SHELVES))
+    print("|---|" + "---|" * len(SHELVES))
+    for what in ASKED:
+        counts = [instructions_of_round(programs[0], ["shelf", what, games], SHELF_ROUNDS) for games in SHELVES]
+        print(f"| `{what}` |" + "".join(f" {count:,} |" for count in counts), flush=True)
+    print("\n| Deed |" + "".join(f" {Path(it).name} |" for it in programs))
+    print("|---|" + "---|" * len(programs))
+    for deed in DEEDS:
+        counts = [instructions_of_round(it, ["full", deed], FULL_ROUNDS) for it in programs]
+        print(f"| `{deed}` |" + "".join(f" {round(count, -2):,} |" for count in counts), flush=True)
+
+
+def timings(program: str) -> None:
+    """Prints the acts a second of each case, and what a member does in a full hall takes."""
     print(f"{'case':<28}{'acts':>10}{'seconds':>10}{'acts/s':>12}{'pace':>8}{'us of processor':>17}{'cost':>8}")
     base: dict[str, tuple[float, float]] = {}
     for name, place, what, threads, tables, rounds in cases():
@@ -78,6 +116,30 @@ def main() -> None:
             flush=True,
         )
     full_hall(program)
+
+
+def main() -> None:
+    words = words_for("pace_hall", __doc__)
+    words.add_argument(
+        "--instructions",
+        action="store_true",
+        help="counts the instructions of what is asked of the shelf and done in a full hall, by valgrind, in place of "
+        "all else",
+    )
+    words.add_argument(
+        "--beside",
+        metavar="OTHER",
+        type=Path,
+        help="with --instructions, another program whose column stands beside it, as one built from another revision",
+    )
+    chosen = words.parse_args()
+    program = checked(chosen.program, "pace_hall")
+    print(machine())
+    if chosen.instructions:
+        others = [checked(chosen.beside, "pace_hall")] if chosen.beside else []
+        print_instructions([program, *others])
+        return
+    timings(program)
 
 
 if __name__ == "__main__":

@@ -1,4 +1,5 @@
-"""Lines of program code and of tools within 120 columns, and their files within 600 lines."""
+"""Lines of program code, definitions, proofs and tools within 120 columns, and files of code and tools within 600
+lines."""
 from .sources import of_crates, text, tracked
 
 MOST_COLUMNS, MOST_LINES = 120, 600
@@ -13,12 +14,20 @@ def is_script(file):
     return file.parts[0] == "tools" and (file.suffix in SCRIPTS or (not file.suffix and text(file).startswith("#!")))
 
 
+def wide_lines(file):
+    for at, line in enumerate(text(file).splitlines(), 1):
+        if len(line) > MOST_COLUMNS and not is_import(line):
+            yield f"{file}:{at} has {len(line)} columns, more than {MOST_COLUMNS}"
+
+
 def faults():
     code = [it for it in of_crates("src") if not it.parts[1].startswith("test_")]
-    for file in [*code, *(it for it in tracked() if is_script(it))]:
-        lines = text(file).splitlines()
-        for at, line in enumerate(lines, 1):
-            if len(line) > MOST_COLUMNS and not is_import(line):
-                yield f"{file}:{at} has {len(line)} columns, more than {MOST_COLUMNS}"
-        if len(lines) > MOST_LINES:
-            yield f"{file} has {len(lines)} lines, more than {MOST_LINES}"
+    scripts = [it for it in tracked() if is_script(it)]
+    wide = [it for file in of_crates("specs", "proofs") for it in wide_lines(file)]
+    yield from wide
+    if wide:
+        yield f"tools/wrap wraps these {len(wide)} lines of definitions and proofs"
+    for file in [*code, *scripts]:
+        yield from wide_lines(file)
+        if (lines := len(text(file).splitlines())) > MOST_LINES:
+            yield f"{file} has {lines} lines, more than {MOST_LINES}"

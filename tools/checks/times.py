@@ -10,6 +10,7 @@ from .sources import text, uses_of_crates
 
 LAUNCHER = "ficsd"
 PAGES = ("README.md", "docs/OPERATING.md")
+CLUB = "companions/ficsd_companions/club/options.py"  # whose `--help` says when a club without proofs is there
 SAID = re.compile(r'^(\w+)_takes="(.*)"$', re.MULTILINE)
 # what the launcher's words mean: the program, and on so many processors so many minutes of a machine at 2.5 GHz
 MEANT = {
@@ -48,3 +49,5 @@ def faults():
         for page in PAGES:
             if words not in text(page):
                 yield f"{page} doesn't say as {LAUNCHER} does: {words}"
+    if (words := said.get("unproved", "")) not in re.sub(r'"\n *"', "", text(CLUB)):
+        yield f"{CLUB} doesn't say as {LAUNCHER} does: {words}"

@@ -78,7 +78,8 @@ def chosen(arguments: list[str]) -> Chosen:
         "--unproved",
         action="store_true",
         dest="is_unproved",
-        help="serves before any proof, after some minutes; for a first look",
+        help="serves before any proof, after a minute or two, with a store after four, on a busy machine after twice "
+        "as long; for a first look",
     )
     built.add_argument("--program", type=program, metavar="FILE", help="serves by a program that was built elsewhere")
     add_version(words)

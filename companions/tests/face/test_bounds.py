@@ -7,6 +7,7 @@ from contextlib import suppress
 
 import pytest
 
+from tests.kit import paths
 from tests.kit.running import PATIENCE
 
 from .conftest import GREETING, LINKS, End, Face, end_of
@@ -52,6 +53,11 @@ def test_a_browsers_request_is_cut_off(face: Face, method: str) -> None:
                     time.sleep(0.001)  # so that the pieces come one by one
             assert end_of(server, 10) == ""
             assert end_of(link, 10) is not None
+
+
+def test_the_page_names_the_methods_that_are_cut_off() -> None:
+    page = (paths.TOP / "docs" / "INTERFACES.md").read_text(encoding="utf-8")
+    assert ", ".join(f"`{it}`" for it in METHODS) in page
 
 
 def test_256_clients_and_no_more(face: Face) -> None:

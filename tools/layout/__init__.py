@@ -1,0 +1,1 @@
+"""How files of definitions and proofs are laid out."""
