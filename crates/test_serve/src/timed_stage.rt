@@ -105,7 +105,7 @@ impl Link for Player<'_> {
     fn close(&mut self) {}
 }
 
-/// A door that gives a link for each of so many players, four at most, and is then closed. It gives no Quiet, so the
+/// A door that gives a link for each of so many players, six at most, and is then closed. It gives no Quiet, so the
 /// steward makes no act before the last turn.
 #[derive(Drop)]
 pub struct Players<'a> {
@@ -114,7 +114,7 @@ pub struct Players<'a> {
     count: u32,
     came: u32,
     /// What each of them was written, once it came back.
-    pub heard: [Option<Vec<u8>>; 4],
+    pub heard: [Option<Vec<u8>>; 6],
 }
 
 impl<'a> Players<'a> {
@@ -125,7 +125,7 @@ impl<'a> Players<'a> {
             stage,
             count,
             came: 0,
-            heard: [None, None, None, None],
+            heard: [None, None, None, None, None, None],
         }
     }
 }

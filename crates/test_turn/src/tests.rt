@@ -1,6 +1,8 @@
 //! The tests of parts behind turns, with threads.
 use std::test::Fail;
-use turn_workers::{one_act_seen, open_gate, three_acts, tries_beside, two_counters};
+use turn_workers::{
+    act_behind_a_look, one_act_seen, open_gate, three_acts, tries_beside, two_counters,
+};
 
 #[test]
 fn two_threads_make_a_thousand_acts_each(rt: HostRuntime) -> Result<(), Fail> {
@@ -28,5 +30,6 @@ fn a_busy_part_is_named_and_the_other_put_back(rt: HostRuntime) -> Result<(), Fa
 #[test]
 fn a_look_needs_no_close(rt: HostRuntime) -> Result<(), Fail> {
     let (_table, _pass) = one_act_seen(&rt, rt.alloc())?;
+    assert_eq!(rt; act_behind_a_look(&rt, rt.alloc())?, 2);
     Ok(())
 }

@@ -7,5 +7,5 @@ mod looking;
 mod workers;
 
 pub use chained::{open_gate, three_acts, tries_beside};
-pub use looking::one_act_seen;
+pub use looking::{act_behind_a_look, one_act_seen};
 pub use workers::{three_counters, two_counters};
