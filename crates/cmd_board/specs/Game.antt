@@ -52,12 +52,12 @@ abbrev pub line_text : GameState → List ℕ
 line_text b = line12_text (view_of b) observer ++ codes "\n\r"
 
 -- what the position is for the player to move
-abbrev pub state_of : GameState → State
-state_of b = state_in (position_of b)
+abbrev pub board_state : GameState → State
+board_state b = state_in (position_of b)
 
 -- whether the game has ended: its last half-move gave mate or stalemate
 abbrev pub has_ended : GameState → Bool
-has_ended b = is_end (state_of b)
+has_ended b = is_end (board_state b)
 
 -- the answer to a move word: that the game is over, else the one by the rules of chess
 abbrev pub answer_to : GameState → MoveWord → Result Move Refusal
@@ -65,13 +65,13 @@ answer_to b word = if has_ended b then Err GameOver else move_answer b (to_move 
 
 -- what is written after a half-move: the board's line, and the line of the end where the game has ended
 abbrev pub shown_text : GameState → List ℕ
-shown_text b = line_text b ++ end_lines (view_of b) (to_move b) (state_of b)
+shown_text b = line_text b ++ end_lines (view_of b) (to_move b) (board_state b)
 
 -- the next state and what is written: the half-move and what is shown after it, or the refusal
-abbrev pub made : GameState → Result Move Refusal → GameState × List ℕ
-made b (Ok m) = (with_half_move b m 0 None, shown_text (with_half_move b m 0 None))
-made b (Err r) = (b, refusal_line r)
+abbrev pub move_made : GameState → Result Move Refusal → GameState × List ℕ
+move_made b (Ok m) = (with_half_move b m 0 None, shown_text (with_half_move b m 0 None))
+move_made b (Err r) = (b, refusal_line r)
 
 -- what a line that isn't empty makes of a game, and what is written for it; nothing where it is outside the grammar
 unfoldable pub answer_line : GameState → List ℕ → Option (GameState × List ℕ)
-answer_line b line = option_map (λ word. made b (answer_to b word)) (reading line)
+answer_line b line = option_map (λ word. move_made b (answer_to b word)) (reading line)

@@ -1,7 +1,7 @@
 //! The game that `board` plays: one untimed game of chess between `White` and `Black`, seen by an observer.
 
 ghost use Rattle.std.specs.Prelude.{◌≡◌, ◌++◌, OnOk, codes};
-ghost use Rattle.cmd_board.specs.Game.{untimed, view_of, observer, shown_text, state_of};
+ghost use Rattle.cmd_board.specs.Game.{untimed, view_of, observer, shown_text, board_state};
 ghost use Rattle.style12_writer.specs.Line12.{line12_text};
 
 use crate::endings::{put_end, put_ended, put_refusal};
@@ -39,7 +39,7 @@ impl Model for UntimedGame {
 
 impl UntimedGame {
     ghost use Rattle.std.specs.Prelude.{◌≡◌, ◌++◌, IfOk, OnOk, MatchOption, true, false};
-    ghost use Rattle.cmd_board.specs.Game.{new_game, answer_to, made, answer_line};
+    ghost use Rattle.cmd_board.specs.Game.{new_game, answer_to, move_made, answer_line};
 
     /// A game before its first half-move, with the room for all of them.
     pub fn new(alloc: Global) -> Result<UntimedGame, NoMemory>
@@ -66,8 +66,9 @@ impl UntimedGame {
 
     /// Plays the half-move of the word and appends what is shown then, or appends the refusal.
     fn play(&mut self, word: &MoveWord, out: &mut Vec<u8>) -> Result<(), NoMemory>
-        ensures board { OnOk result (self.new ≡ (made self.old (answer_to self.old word.now)).0) }
-        ensures text { OnOk result (out.new.items ≡ out.old.items ++ (made self.old (answer_to self.old word.now)).1) }
+        ensures board { OnOk result (self.new ≡ (move_made self.old (answer_to self.old word.now)).0) }
+        ensures text { OnOk result
+            (out.new.items ≡ out.old.items ++ (move_made self.old (answer_to self.old word.now)).1) }
     {
         if self.over {
             return put_refusal(Refusal::GameOver, out);
@@ -98,7 +99,7 @@ fn untimed() -> Terms
 
 /// Appends what is shown of a board in that state: its line, and the line of the end where the game has ended.
 fn write_board(board: &GameBoard, state: State, out: &mut Vec<u8>) -> Result<(), NoMemory>
-    requires { state ≡ state_of board.now }
+    requires { state ≡ board_state board.now }
     ensures { OnOk result (out.new.items ≡ out.old.items ++ shown_text board.now) }
 {
     let view = view(board);

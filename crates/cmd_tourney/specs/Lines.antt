@@ -42,8 +42,8 @@ worded word rest =
     else (if bytes_eq word (codes "result") then result_of rest else None))
 
 -- what the line asks for, where it is in the grammar
-abbrev pub reading : List ℕ → Option TourneyLine
-reading bytes =
+abbrev pub tourney_line : List ℕ → Option TourneyLine
+tourney_line bytes =
     if bytes_eq bytes (codes "start") then Some line.Start
     else (if bytes_eq bytes (codes "table") then Some line.Table
     else worded (before_first is_blank bytes) (after_first is_blank bytes))

@@ -8,7 +8,7 @@ use Rattle.cmd_lines.specs.LineCommand.{LineCommand}
 use Rattle.cmd_lines.specs.Words.{refusal_text}
 use Rattle.tourney_desk.specs.declared.score.ScoreRow.{ScoreRow}
 use Rattle.tourney_desk.specs.Tourney.{TourneyState, joining, no_tourney, pairs_told, reporting, starting, table_told}
-use Rattle.cmd_tourney.specs.Lines.{reading}
+use Rattle.cmd_tourney.specs.Lines.{tourney_line}
 use Rattle.cmd_tourney.specs.declared.line.TourneyLine.{TourneyLine}
 use Rattle.cmd_tourney.specs.declared.line.TourneyLine.TheVariants.{Join, Start, Round, Report, Table}
 
@@ -49,16 +49,16 @@ abbrev pub acted : {T : Type 0} → (T → List ℕ) → TourneyState → Effect
 acted text t effect = (state_of t effect, answer_text text (answer_of effect))
 
 -- what a line makes of the tourney, and what is written for it
-abbrev pub done : TourneyState → TourneyLine → TourneyState × List ℕ
-done t (Join name) = acted done_text t (joining t name)
-done t Start = acted rounds_text t (starting t)
-done t (Round round) = (t, answer_text (flat_map (pair_text t.players)) (pairs_told t round))
-done t (Report white black score) = acted done_text t (reporting t (key_of white) (key_of black) score)
-done t Table = (t, answer_text (rows_text t.players 1) (table_told t))
+abbrev pub line_done : TourneyState → TourneyLine → TourneyState × List ℕ
+line_done t (Join name) = acted done_text t (joining t name)
+line_done t Start = acted rounds_text t (starting t)
+line_done t (Round round) = (t, answer_text (flat_map (pair_text t.players)) (pairs_told t round))
+line_done t (Report white black score) = acted done_text t (reporting t (key_of white) (key_of black) score)
+line_done t Table = (t, answer_text (rows_text t.players 1) (table_told t))
 
 -- what a line that isn't empty makes of the tourney, and what is written for it; nothing where it is outside the grammar
 unfoldable pub answer_line : TourneyState → List ℕ → Option (TourneyState × List ℕ)
-answer_line t line = option_map (done t) (reading line)
+answer_line t line = option_map (line_done t) (tourney_line line)
 
 -- `tourney` as a function of where its tourney stands and a line
 abbrev pub tourney_lines : LineCommand TourneyState

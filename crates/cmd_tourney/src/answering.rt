@@ -8,7 +8,7 @@ ghost use Rattle.fics_words.specs.Handle.{key_of};
 ghost use Rattle.cmd_lines.specs.Ends.{OnReadFault, OnWriteFault};
 ghost use Rattle.cmd_lines.specs.LineCommand.{IsAnswer};
 ghost use Rattle.tourney_desk.specs.Tourney.{joining, pairs_told, reporting, starting, table_told};
-ghost use Rattle.cmd_tourney.specs.Texts.{answer_line, answer_text, done, done_text, pair_text, rounds_text, rows_text};
+ghost use Rattle.cmd_tourney.specs.Texts.{answer_line, answer_text, line_done, done_text, pair_text, rounds_text, rows_text};
 ghost use Rattle.cmd_tourney.specs.TourneyEnds.{TourneyEnds};
 
 use crate::line::TourneyLine;
@@ -78,8 +78,8 @@ fn answer_line(tourney: &mut Tourney, line: &[u8], out: &mut Vec<u8>) -> Result<
 
 /// Does what a line asks for, and appends the text of the answer.
 fn do_line(tourney: &mut Tourney, line: TourneyLine, out: &mut Vec<u8>) -> Result<(), NoMemory>
-    ensures after { OnOk result (tourney.new ≡ (done tourney.old line).0) }
-    ensures text { OnOk result (out.new.items ≡ out.old.items ++ (done tourney.old line).1) }
+    ensures after { OnOk result (tourney.new ≡ (line_done tourney.old line).0) }
+    ensures text { OnOk result (out.new.items ≡ out.old.items ++ (line_done tourney.old line).1) }
 {
     match line {
         TourneyLine::Join(name) => do_join(tourney, name, out),

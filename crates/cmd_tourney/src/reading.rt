@@ -2,7 +2,7 @@
 
 ghost use Rattle.std.specs.Prelude.{◌≡◌};
 ghost use Rattle.fics_words.specs.HandleTest.{handle_of};
-ghost use Rattle.cmd_tourney.specs.Lines.{reading, result_of, round_of, score_of, worded};
+ghost use Rattle.cmd_tourney.specs.Lines.{tourney_line, result_of, round_of, score_of, worded};
 
 use crate::line::TourneyLine;
 use cmd_lines::cut;
@@ -14,7 +14,7 @@ const MOST_ROUND: u64 = 255;
 
 /// Reads a line; `None` where it is outside the grammar.
 pub(crate) fn read_line(line: &[u8]) -> Option<TourneyLine>
-    ensures { result ≡ reading line.now }
+    ensures { result ≡ tourney_line line.now }
 {
     if line == b"start".as_slice() {
         return Some(TourneyLine::Start);

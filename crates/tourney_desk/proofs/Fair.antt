@@ -5,7 +5,7 @@ use Rattle.std.specs.List.{filter, range_with_len, sum_by}
 use Rattle.std.proofs.lemmas.Bool.{cases_eq, cases_order, cases_lt, eq-eqb, ne_eqb, eqb-true, lt-ltb, le-ltb, ltb-true}
 use Rattle.std.proofs.Math.Nat.{mod-lt}
 use Rattle.tourney_desk.specs.Pairing.{all_pairs, as_pair, first_is_white, meet, pairs_in, pairs_of, players, rounds_of, with_greater}
-use Rattle.tourney_desk.specs.Fairness.{IsRoundFair, is_of, stands_in}
+use Rattle.tourney_desk.specs.Fairness.{IsRoundFair, is_pair_of, stands_in}
 use Rattle.tourney_desk.proofs.Rounds.{IsMet, InCircle, WithLast, OfLast, meets_one, rounds_are}
 use Rattle.tourney_desk.proofs.Sums.{sum_by-filter, sum_by-flat_map, sum_by-map, sum_by-range, total, total-add, total-at_most_one, total-cross, total-same, total-single, total-swap, total-zero}
 use Rattle.std.proofs.Math.Bool.{or-true, or-false}
@@ -101,7 +101,7 @@ sum_in_round n a round f low off =
 
 -- ---- every two meet exactly once
 
-is_of-two : (i j k : ℕ) → (i ≡ j → ⊥) → (is_of i j (i, k) ≡ eqb k j) × (is_of i j (k, i) ≡ eqb k j)
+is_of-two : (i j k : ℕ) → (i ≡ j → ⊥) → (is_pair_of i j (i, k) ≡ eqb k j) × (is_pair_of i j (k, i) ≡ eqb k j)
 is_of-two i j k apart =
     let same : eqb i i ≡ true = eq-eqb i i refl in
     let other : eqb i j ≡ false = ne_eqb i j apart in (
@@ -109,9 +109,9 @@ is_of-two i j k apart =
       ap (λ t. (eqb k i || t) && (eqb k j || eqb i j)) same ∙ ap (λ t. t && (eqb k j || eqb i j)) (or-true (eqb k i)) ∙ ap (λ t. eqb k j || t) other ∙ or-false (eqb k j),
     )
 
-pub once : (n i j : ℕ) → i < n → j < n → (i ≡ j → ⊥) → count_by (is_of i j) (all_pairs n) ≡ 1
+pub once : (n i j : ℕ) → i < n → j < n → (i ≡ j → ⊥) → count_by (is_pair_of i j) (all_pairs n) ≡ 1
 once n i j low high apart =
-    let f : ℕ × ℕ → ℕ = λ pair. cond (is_of i j pair) 1 0 in
+    let f : ℕ × ℕ → ℕ = λ pair. cond (is_pair_of i j pair) 1 0 in
     let off : IsOfPlayer i f =
     λ pair p q.
     ap (λ t. cond ((t || eqb pair.1 i) && stands_in j pair) 1 0) (ne_eqb pair.0 i p) ∙ ap (λ t. cond (t && stands_in j pair) 1 0) (ne_eqb pair.1 i q) in

@@ -7,8 +7,8 @@ abbrev pub stands_in : ℕ → ℕ × ℕ → Bool
 stands_in player pair = (pair.0 == player) || (pair.1 == player)
 
 -- the pair is of these two, with whatever colours
-abbrev pub is_of : ℕ → ℕ → ℕ × ℕ → Bool
-is_of i j pair = stands_in i pair && stands_in j pair
+abbrev pub is_pair_of : ℕ → ℕ → ℕ × ℕ → Bool
+is_pair_of i j pair = stands_in i pair && stands_in j pair
 
 -- how often the player has White, and Black, over all rounds
 abbrev pub white_games : ℕ → ℕ → ℕ
@@ -24,7 +24,7 @@ IsRoundFair n round = (player : ℕ) → player < n → count_by (stands_in play
 -- over all rounds every two players meet exactly once, nobody stands in two pairs of a round, and the numbers of a
 -- player's White and Black games differ by at most 1
 pub record IsFair (n : ℕ) : Type 0 where
-  pub once : (i j : ℕ) → i < n → j < n → i ≢ j → count_by (is_of i j) (all_pairs n) ≡ 1
+  pub once : (i j : ℕ) → i < n → j < n → i ≢ j → count_by (is_pair_of i j) (all_pairs n) ≡ 1
   pub apart : (round : ℕ) → 0 < round → round ≤ rounds_of n → IsRoundFair n round
   pub colours : (player : ℕ) → player < n
       → (white_games n player ≤ black_games n player + 1) × (black_games n player ≤ white_games n player + 1)

@@ -27,8 +27,8 @@ abbrev pub has_key : List ℕ → List ℕ → Bool
 has_key key name = bytes_eq (key_of name) key
 
 -- the number of the player of this key; where no player has it, the number of players, which is nobody's number
-abbrev pub number_of : TourneyState → List ℕ → ℕ
-number_of t key = position_or_len (has_key key) t.players
+abbrev pub player_number : TourneyState → List ℕ → ℕ
+player_number t key = position_or_len (has_key key) t.players
 
 -- joining is refused after the start, where the handle has joined, and where 64 have; else the handle stands last
 abbrev pub joining : TourneyState → List ℕ → Effect TourneyState (Unit {0})
@@ -68,8 +68,8 @@ is_of_game white black report = (report.white == white) && (report.black == blac
 -- else it stands behind the others
 abbrev pub reporting : TourneyState → List ℕ → List ℕ → Score → Effect TourneyState (Unit {0})
 reporting t white_key black_key score =
-    let white = number_of t white_key in
-    let black = number_of t black_key in
+    let white = player_number t white_key in
+    let black = player_number t black_key in
     record {
       causes = (not t.started, TourneyNotStarted)
           ∷ (not (is_paired (length t.players) white black), NotPaired)

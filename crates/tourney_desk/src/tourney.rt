@@ -43,7 +43,7 @@ impl Tourney {
     ghost use Rattle.tourney_desk.specs.Fairness.{IsFair, IsRoundFair};
     ghost use Rattle.tourney_desk.specs.Pairing.{IsOfPlayers};
     ghost use Rattle.tourney_desk.specs.Table.{IsTable};
-    ghost use Rattle.tourney_desk.specs.Tourney.{has_key, is_of_game, joining, no_tourney, number_of, pairs_told, reporting, starting, table_told};
+    ghost use Rattle.tourney_desk.specs.Tourney.{has_key, is_of_game, joining, no_tourney, player_number, pairs_told, reporting, starting, table_told};
 
     /// Nobody has joined; takes no memory.
     pub fn new(alloc: Global) -> Tourney
@@ -178,7 +178,7 @@ impl Tourney {
 
     /// The number of the player of this key; where no player has it, the number of players.
     fn number_of(&self, key: HandleKey) -> u8
-        ensures { result ≡ number_of self.now key }
+        ensures { result ≡ player_number self.now key }
     {
         match self.place_of(key) {
             Some(number) => number as u8,
