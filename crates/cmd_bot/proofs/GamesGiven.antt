@@ -20,8 +20,8 @@ use Rattle.cmd_lines.specs.Lines.{is_written}
 use Rattle.move_reader.specs.Reading.{reading}
 use Rattle.move_reader.proofs.Readings.{reading-again, reading-sound}
 use Rattle.cmd_bot.specs.BotLines.{BotState, answer_line, bot_lines, silent}
-use Rattle.cmd_bot.specs.Game.{BotGame, array_named, is_over, move_named, new_game, position_of, variant_named, with_drops, with_move, word_played}
-use Rattle.cmd_bot.specs.Inputs.{Follow, Give, IsNextMove, Names}
+use Rattle.cmd_bot.specs.Game.{BotGame, array_named, is_over, move_named, new_game, bot_position, variant_named, with_drops, with_move, word_played}
+use Rattle.cmd_bot.specs.Inputs.{Follow, Give, IsNextMove, NamesVariant}
 use Rattle.cmd_bot.proofs.Variants.{named_array}
 use Rattle.std.proofs.lemmas.Option.{same_Some}
 
@@ -41,7 +41,7 @@ array_named-sound line n e =
     let h = find-sound (λ k. bytes_eq (codes "fischer " ++ decimal k) line) 0 960 n e in
     (omega (arith, h.1), sym ((bytes_eq-Decides (codes "fischer " ++ decimal n) line).0 h.0))
 
-names_chess : (depth : ℕ) (line : List ℕ) → line ≡ codes "chess" → Names depth line Chess
+names_chess : (depth : ℕ) (line : List ℕ) → line ≡ codes "chess" → NamesVariant depth line Chess
 names_chess depth line is = record {
   named = is;
   numbered = tt;
@@ -49,10 +49,10 @@ names_chess depth line is = record {
   shallow = λ e. absurd (let bad : Chess ≡ Crazyhouse = e in cc);
 }
 
-names_drops : (depth : ℕ) (line : List ℕ) (v : Variant) → line ≡ codes "crazyhouse" → with_drops depth ≡ Some v → Names depth line v
+names_drops : (depth : ℕ) (line : List ℕ) (v : Variant) → line ≡ codes "crazyhouse" → with_drops depth ≡ Some v → NamesVariant depth line v
 names_drops depth line v is e =
-    elim (nat_le depth 3) as (λ t. nat_le depth 3 ≡ t → cond t (Some Crazyhouse) None ≡ Some v → Names depth line v) [
-      | true ↦ λ few got. subst (Names depth line) (same_Some Crazyhouse v got) (record {
+    elim (nat_le depth 3) as (λ t. nat_le depth 3 ≡ t → cond t (Some Crazyhouse) None ≡ Some v → NamesVariant depth line v) [
+      | true ↦ λ few got. subst (NamesVariant depth line) (same_Some Crazyhouse v got) (record {
         named = is;
         numbered = tt;
         one_board = λ e. absurd (let bad : Crazyhouse ≡ Bughouse = e in cc);
@@ -61,14 +61,14 @@ names_drops depth line v is e =
       | false ↦ λ many got. absurd (let bad : None ≡ Some v = got in cc)
     ] refl e
 
-names_array : (depth : ℕ) (line : List ℕ) (v : Variant) → option_map Fischer (array_named line) ≡ Some v → Names depth line v
+names_array : (depth : ℕ) (line : List ℕ) (v : Variant) → option_map Fischer (array_named line) ≡ Some v → NamesVariant depth line v
 names_array depth line v e =
-    elim (array_named line) as (λ t. array_named line ≡ t → option_map Fischer t ≡ Some v → Names depth line v) [
+    elim (array_named line) as (λ t. array_named line ≡ t → option_map Fischer t ≡ Some v → NamesVariant depth line v) [
       | None ↦ λ is got. absurd (let bad : None ≡ Some v = got in cc)
       | Some n ↦ λ is got.
           let h = array_named-sound line n is in
           let same : n ≡ n % 960 = omega (arith, h.0) in
-          subst (Names depth line) (same_Some (Fischer n) v got) (record {
+          subst (NamesVariant depth line) (same_Some (Fischer n) v got) (record {
             named = h.1 ∙ ap (λ k. codes "fischer " ++ decimal k) same;
             numbered = h.0;
             one_board = λ e. absurd (let bad : Fischer n ≡ Bughouse = e in cc);
@@ -76,20 +76,20 @@ names_array depth line v e =
           })
     ] refl e
 
-variant_named-sound : (depth : ℕ) (line : List ℕ) (v : Variant) → variant_named depth line ≡ Some v → Names depth line v
+variant_named-sound : (depth : ℕ) (line : List ℕ) (v : Variant) → variant_named depth line ≡ Some v → NamesVariant depth line v
 variant_named-sound depth line v e =
     elim (bytes_eq line (codes "chess")) as (λ t. bytes_eq line (codes "chess") ≡ t
-    → cond t (Some Chess) (cond (bytes_eq line (codes "crazyhouse")) (with_drops depth) (option_map Fischer (array_named line))) ≡ Some v → Names depth line v) [
-      | true ↦ λ is got. subst (Names depth line) (same_Some Chess v got) (names_chess depth line ((bytes_eq-Decides line (codes "chess")).0 is))
+    → cond t (Some Chess) (cond (bytes_eq line (codes "crazyhouse")) (with_drops depth) (option_map Fischer (array_named line))) ≡ Some v → NamesVariant depth line v) [
+      | true ↦ λ is got. subst (NamesVariant depth line) (same_Some Chess v got) (names_chess depth line ((bytes_eq-Decides line (codes "chess")).0 is))
       | false ↦ λ other got.
           elim (bytes_eq line (codes "crazyhouse")) as (λ t. bytes_eq line (codes "crazyhouse") ≡ t
-          → cond t (with_drops depth) (option_map Fischer (array_named line)) ≡ Some v → Names depth line v) [
+          → cond t (with_drops depth) (option_map Fischer (array_named line)) ≡ Some v → NamesVariant depth line v) [
             | true ↦ λ is got. names_drops depth line v ((bytes_eq-Decides line (codes "crazyhouse")).0 is) got
             | false ↦ λ other got. names_array depth line v got
           ] refl got
     ] refl e
 
-variant_named-again : (depth : ℕ) (line : List ℕ) (v : Variant) → Names depth line v → variant_named depth line ≡ Some v
+variant_named-again : (depth : ℕ) (line : List ℕ) (v : Variant) → NamesVariant depth line v → variant_named depth line ≡ Some v
 variant_named-again depth line Chess h = ap (variant_named depth) h.named
 variant_named-again depth line Crazyhouse h = ap (variant_named depth) h.named ∙ ap (λ t. cond t (Some Crazyhouse) None) (le-leb depth 3 (h.shallow refl))
 variant_named-again depth line Bughouse h = absurd (h.one_board refl)
@@ -103,7 +103,7 @@ ok_is (Err x) m e = absurd (let bad : None ≡ Some m = e in cc)
 
 word_played-sound : (game : BotGame) (line : List ℕ) (w : MoveWord) (m : Move) → reading line ≡ Some w → word_played game w ≡ Some m → IsNextMove game line m
 word_played-sound game line w m read e =
-    let p = position_of game in
+    let p = bot_position game in
     elim (is_over game) as (λ t. is_over game ≡ t → cond t None (result_ok (word_answer p w)) ≡ Some m → IsNextMove game line m) [
       | true ↦ λ over got. absurd (let bad : None ≡ Some m = got in cc)
       | false ↦ λ goes got.
@@ -128,7 +128,7 @@ move_named-sound game line m e =
 move_named-again : (game : BotGame) (line : List ℕ) (m : Move) → IsNextMove game line m → move_named game line ≡ Some m
 unfolding move_named
 move_named-again game line m h =
-    let p = position_of game in
+    let p = bot_position game in
     let goes : is_over game ≡ false = ap (λ t. t || nat_le 1200 (length game.moves)) h.goes_on ∙ lt-leb 1200 (length game.moves) h.few in
     ap (option_and_then (word_played game)) (reading-again line h.word h.reads)
     ∙ ap (λ t. cond t None (result_ok (word_answer p h.word))) goes

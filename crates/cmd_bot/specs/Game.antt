@@ -20,8 +20,8 @@ pub record BotGame : Type 0 where
   pub moves : List Move
 
 -- the position after these half-moves from the start of a variant
-abbrev pub position_of : BotGame → Position
-position_of game = position_after game.variant (map on_board game.moves) 1
+abbrev pub bot_position : BotGame → Position
+bot_position game = position_after game.variant (map on_board game.moves) 1
 
 -- a game before its first half-move
 abbrev pub new_game : Variant → BotGame
@@ -51,11 +51,11 @@ variant_named depth line =
 
 -- a game takes no further half-move: it has ended by mate or stalemate, or has 1,200 half-moves
 abbrev pub is_over : BotGame → Bool
-is_over game = is_end (result (position_of game)) || nat_le most_halves (length game.moves)
+is_over game = is_end (result (bot_position game)) || nat_le most_halves (length game.moves)
 
 -- the half-move that answers a word, where the game goes on
 abbrev pub word_played : BotGame → MoveWord → Option Move
-word_played game word = if is_over game then None else result_ok (word_answer (position_of game) word)
+word_played game word = if is_over game then None else result_ok (word_answer (bot_position game) word)
 
 -- the half-move of a line: the answer to its word
 unfoldable pub move_named : BotGame → List ℕ → Option Move

@@ -12,10 +12,10 @@ use Rattle.chess_model.specs.VariantWord.{IsNumbered, word_of}
 use Rattle.move_reader.specs.Spellings.{IsReading}
 use Rattle.cmd_lines.specs.Lines.{is_written}
 use Rattle.cmd_bot.specs.BotLines.{BotState}
-use Rattle.cmd_bot.specs.Game.{BotGame, new_game, position_of, with_move}
+use Rattle.cmd_bot.specs.Game.{BotGame, new_game, bot_position, with_move}
 
 -- the line names a variant of one board that the bot plays so many half-moves ahead
-pub record Names (depth : ℕ) (line : List ℕ) (variant : Variant) : Type 0 where
+pub record NamesVariant (depth : ℕ) (line : List ℕ) (variant : Variant) : Type 0 where
   pub named : line ≡ word_of variant
   pub numbered : IsNumbered variant
   pub one_board : variant ≢ Bughouse
@@ -25,8 +25,8 @@ pub record Names (depth : ℕ) (line : List ℕ) (variant : Variant) : Type 0 wh
 pub record IsNextMove (game : BotGame) (line : List ℕ) (m : Move) : Type 0 where
   pub word : MoveWord
   pub reads : IsReading line word
-  pub answers : IsAnswer (position_of game) word m
-  pub goes_on : is_end (result (position_of game)) ≡ false
+  pub answers : IsAnswer (bot_position game) word m
+  pub goes_on : is_end (result (bot_position game)) ≡ false
   pub few : length game.moves < most_halves
 
 -- these lines give these half-moves, each in the position of those before it
@@ -40,7 +40,7 @@ Follow game (line ∷ lines) (m ∷ moves) = IsNextMove game line m × Follow (w
 abbrev pub Give : ℕ → List (List ℕ) → BotState → Type 0
 Give depth [] state = state ≡ None
 Give depth (first ∷ lines) state =
-    (game : BotGame) × (state ≡ Some game) × Names depth first game.variant
+    (game : BotGame) × (state ≡ Some game) × NamesVariant depth first game.variant
     × Follow (new_game game.variant) lines game.moves
 
 -- the line of this number, counted from 1, is the first one that isn't a line of a game: those before it give a game,

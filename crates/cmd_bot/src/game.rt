@@ -3,7 +3,7 @@
 ghost use Rattle.std.specs.Prelude.{◌≡◌, ◌≢◌, ◌++◌, IfOk, IfSome, OnOk, MatchOption, true, false};
 ghost use Rattle.chess_model.specs.Allowed.{Allowed};
 ghost use Rattle.house_bot.specs.AnswerText.{answer_of};
-ghost use Rattle.cmd_bot.specs.Game.{is_over, move_named, new_game, position_of, with_move};
+ghost use Rattle.cmd_bot.specs.Game.{is_over, move_named, new_game, bot_position, with_move};
 
 use chess_model::{MOST_HALVES, Move, Variant};
 use collections::Listed;
@@ -61,7 +61,7 @@ impl Game {
     /// The half-move that a line names: the answer to its word, where the game goes on.
     fn named(&self, line: &[u8]) -> Option<Move>
         ensures value { result ≡ move_named self.now line.now }
-        ensures allowed { IfSome result (λ m. Allowed (position_of self.now) m) }
+        ensures allowed { IfSome result (λ m. Allowed (bot_position self.now) m) }
     {
         let Some(word) = read_word(line) else {
             return None;
@@ -87,7 +87,7 @@ impl Game {
 
     /// Makes an allowed half-move.
     fn make(&mut self, m: &Move) -> Result<(), NoMemory>
-        requires { Allowed (position_of self.old) m.now }
+        requires { Allowed (bot_position self.old) m.now }
         ensures { OnOk result (self.new ≡ with_move self.old m.now) }
     {
         let kept = *m;
@@ -104,7 +104,7 @@ impl Game {
         depth: u8,
         out: &mut Vec<u8>,
     ) -> Result<(), NoMemory>
-        ensures { OnOk result (out.new.items ≡ out.old.items ++ answer_of depth (position_of self.old)) }
+        ensures { OnOk result (out.new.items ≡ out.old.items ++ answer_of depth (bot_position self.old)) }
     {
         let text = answer_text(alloc, &mut self.position, depth)?;
         out.extend_from_slice(text.as_slice())?;

@@ -1,6 +1,6 @@
 use Rattle.std.proofs.Common.{sym, ◌∙◌}
 use Rattle.std.specs.Prelude.{Ok, Err}
-use Rattle.cmd_bot.specs.Game.{position_of}
+use Rattle.cmd_bot.specs.Game.{bot_position}
 use Rattle.cmd_bot.proofs.Games.{no_word, stands_at, word_answered, word_over}
 use Rattle.chess_model.proofs.StandsAfter.{answer_allowed}
 use Rattle.cmd_bot.proofs.game.Game.named.Goals as goal
@@ -21,7 +21,7 @@ returns-in-Ok-clause-value c =
 pub returns-in-Ok-clause-allowed : goal.returns-in-Ok-clause-allowed
 returns-in-Ok-clause-allowed c =
     let inside = c.self.inside in
-    answer_allowed inside.position (position_of c.args.self.now) c.in-Some.word c.in-Ok.m c.in-Ok.ensures.answered
+    answer_allowed inside.position (bot_position c.args.self.now) c.in-Some.word c.in-Ok.m c.in-Ok.ensures.answered
     (stands_at inside.position inside.moves c.args.self.now c.self.invariant.1 c.self.view_is)
 
 pub returns-in-Err-clause-value : goal.returns-in-Err-clause-value
