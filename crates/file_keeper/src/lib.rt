@@ -9,8 +9,6 @@
 mod copied;
 mod records;
 mod sqlite_keeper;
-mod store;
-mod store_file;
 mod store_reader;
 
 pub use sqlite_keeper::SqliteKeeper;

@@ -5,14 +5,12 @@ ghost use Rattle.edge_traits.specs.Faults.{Rose};
 ghost use Rattle.edge_traits.specs.Keeper.{OnKeepFailed};
 ghost use Rattle.edge_traits.specs.Pairs.{IsAscending};
 
-use crate::records::{Asked, fail_of, kept, loaded};
-use crate::store::{AnyFile, Store, ask, let_go, open_store};
-use crate::store_file::StoreFile;
+use crate::records::{Asked, carry_out, fail_of, kept, loaded};
 use edge_traits::{CallLog, Keeper, KeeperFail, Kept, Pair, Request};
-use sqlite::{Files, Unknown};
-use sqlite_std_file::OpenError;
-use std::hash::{BuildHasher, RandomState};
-use std::io::ErrorKind;
+use sqlite::{Connection, File, FileStore};
+use std::alloc::Global;
+
+type Store = Connection<FileStore<File>>;
 
 /// A keeper over the file at a path, and its log beside it, named as the file with `-wal` behind it.
 ///
@@ -103,6 +101,13 @@ fn asked_of(
     outcome
 }
 
+/// Asks a store. It alone has the proofs of a store to tie.
+fn ask(alloc: Global, conn: &mut Store, asked: Asked<'_>) -> Result<Vec<Pair>, KeeperFail>
+    ensures ascending { IfOk result (λ pairs. IsAscending pairs.items) }
+{
+    carry_out(alloc, conn, asked)
+}
+
 /// Whether what was asked went well.
 fn done(outcome: Result<Vec<Pair>, KeeperFail>) -> Result<(), KeeperFail> {
     match outcome {
@@ -119,40 +124,14 @@ fn taken_or_opened(
 ) -> Result<Store, KeeperFail> {
     match store.take() {
         Some(conn) => Ok(conn),
-        None => open_held(rt, path),
+        None => open_store(rt, path),
     }
 }
 
-/// Opens the file at the path and its log, and holds them. What they held isn't known, and of a write that was torn
-/// each byte is taken to be the old or the new one.
-fn open_held(rt: &HostRuntime, path: &str) -> Result<Store, KeeperFail> {
-    let seed = drawn_seed(rt)?;
-    let files = held_files(rt, path)?;
-    open_store(rt, files, seed)
-}
-
-fn drawn_seed(rt: &HostRuntime) -> Result<u64, KeeperFail> {
-    match RandomState::new(rt) {
-        Ok(drawn) => Ok(drawn.hash_one(&0u8)),
-        Err(_) => Err(KeeperFail::Failed),
-    }
-}
-
-/// The file and its log, which are made where they are missing. A path that names no file to SQLite is refused.
-fn held_files(rt: &HostRuntime, path: &str) -> Result<Files<AnyFile>, KeeperFail> {
-    if path == ":memory:" || path.starts_with("file:") {
-        return Err(KeeperFail::Failed);
-    }
-    match sqlite_std_file::open(rt, path, Unknown) {
-        Ok(Files { log, db }) => Ok(Files {
-            log: StoreFile::Held(log),
-            db: StoreFile::Held(db),
-        }),
-        Err(OpenError::OutOfMemory) => Err(KeeperFail::Memory),
-        Err(OpenError::Io(error)) if error.kind() == ErrorKind::OutOfMemory => {
-            Err(KeeperFail::Memory)
-        }
-        Err(_) => Err(KeeperFail::Failed),
+fn open_store(rt: &HostRuntime, path: &str) -> Result<Store, KeeperFail> {
+    match Connection::open(rt, path) {
+        Ok(conn) => with_table(rt.alloc(), conn),
+        Err(error) => Err(fail_of(error)),
     }
 }
 
@@ -165,6 +144,9 @@ fn keep_open(store: &mut Option<Store>, conn: Store, went_well: bool) {
     }
 }
 
+/// Closes a store without a word. It alone has the destructor of a connection to prove.
+fn let_go(_store: Option<Store>) {}
+
 fn close_store(store: &mut Option<Store>) -> Result<(), KeeperFail> {
     match store.take() {
         Some(conn) => close_conn(conn),
@@ -176,5 +158,17 @@ fn close_conn(conn: Store) -> Result<(), KeeperFail> {
     match conn.close() {
         Ok(()) => Ok(()),
         Err(error) => Err(fail_of(error)),
+    }
+}
+
+/// The store, once it has its table.
+fn with_table(alloc: Global, conn: Store) -> Result<Store, KeeperFail> {
+    let mut conn = conn;
+    match ask(alloc, &mut conn, Asked::Table) {
+        Ok(_) => Ok(conn),
+        Err(fail) => {
+            let_go(Some(conn));
+            Err(fail)
+        }
     }
 }
