@@ -1,3 +1,4 @@
 -- What the contracts of this crate cite.
 pub mod Entering
 pub mod News
+pub mod Visits

@@ -23,7 +23,7 @@ use Rattle.session_core.specs.declared.input.Input.TheVariants.{Line, Quiet}
 use Rattle.session_asks.specs.declared.standing.LinkMark.TheVariants.{Stamped}
 use Rattle.session_asks.specs.declared.standing.Standing.{Standing}
 use Rattle.session_asks.specs.declared.standing.Standing.TheVariants as standing
-use Rattle.session_core.specs.declared.visit.Visit.{Visit}
+use Rattle.session_asks.specs.declared.visit.Visit.{Visit}
 use Rattle.session_core.specs.Course.{Course, Done, Asks, Writes, Follows}
 use Rattle.session_core.specs.Inputs.{asks_to_quit, input_course, is_ack, is_greeting, line_course, line_quits, past_line, quiet_course, refusing, stamp_on, text_course, text_quits}
 use Rattle.session_core.specs.Laws.{EndsWithRound, IsTelling, Telling, entries_of, is_silent}

@@ -25,7 +25,7 @@ use Rattle.session_core.specs.Login.{admitted, entering, entering_named, is_gues
 use Rattle.session_core.specs.Memory.{MemoryState, is_gone, is_out, present_in, told}
 use Rattle.session_core.specs.Session.{acked_at, given_up, round, says_over, visits, behind, forgets}
 use Rattle.session_core.specs.Visits.{visits_in}
-use Rattle.session_core.specs.declared.visit.Visit.{Visit}
+use Rattle.session_asks.specs.declared.visit.Visit.{Visit}
 use Rattle.session_core.specs.Laws.{places_by}
 use Rattle.session_core.proofs.Endings.{quits_past}
 use Rattle.session_core.proofs.Rounds.{ToRound, by_asked, told_keeps}

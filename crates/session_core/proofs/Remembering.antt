@@ -26,7 +26,7 @@ use Rattle.one_server.specs.declared.reply.Reply.TheVariants as reply
 use Rattle.one_server.specs.Running.{Log}
 use Rattle.session_core.specs.declared.stage.Stage.{Stage}
 use Rattle.session_core.specs.declared.stage.Stage.TheVariants as stage
-use Rattle.session_core.specs.declared.visit.Visit.{Visit}
+use Rattle.session_asks.specs.declared.visit.Visit.{Visit}
 use Rattle.session_core.specs.Course.{timed}
 use Rattle.session_core.specs.Laws.{LooksAway, acts_of, places_by}
 use Rattle.session_core.specs.Memory.{MemoryState, has_entered, told, without_observed}

@@ -25,7 +25,7 @@ use Rattle.session_core.specs.declared.input.Input.TheVariants.{Line, Quiet}
 use Rattle.session_asks.specs.declared.standing.LinkMark.TheVariants.{Stamped}
 use Rattle.session_asks.specs.declared.standing.Standing.{Standing}
 use Rattle.session_asks.specs.declared.standing.Standing.TheVariants as standing
-use Rattle.session_core.specs.declared.visit.Visit.{Visit}
+use Rattle.session_asks.specs.declared.visit.Visit.{Visit}
 use Rattle.session_core.specs.Course.{Course, Done, Asks, Writes, Follows, next_act}
 use Rattle.session_core.specs.Inputs.{ack_course, asked_course, input_course, is_greeting, line_course, past_line, quiet_course, refusing, stamp_on, text_course}
 use Rattle.session_core.specs.Laws.{IsOfLogin, TurnsBehind, asks_to_enter, first_act, is_move, places_after, places_by}

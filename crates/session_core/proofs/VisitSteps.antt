@@ -5,7 +5,7 @@ use Rattle.linked_desk.specs.declared.acts.DeskAct.TheVariants as desk_act
 use Rattle.memory.specs.declared.NoMemory.{NoMemory}
 use Rattle.one_server.specs.declared.reply.Reply.{Reply}
 use Rattle.one_server.specs.Running.{Ran, RunnerState}
-use Rattle.session_core.specs.declared.visit.Visit.{Visit}
+use Rattle.session_asks.specs.declared.visit.Visit.{Visit}
 use Rattle.session_core.specs.Course.{Course, Writes, timed}
 use Rattle.session_core.specs.Going.{BrokeOff, WentOn}
 use Rattle.session_core.specs.Memory.{MemoryState, has_entered, reader_in}

@@ -15,11 +15,11 @@ use Rattle.one_server.specs.declared.reply.Reply.TheVariants as reply
 use Rattle.one_server.specs.Running.{Log}
 use Rattle.session_core.specs.declared.input.Input.{Input}
 use Rattle.session_core.specs.declared.input.Input.TheVariants.{Line, Quiet}
-use Rattle.session_core.specs.declared.visit.Visit.{Visit}
+use Rattle.session_asks.specs.declared.visit.Visit.{Visit}
 use Rattle.session_core.specs.Inputs.{is_unanswered}
 use Rattle.session_core.specs.Memory.{MemoryState}
 use Rattle.session_core.specs.Session.{at_game, at_place, clear_at, is_accepted, says_over}
-use Rattle.session_core.specs.Visits.{all_visits}
+use Rattle.session_asks.specs.Visits.{all_visits}
 use Rattle.simul_control.specs.declared.place.Place.{Place}
 
 -- the acts of entries

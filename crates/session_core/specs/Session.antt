@@ -31,7 +31,7 @@ use Rattle.session_core.specs.Ways.{way_of}
 pub use Rattle.session_asks.specs.News.{says_over}
 use Rattle.session_asks.specs.declared.standing.Standing.{Standing}
 use Rattle.session_asks.specs.declared.standing.Standing.TheVariants.{In}
-use Rattle.session_core.specs.declared.visit.Visit.{Visit}
+use Rattle.session_asks.specs.declared.visit.Visit.{Visit}
 use Rattle.session_core.specs.declared.way.Way.{Way}
 use Rattle.session_core.specs.declared.way.Way.TheVariants as way
 

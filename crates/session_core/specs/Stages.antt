@@ -30,7 +30,7 @@ use Rattle.session_core.specs.Session.{acking, answered, at_place, behind, clear
 use Rattle.session_core.specs.Session.{moved, moving, round, rounding, says_over, shown, watched, watching}
 use Rattle.session_core.specs.Texts.{waiting_text}
 use Rattle.session_core.specs.Visits.{visits_in}
-use Rattle.session_core.specs.declared.visit.Visit.{Visit}
+use Rattle.session_asks.specs.declared.visit.Visit.{Visit}
 use Rattle.session_core.specs.declared.way.Way.{Way}
 use Rattle.session_core.specs.declared.way.Way.TheVariants as way
 

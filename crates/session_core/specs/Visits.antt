@@ -1,20 +1,9 @@
--- The games to which a session goes: those that it plays, and then those at which it looks on. This server's own.
-use Rattle.std.specs.Prelude.{List, ◌++◌, map, None, Some}
-use Rattle.simul_control.specs.declared.place.Place.{Place}
-use Rattle.session_core.specs.declared.visit.Visit.{Visit}
+-- All games of a session. This server's own.
+use Rattle.std.specs.Prelude.{List}
+use Rattle.session_asks.specs.Visits.{all_visits}
+use Rattle.session_asks.specs.declared.visit.Visit.{Visit}
 use Rattle.session_core.specs.Memory.{MemoryState}
 
--- who plays at a place, and who looks on at its game
-abbrev pub playing : Place → Visit
-playing place = record { desk = place.desk; serial = place.serial; seat = Some place.seat }
-
-abbrev pub looking : Place → Visit
-looking place = record { desk = place.desk; serial = place.serial; seat = None }
-
--- the games of these places, and those of these at which the session looks on
-abbrev pub all_visits : List Place → List Place → List Visit
-all_visits places observed = map playing places ++ map looking observed
-
--- all games of a session
+-- those at the places that it remembers, and those at which it looks on
 abbrev pub visits_in : MemoryState → List Visit
 visits_in memory = all_visits memory.places.rows memory.observed.rows

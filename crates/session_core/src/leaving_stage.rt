@@ -5,12 +5,12 @@ ghost use Rattle.session_core.specs.Session.{leave_games};
 ghost use Rattle.session_core.specs.Stages.{HasGone, LeavesDesk, MayLeave, acts_of_leaving, acts_to_leave};
 ghost use Rattle.session_core.specs.Stages.{leaves, leaving_of};
 
-use crate::rest::Rest;
+use crate::game_acts::{at_game, clear_at};
 use crate::session_memory::SessionMemory;
-use crate::visit::{Visit, at_game, clear_at};
 use linked_desk::DeskAct;
 use lobby_state::LobbyAct;
 use one_server::{Act, Reply};
+use session_asks::{Visit, VisitsLeft};
 
 /// What stands between an act of leaving and its reply.
 #[derive(Drop)]
@@ -18,9 +18,9 @@ pub(crate) enum LeavingStage {
     /// The member begins to leave.
     Going,
     /// A game is left, and these games come next.
-    Leaving(Visit, Rest),
+    Leaving(Visit, VisitsLeft),
     /// A game is given up, and these games come next.
-    Clearing(Rest),
+    Clearing(VisitsLeft),
     /// The member is gone.
     Gone,
 }
@@ -66,7 +66,7 @@ pub(crate) fn ask_going() -> LeavingNext
 }
 
 /// The act that leaves the first of these games; behind the last one the member is gone.
-fn leave_next(rest: Rest) -> LeavingNext
+fn leave_next(rest: VisitsLeft) -> LeavingNext
     ensures goes { (memory : MemoryState) → leaving_of result memory ≡ leave_games rest memory }
     ensures ready { MayLeave result }
     ensures fewer { acts_to_leave result ≤ 2 * length rest + 1 }

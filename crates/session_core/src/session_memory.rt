@@ -9,12 +9,11 @@ ghost use Rattle.session_core.specs.Memory.{reader_in, remark_place, seated, sta
 ghost use Rattle.session_core.specs.Visits.{visits_in};
 
 use crate::reader::Reader;
-use crate::rest::Rest;
 use command_words::{Aliases, Style};
 use fics_words::{Fail, Handle, Refusal};
 use lobby_state::{LobbyReply, Place, Places};
 use one_server::Reply;
-use session_asks::{LinkMark, Standing};
+use session_asks::{LinkMark, Standing, VisitsLeft};
 use std::alloc::Global;
 use std::marker::Model;
 
@@ -186,11 +185,11 @@ impl SessionMemory {
     }
 
     /// The games that the session plays and at which it looks on, all of which are still to be visited.
-    pub(crate) fn visits(&self) -> Rest
+    pub(crate) fn visits(&self) -> VisitsLeft
         ensures visits { result ≡ visits_in self.now }
         ensures most { length (visits_in self.now) ≤ 64 }
     {
-        Rest::all(&self.places, &self.observed)
+        VisitsLeft::all(&self.places, &self.observed)
     }
 
     /// For whom the items of a game are written that the session plays at this seat, or at which it looks on.

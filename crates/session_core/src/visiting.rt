@@ -8,15 +8,15 @@ ghost use Rattle.session_core.specs.Memory.{MemoryState, has_entered, reader_in}
 ghost use Rattle.session_core.specs.Session.{forgets, given_up, rounding, says_over, visits};
 ghost use Rattle.session_core.specs.Stages.{kept_behind};
 ghost use Rattle.session_core.specs.Texts.{news_text};
-ghost use Rattle.session_core.specs.declared.visit.Visit.{Visit};
+ghost use Rattle.session_asks.specs.declared.visit.Visit.{Visit};
 
+use crate::game_acts::clear_at;
 use crate::session_memory::SessionMemory;
 use crate::texts::put_news;
-use crate::visit::{Visit, clear_at};
 use clock_ledger::Moment;
 use memory::NoMemory;
 use one_server::{Reply, Runner, answered};
-use session_asks::{fetch_at, says_over};
+use session_asks::{Visit, fetch_at, says_over};
 use std::alloc::Global;
 
 /// Visits the games that the session plays and those at which it looks on, all at `moment`, in milliseconds and at most

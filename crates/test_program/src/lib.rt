@@ -4,6 +4,8 @@
 #![tactic(auto)]
 
 #[cfg(test)]
+mod as_soon;
+#[cfg(test)]
 mod board_ends;
 #[cfg(test)]
 mod boards;

@@ -10,7 +10,7 @@ use std::test::Fail;
 use test_steps::assert_rows;
 
 /// A key and the record under it.
-type KeyAndRecord = (&'static [u8], &'static [u8]);
+pub(crate) type KeyAndRecord = (&'static [u8], &'static [u8]);
 
 /// A row of the table: the words, what the keeper holds, which calls of the keeper fail and which writes; the status,
 /// and the text that is written.
@@ -30,7 +30,7 @@ const ANN: KeyAndRecord = (b"aann", b"\x01A\x03Ann0123456789abcdef0123456789abcd
 const BEN: KeyAndRecord = (b"aben", b"\x01A\x03Ben0123456789abcdef0123456789abcdef");
 
 /// An untimed game of chess of Ann and Ben after e2 to e4, under number 1.
-const E4: KeyAndRecord = (
+pub(crate) const E4: KeyAndRecord = (
     b"g\x00\x00\x00\x00\x00\x00\x00\x01",
     b"\x01G\x00\x00\x00\x00\x00\x03Ann\x03Ben\x00\x01\x18\xE0\x00",
 );

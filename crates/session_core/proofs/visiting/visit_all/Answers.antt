@@ -1,7 +1,7 @@
 use Rattle.std.proofs.Common.{List, ◌∷◌, refl, ap, sym, subst, ◌∙◌}
 use Rattle.session_core.specs.Going.{WentOn}
 use Rattle.session_core.specs.Session.{rounding, visits}
-use Rattle.session_core.specs.declared.visit.Visit.{Visit}
+use Rattle.session_asks.specs.declared.visit.Visit.{Visit}
 use Rattle.session_core.proofs.Going.{broke_after, broke_there, followed, on_after, on_none}
 use Rattle.session_core.proofs.visiting.visit_all.Goals as goal
 

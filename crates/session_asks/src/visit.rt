@@ -1,21 +1,18 @@
 //! The games to which a session goes for its news.
 ghost use Rattle.std.specs.Prelude.{◌≡◌};
-ghost use Rattle.session_core.specs.Session.{at_game, clear_at};
-ghost use Rattle.session_core.specs.Visits.{looking, playing};
+ghost use Rattle.session_asks.specs.Visits.{looking, playing};
 
-use linked_desk::DeskAct;
-use lobby_state::{PairAct, Place};
-use one_server::Act;
+use lobby_state::Place;
 
 /// A game that a session plays or looks on at.
 #[derive(Clone, Copy)]
-pub(crate) struct Visit {
+pub struct Visit {
     /// The desk, 1 to 128.
-    pub(crate) desk: u8,
+    pub desk: u8,
     /// The serial of the game at that desk.
-    pub(crate) serial: u64,
+    pub serial: u64,
     /// The session's seat; None where it looks on.
-    pub(crate) seat: Option<u8>,
+    pub seat: Option<u8>,
 }
 
 /// The visit of who plays at a place.
@@ -38,25 +35,4 @@ pub(crate) fn looking(place: &Place) -> Visit
         serial: place.serial,
         seat: None,
     }
-}
-
-/// An act at the game of a visit.
-pub(crate) fn at_game(visit: &Visit, act: DeskAct) -> Act
-    ensures { result ≡ at_game visit.now act }
-{
-    Act::Desk {
-        desk: visit.desk,
-        serial: visit.serial,
-        act,
-    }
-}
-
-/// The act that gives up a game.
-pub(crate) fn clear_at(visit: &Visit) -> Act
-    ensures { result ≡ clear_at visit.now }
-{
-    Act::Pair(PairAct::Clear {
-        desk: visit.desk,
-        serial: visit.serial,
-    })
 }

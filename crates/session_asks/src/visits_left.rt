@@ -1,7 +1,7 @@
 //! The games to which a session has still to go.
 ghost use Rattle.std.specs.Prelude.{◌≡◌, ◌≤◌, ◌∷◌, [], IfSome, MatchOption, length};
 ghost use Rattle.lobby_state.specs.Desks.{IsDesk};
-ghost use Rattle.session_core.specs.Visits.{all_visits};
+ghost use Rattle.session_asks.specs.Visits.{all_visits};
 
 use crate::places_left::PlacesLeft;
 use crate::visit::{Visit, looking, playing};
@@ -12,37 +12,37 @@ use std::mem::size_of;
 /// Games that come next, each at a desk from 1 to 128: those that the session plays, and then those at which it looks
 /// on. Contracts see their list.
 #[derive(Drop)]
-pub(crate) struct Rest {
+pub struct VisitsLeft {
     places: PlacesLeft,
     observed: PlacesLeft,
 }
 
-const _: () = prove!(size_of::<Rest>() <= 704);
+const _: () = prove!(size_of::<VisitsLeft>() <= 704);
 
-impl Model for Rest {
+impl Model for VisitsLeft {
     ghost use Rattle.std.specs.Prelude.{List};
-    ghost use Rattle.session_core.specs.declared.visit.Visit.{Visit};
-    ghost use Rattle.session_core.specs.Visits.{all_visits};
+    ghost use Rattle.session_asks.specs.declared.visit.Visit.{Visit};
+    ghost use Rattle.session_asks.specs.Visits.{all_visits};
 
     ghost Value = { List Visit };
 
-    ghost view = { λ rest. all_visits rest.places rest.observed };
+    ghost view = { λ left. all_visits left.places left.observed };
 }
 
-impl Rest {
+impl VisitsLeft {
     /// The games of all of these places, and all at which the session looks on.
-    pub(crate) fn all(places: &Places, observed: &Places) -> Rest
+    pub fn all(places: &Places, observed: &Places) -> VisitsLeft
         ensures visits { result ≡ all_visits places.now.rows observed.now.rows }
         ensures most { length (all_visits places.now.rows observed.now.rows) ≤ 64 }
     {
-        Rest {
+        VisitsLeft {
             places: PlacesLeft::all(places),
             observed: PlacesLeft::all(observed),
         }
     }
 
     /// Takes the first game; none where there is no game left.
-    pub(crate) fn pop(&mut self) -> Option<Visit>
+    pub fn pop(&mut self) -> Option<Visit>
         ensures first { MatchOption result (self.old ≡ []) (λ visit. self.old ≡ visit ∷ self.new) }
         ensures desk { IfSome result (λ visit. IsDesk visit.desk) }
     {

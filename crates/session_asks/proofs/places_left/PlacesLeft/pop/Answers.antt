@@ -1,7 +1,7 @@
 use Rattle.std.proofs.Common.{◌+◌, ◌<◌, ◌∷◌, length, drop, sym, ap, ◌∙◌, arith}
 use Rattle.std.proofs.lemmas.List.{drop_more}
 use Rattle.simul_control.specs.declared.place.Place.{Place}
-use Rattle.session_core.proofs.places_left.PlacesLeft.pop.Goals as goal
+use Rattle.session_asks.proofs.places_left.PlacesLeft.pop.Goals as goal
 
 pub returns-clause-first : goal.returns-clause-first
 returns-clause-first c =
