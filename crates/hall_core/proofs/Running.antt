@@ -11,7 +11,7 @@ use Rattle.one_server.specs.declared.act.Timed.{Timed}
 use Rattle.one_server.specs.declared.part.Part.{Part}
 use Rattle.one_server.specs.declared.reply.Reply.{Reply}
 use Rattle.one_server.specs.House.{house}
-use Rattle.one_server.specs.Running.{IsKnown, Log, Made, Runs, Ran as IsAnswered, told}
+use Rattle.one_server.specs.Running.{IsKnown, Log, Made, Runs, Ran as IsAnswered, in_its_place}
 use Rattle.one_server.specs.Whole.{IsWhole}
 use Rattle.one_server.proofs.Replies.{last_reply}
 use Rattle.turn_table.specs.declared.view.View.{View}
@@ -60,7 +60,7 @@ module _ (v w : PassStanding Part Timed Reply) (same : fixed w.view ≡ fixed v.
     only = λ e. absurd cc;
   }
 
-  pub runs : IsWhole v.view.opening → (timed : Timed) (r : Result Unit NoMemory) (x : Reply) → OnOk r (HasRun house v.view timed x w.view) → OnErr r (HasNotRun house v.view w.view) → Runs (runs_of (pass_state v false)) timed (told r x) (runs_of (pass_state w false))
+  pub runs : IsWhole v.view.opening → (timed : Timed) (r : Result Unit NoMemory) (x : Reply) → OnOk r (HasRun house v.view timed x w.view) → OnErr r (HasNotRun house v.view w.view) → Runs (runs_of (pass_state v false)) timed (in_its_place r x) (runs_of (pass_state w false))
   runs whole timed (Ok done) x ran unmade = answered whole timed x ran
   runs whole timed (Err e) x ran unmade = unanswered unmade
 

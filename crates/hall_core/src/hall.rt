@@ -8,7 +8,7 @@ ghost use Rattle.one_server.specs.declared.act.Timed.{Timed};
 ghost use Rattle.one_server.specs.declared.reply.Reply.{Reply};
 ghost use Rattle.one_server.specs.Acts.{IsEvent, NeedsNoMemory};
 ghost use Rattle.one_server.specs.House.{house};
-ghost use Rattle.one_server.specs.Running.{Made, Runs, told};
+ghost use Rattle.one_server.specs.Running.{Made, Runs, in_its_place};
 ghost use Rattle.one_server.specs.Whole.{IsOpening, opened, parts_of};
 ghost use Rattle.hall_core.specs.Passes.{EveryoneJoined, first_pass, HasLooked, IsJoined, new_pass, divided, runs_of};
 ghost use Rattle.hall_core.specs.Acts.{CameTo, OnlyRan};
@@ -135,7 +135,7 @@ impl Hall {
         requires here { pass.old.home ≡ self.now }
         requires event { IsEvent (record { moment = moment; act = act }) }
         ensures only { OnlyRan pass.old pass.new }
-        ensures ran { Runs (runs_of pass.old) (record { moment = moment; act = act }) (told result reply.new)
+        ensures ran { Runs (runs_of pass.old) (record { moment = moment; act = act }) (in_its_place result reply.new)
             (runs_of pass.new) }
         ensures sure { NeedsNoMemory act → IsOk result }
     {

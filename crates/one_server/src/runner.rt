@@ -15,7 +15,7 @@ use std::alloc::Global;
 pub trait Runner {
     ghost use Rattle.std.specs.Prelude.{◌≡◌, true, IsOk};
     ghost use Rattle.one_server.specs.Acts.{FitsAct, NeedsNoMemory};
-    ghost use Rattle.one_server.specs.Running.{IsKnown, RunnerState, Runs, told};
+    ghost use Rattle.one_server.specs.Running.{IsKnown, RunnerState, Runs, in_its_place};
 
     ghost Home: { Type 0 };
 
@@ -40,7 +40,7 @@ pub trait Runner {
     ) -> Result<(), NoMemory>
         requires { FitsAct act }
         ensures home { home self.new ≡ home self.old }
-        ensures ran { Runs (state self.old) (record { moment = moment; act = act }) (told result reply.new)
+        ensures ran { Runs (state self.old) (record { moment = moment; act = act }) (in_its_place result reply.new)
             (state self.new) }
         ensures marked { (state self.old).mark ≡ true → NeedsNoMemory act → IsOk result };
 }
