@@ -1,13 +1,17 @@
 -- What the chain of an act says of a view, said of a pass of the hall.
 use Rattle.std.proofs.Common.{◌≡◌, ℕ, Bool, [], ◌∷◌, ◌++◌, true, false, ap, sym, subst, ◌∙◌}
 use Rattle.std.proofs.lemmas.List.{append_assoc, append-nil}
+use Rattle.std.specs.Prelude.{OnOk, OnErr}
+use Rattle.std.specs.declared.result.Result.{Result}
+use Rattle.std.specs.declared.result.Result.TheVariants.{Ok, Err}
 use Rattle.histories.specs.Core.{Touches}
 use Rattle.histories.specs.History.{IsPrefix, calls_of, entry, state, Legal}
+use Rattle.memory.specs.declared.NoMemory.{NoMemory}
 use Rattle.one_server.specs.declared.act.Timed.{Timed}
 use Rattle.one_server.specs.declared.part.Part.{Part}
 use Rattle.one_server.specs.declared.reply.Reply.{Reply}
 use Rattle.one_server.specs.House.{house}
-use Rattle.one_server.specs.Running.{IsKnown, Log, Made, Ran as IsAnswered}
+use Rattle.one_server.specs.Running.{IsKnown, Log, Made, Runs, Ran as IsAnswered, in_its_place}
 use Rattle.one_server.specs.Whole.{IsWhole}
 use Rattle.one_server.proofs.Replies.{last_reply}
 use Rattle.turn_table.specs.declared.view.View.{View}
@@ -55,6 +59,10 @@ module _ (v w : PassStanding Part Timed Reply) (same : fixed w.view ≡ fixed v.
     more = unmade.same ∙ sym (append-nil v.view.made);
     only = λ e. absurd cc;
   }
+
+  pub runs : IsWhole v.view.opening → (timed : Timed) (r : Result Unit NoMemory) (x : Reply) → OnOk r (HasRun house v.view timed x w.view) → OnErr r (HasNotRun house v.view w.view) → Runs (runs_of (pass_state v false)) timed (in_its_place r x) (runs_of (pass_state w false))
+  runs whole timed (Ok done) x ran unmade = answered whole timed x ran
+  runs whole timed (Err e) x ran unmade = unanswered unmade
 
   -- a part that was busy
   pub busy_part : (short : Bool) (timed : Timed) (part : ℕ) → ViewBusy house v.view timed part w.view → FoundBusy (pass_state v short) timed part (pass_state w short)

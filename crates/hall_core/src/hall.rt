@@ -8,7 +8,7 @@ ghost use Rattle.one_server.specs.declared.act.Timed.{Timed};
 ghost use Rattle.one_server.specs.declared.reply.Reply.{Reply};
 ghost use Rattle.one_server.specs.Acts.{IsEvent, NeedsNoMemory};
 ghost use Rattle.one_server.specs.House.{house};
-ghost use Rattle.one_server.specs.Running.{Made, Runs};
+ghost use Rattle.one_server.specs.Running.{Made, Runs, in_its_place};
 ghost use Rattle.one_server.specs.Whole.{IsOpening, opened, parts_of};
 ghost use Rattle.hall_core.specs.Passes.{EveryoneJoined, first_pass, HasLooked, IsJoined, new_pass, divided, runs_of};
 ghost use Rattle.hall_core.specs.Acts.{CameTo, OnlyRan};
@@ -130,27 +130,17 @@ impl Hall {
         gate: &G,
         moment: u64,
         act: Act,
-    ) -> Result<Reply, NoMemory>
+        reply: &mut Reply,
+    ) -> Result<(), NoMemory>
         requires here { pass.old.home ≡ self.now }
         requires event { IsEvent (record { moment = moment; act = act }) }
         ensures only { OnlyRan pass.old pass.new }
-        ensures ran { Runs (runs_of pass.old) (record { moment = moment; act = act }) result (runs_of pass.new) }
+        ensures ran { Runs (runs_of pass.old) (record { moment = moment; act = act }) (in_its_place result reply.new)
+            (runs_of pass.new) }
         ensures sure { NeedsNoMemory act → IsOk result }
     {
         let timed = Timed { moment, act };
-        let mut reply = Reply::blank();
-        let Ok(()) = turn_chain::run(
-            rt,
-            alloc,
-            &self.turns,
-            &mut pass.pass,
-            gate,
-            &timed,
-            &mut reply,
-        ) else {
-            return Err(NoMemory);
-        };
-        Ok(reply)
+        turn_chain::run(rt, alloc, &self.turns, &mut pass.pass, gate, &timed, reply)
     }
 
     /// Gives the lobby and the desks back, once every pass that was split was joined into the first one. They are the

@@ -92,7 +92,13 @@ impl<G: Gate, R: Wait> Runner for HallSeat<'_, G, R> {
         self.pass.session()
     }
 
-    fn run(&mut self, alloc: Global, moment: Moment, act: Act) -> Result<Reply, NoMemory> {
+    fn run(
+        &mut self,
+        alloc: Global,
+        moment: Moment,
+        act: Act,
+        reply: &mut Reply,
+    ) -> Result<(), NoMemory> {
         self.hall.run(
             self.rt,
             alloc,
@@ -100,6 +106,7 @@ impl<G: Gate, R: Wait> Runner for HallSeat<'_, G, R> {
             self.gate,
             moment.millis(),
             act,
+            reply,
         )
     }
 }

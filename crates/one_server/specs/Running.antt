@@ -46,6 +46,11 @@ pub record Ran (old : RunnerState) (act : Timed) (reply : Reply) (new : RunnerSt
   pub ends : new.seen ≡ (old.seen ++ others) ++ entry old.number act reply ∷ []
   pub fits : IsReply reply
 
+-- what an act came to whose reply is written in its place: that reply, where the act was made
+abbrev pub in_its_place : Result Unit NoMemory → Reply → Result Reply NoMemory
+in_its_place (Ok done) reply = Ok reply
+in_its_place (Err e) reply = Err e
+
 -- a session runs an act: it is answered, or it runs out of memory and makes no entry
 abbrev pub Runs : RunnerState → Timed → Result Reply NoMemory → RunnerState → Type 0
 Runs old act (Ok reply) new = Ran old act reply new

@@ -32,7 +32,7 @@ pub use laws::{
 pub use lent::{alone, first_part, second_part, together};
 pub use part::Part;
 pub use reply::{PairReply, Reply};
-pub use runner::Runner;
+pub use runner::{Runner, answered};
 pub use seat::OneSeat;
 pub use server::OneServer;
 pub use steps::{desk_step, lobby_step, pair_step};

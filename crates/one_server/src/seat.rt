@@ -45,7 +45,19 @@ impl Runner for OneSeat<'_> {
         self.session
     }
 
-    fn run(&mut self, _alloc: Global, moment: Moment, act: Act) -> Result<Reply, NoMemory> {
-        self.server.run(self.session, moment.millis(), act)
+    fn run(
+        &mut self,
+        _alloc: Global,
+        moment: Moment,
+        act: Act,
+        reply: &mut Reply,
+    ) -> Result<(), NoMemory> {
+        match self.server.run(self.session, moment.millis(), act) {
+            Ok(made) => {
+                *reply = made;
+                Ok(())
+            }
+            Err(NoMemory) => Err(NoMemory),
+        }
     }
 }

@@ -4,7 +4,7 @@ use chess_model::Colour;
 use clock_ledger::Moment;
 use hall_core::HallSeat;
 use memory::NoMemory;
-use one_server::{Act, OneServer, Reply, Runner};
+use one_server::{Act, OneServer, Reply, answered};
 use std::alloc::Global;
 use std::sync::Wait;
 use turn_chain::OpenGate;
@@ -66,8 +66,8 @@ impl<R: Wait> Table for HallTable<'_, R> {
         act: Act,
     ) -> Result<Reply, NoMemory> {
         match colour {
-            Colour::White => self.white.run(alloc, moment, act),
-            Colour::Black => self.black.run(alloc, moment, act),
+            Colour::White => answered(&mut self.white, alloc, moment, act),
+            Colour::Black => answered(&mut self.black, alloc, moment, act),
         }
     }
 }

@@ -11,7 +11,7 @@ use crate::stage::Stage;
 use crate::visiting::visit_all;
 use clock_ledger::Moment;
 use memory::NoMemory;
-use one_server::{Act, Runner};
+use one_server::{Act, Reply, Runner};
 use std::alloc::Global;
 
 /// Makes the acts of a course, all at `moment`, in milliseconds and at most 2^48, and appends what it writes. After
@@ -66,6 +66,7 @@ fn ask<R: Runner>(
     ensures ready { IfOk result (IsPosed memory.new) }
     ensures fewer { IfOk result (λ next. acts_left next ≤ acts_after stage) }
 {
-    let reply = r.run(alloc, moment, act)?;
+    let mut reply = Reply::blank();
+    r.run(alloc, moment, act, &mut reply)?;
     stage.next(memory, &reply, out)
 }

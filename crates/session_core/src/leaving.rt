@@ -13,7 +13,7 @@ use crate::session_memory::SessionMemory;
 use clock_ledger::Moment;
 use lobby_state::LobbyReply;
 use memory::NoMemory;
-use one_server::{Act, Reply, Runner};
+use one_server::{Act, Reply, Runner, answered};
 use std::alloc::Global;
 
 /// Makes the acts of leaving, all at `moment`, in milliseconds and at most 2^48: the member goes, leaves each of its
@@ -69,7 +69,7 @@ fn ask_or_pass<R: Runner>(
     ensures fewer { acts_to_leave result.1 ≤ acts_of_leaving stage }
     ensures gone { HasGone result.1 memory.new }
 {
-    match r.run(alloc, moment, act) {
+    match answered(r, alloc, moment, act) {
         Ok(reply) => (Ok(()), stage.next(memory, &reply)),
         Err(NoMemory) => (Err(NoMemory), stage.next(memory, &nothing_told())),
     }

@@ -15,7 +15,7 @@ use crate::session_memory::SessionMemory;
 use crate::texts::put_news;
 use clock_ledger::Moment;
 use memory::NoMemory;
-use one_server::{Reply, Runner};
+use one_server::{Reply, Runner, answered};
 use session_asks::{Visit, fetch_at, says_over};
 use std::alloc::Global;
 
@@ -88,7 +88,9 @@ fn ask_news<R: Runner>(
         (BrokeOff (visits (visit.now ∷ rest) memory.old) moment (R.state r.old) memory.old (R.state r.new) memory.new) }
     ensures inside { has_entered memory.new ≡ true }
 {
-    let reply = r.run(alloc, moment, fetch_at(visit.desk, visit.serial))?;
+    let mut reply = Reply::blank();
+    let act = fetch_at(visit.desk, visit.serial);
+    r.run(alloc, moment, act, &mut reply)?;
     tell_news(visit, memory, &reply, out)
 }
 
@@ -106,7 +108,7 @@ fn give_up<R: Runner>(
     ensures broke { (rest : Course) (memory : MemoryState) → OnErr result
         (BrokeOff (given_up visit.now true rest) moment (R.state r.old) memory (R.state r.new) memory) }
 {
-    let _cleared = r.run(alloc, moment, clear_at(visit))?;
+    let _cleared = answered(r, alloc, moment, clear_at(visit))?;
     Ok(())
 }
 

@@ -7,7 +7,7 @@ ghost use Rattle.steward_core.specs.Clearing.{Cleared, ClearsOne, TakesClearing,
 use clock_ledger::Moment;
 use lobby_state::{DeskInUse, LobbyAct, LobbyReply, PairAct};
 use memory::NoMemory;
-use one_server::{Act, Reply, Runner};
+use one_server::{Act, Reply, Runner, answered};
 use std::alloc::Global;
 
 /// How clearing ended.
@@ -28,7 +28,7 @@ pub fn clearing_turn<R: Runner>(alloc: Global, runner: &mut R, moment: Moment) -
 {
     // What is known of every runner is known from here on.
     let _session = runner.session();
-    match runner.run(alloc, moment, Act::Lobby(LobbyAct::InUse)) {
+    match answered(runner, alloc, moment, Act::Lobby(LobbyAct::InUse)) {
         Ok(Reply::Lobby(LobbyReply::Desks(rows))) => {
             clear_each(alloc, runner, moment, rows.as_slice())
         }
@@ -72,7 +72,7 @@ fn clear_one<R: Runner>(
         desk: row.desk,
         serial: row.serial,
     });
-    match runner.run(alloc, moment, act) {
+    match answered(runner, alloc, moment, act) {
         Ok(_) => ClearingEnd::Done,
         Err(NoMemory) => ClearingEnd::Memory,
     }

@@ -16,7 +16,7 @@ use lobby_shelf::{ORDERS_AT_ONCE, Order};
 use lobby_state::{LobbyAct, LobbyReply};
 use lobby_store::carry_out;
 use memory::NoMemory;
-use one_server::{Act, Reply, Runner};
+use one_server::{Act, Reply, Runner, answered};
 use std::alloc::Global;
 
 /// How many answers a turn asks for at most, so that what it counts stays below 2^32.
@@ -86,7 +86,7 @@ fn save_round<R: Runner, P: Keeper>(
     ensures fault { result ≡ SaveRound.KeeperFault → Rose (P.faults keeper.old) (P.faults keeper.new) }
     ensures counted { P.faults keeper.old ≤ P.faults keeper.new }
 {
-    let reply = match runner.run(alloc, moment, Act::Lobby(LobbyAct::Orders)) {
+    let reply = match answered(runner, alloc, moment, Act::Lobby(LobbyAct::Orders)) {
         Ok(reply) => reply,
         Err(NoMemory) => return SaveRound::Memory,
     };
@@ -157,7 +157,7 @@ fn tell_saved<R: Runner>(
         return SavedTold::Done;
     };
     let act = Act::Lobby(LobbyAct::Saved { upto: last.number });
-    match runner.run(alloc, moment, act) {
+    match answered(runner, alloc, moment, act) {
         Ok(_) => SavedTold::Done,
         Err(NoMemory) => SavedTold::Memory,
     }

@@ -10,7 +10,7 @@ use game_board::GameBoard;
 use hall_core::HallParts;
 use linked_desk::{BoardNumber, Desk};
 use lobby_state::DESKS;
-use one_server::{Act, OneServer, Reply, Runner, desk_step, lobby_step};
+use one_server::{Act, OneServer, Reply, answered, desk_step, lobby_step};
 use std::alloc::Global;
 
 /// When it is asked what stands, in milliseconds.
@@ -131,5 +131,5 @@ fn answer_of_server(
     let (session, does) = question;
     let act = act_of(Game::of(session), does)?;
     let mut seat = server.seat(session);
-    Ok(seat.run(alloc, Moment::new(MOMENT), act)?)
+    Ok(answered(&mut seat, alloc, Moment::new(MOMENT), act)?)
 }

@@ -82,7 +82,10 @@ impl<'a, J: Here> Guest<'a, J> {
     ) -> Result<Reply, NoMemory>
         requires { IsEvent (record { moment = moment; act = act }) }
     {
-        self.hall.run(rt, alloc, &mut self.pass, gate, moment, act)
+        let mut reply = Reply::blank();
+        self.hall
+            .run(rt, alloc, &mut self.pass, gate, moment, act, &mut reply)?;
+        Ok(reply)
     }
 
     /// Makes an act of the session, and waits for nobody.

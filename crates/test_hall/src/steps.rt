@@ -10,7 +10,7 @@ use clock_ledger::Moment;
 use fics_words::Fail;
 use linked_desk::DeskAct;
 use lobby_state::{LobbyAct, PairAct};
-use one_server::{Act, Reply, Runner};
+use one_server::{Act, Reply, Runner, answered};
 use std::alloc::Global;
 use test_server_steps::{Said, handle, in_short, square};
 
@@ -94,7 +94,7 @@ pub fn reply_to<R: Runner>(
     does: Does,
 ) -> Result<Reply, Fail> {
     let act = act_of(game, does)?;
-    let reply = seat.run(alloc, Moment::new(u64::from(moment)), act)?;
+    let reply = answered(seat, alloc, Moment::new(u64::from(moment)), act)?;
     Ok(reply)
 }
 

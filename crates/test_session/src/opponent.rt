@@ -119,9 +119,21 @@ impl Runner for OpposedSeat<'_> {
         PLAYER
     }
 
-    fn run(&mut self, alloc: Global, moment: Moment, act: Act) -> Result<Reply, NoMemory> {
+    fn run(
+        &mut self,
+        alloc: Global,
+        moment: Moment,
+        act: Act,
+        reply: &mut Reply,
+    ) -> Result<(), NoMemory> {
         self.opponent
             .speak_before(alloc, &mut *self.server, moment.millis())?;
-        self.server.run(PLAYER, moment.millis(), act)
+        match self.server.run(PLAYER, moment.millis(), act) {
+            Ok(made) => {
+                *reply = made;
+                Ok(())
+            }
+            Err(NoMemory) => Err(NoMemory),
+        }
     }
 }

@@ -40,13 +40,25 @@ impl Runner for ShortSeat<'_> {
         self.session
     }
 
-    fn run(&mut self, _alloc: Global, moment: Moment, act: Act) -> Result<Reply, NoMemory> {
+    fn run(
+        &mut self,
+        _alloc: Global,
+        moment: Moment,
+        act: Act,
+        reply: &mut Reply,
+    ) -> Result<(), NoMemory> {
         let before = self.before;
         self.before = before.wrapping_sub(1);
         if before == 0 {
             let _history = self.server.history();
             return Err(NoMemory);
         }
-        self.server.run(self.session, moment.millis(), act)
+        match self.server.run(self.session, moment.millis(), act) {
+            Ok(made) => {
+                *reply = made;
+                Ok(())
+            }
+            Err(NoMemory) => Err(NoMemory),
+        }
     }
 }

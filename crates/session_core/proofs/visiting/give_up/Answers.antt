@@ -9,13 +9,13 @@ use Rattle.session_core.proofs.visiting.give_up.Goals as goal
 
 pub returns-in_err-_cleared-clause-broke : goal.returns-in_err-_cleared-clause-broke
 returns-in_err-_cleared-clause-broke g c = λ rest memory.
-    broke_unasked c.args.moment c.from_residual.result (given_up c.args.visit.now true rest) (g.R.Runner.state c.args.r.now) memory (g.R.Runner.state c.run.new.self)
+    broke_unasked c.args.moment c.from_residual.result (given_up c.args.visit.now true rest) (g.R.Runner.state c.args.r.now) memory (g.R.Runner.state c.answered.new.r)
     c.in_err-_cleared.ensures.ran
 
 pub returns-clause-went : goal.returns-clause-went
 returns-clause-went g c = λ rest memory out inside.
     let old = g.R.Runner.state c.args.r.now in
-    let new = g.R.Runner.state c.run.new.self in
+    let new = g.R.Runner.state c.answered.new.r in
     let act = clear_at c.args.visit.now in
     let reply = c.in_ok-_cleared._cleared in
     on_made c.args.moment act (λ cleared. rest) reply old memory out new memory

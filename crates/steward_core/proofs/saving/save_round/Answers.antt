@@ -10,21 +10,21 @@ use Rattle.steward_core.proofs.saving.save_round.Goals as goal
 
 pub save_told-requires-clause-few : goal.save_told-requires-clause-few
 save_told-requires-clause-few g c =
-    let told = told_first c.args.moment c.in-Ok.reply (g.R.Runner.state c.args.runner.now) (g.R.Runner.state c.run.new.self) c.in-Ok.ensures.ran in
+    let told = told_first c.args.moment c.in-Ok.reply (g.R.Runner.state c.args.runner.now) (g.R.Runner.state c.answered.new.r) c.in-Ok.ensures.ran in
     subst (λ (orders : List Order). length orders ≤ 16) (sym (c.as_slice.ensures ∙ c.orders_in-orders.ensures)) told.few
 
 pub returns-clause-round : goal.returns-clause-round
 returns-clause-round g c =
-    let told = told_first c.args.moment c.in-Ok.reply (g.R.Runner.state c.args.runner.now) (g.R.Runner.state c.run.new.self) c.in-Ok.ensures.ran in
+    let told = told_first c.args.moment c.in-Ok.reply (g.R.Runner.state c.args.runner.now) (g.R.Runner.state c.answered.new.r) c.in-Ok.ensures.ran in
     let same = sym (c.as_slice.ensures ∙ c.orders_in-orders.ensures) in
     round_run c.args.moment c.as_slice.result.now (store_of g.P.Keeper.table g.P.Keeper.faults g.P.Keeper.calls c.args.keeper.now) (store_of g.P.Keeper.table g.P.Keeper.faults g.P.Keeper.calls c.save_told.new.keeper) c.in-Ok.reply
-    (g.R.Runner.state c.args.runner.now) (g.R.Runner.state c.run.new.self) (g.R.Runner.state c.save_told.new.runner) c.in-Ok.ensures.ran.grew.known c.in-Ok.ensures.ran
+    (g.R.Runner.state c.args.runner.now) (g.R.Runner.state c.answered.new.r) (g.R.Runner.state c.save_told.new.runner) c.in-Ok.ensures.ran.grew.known c.in-Ok.ensures.ran
     same (subst (λ (orders : List Order). length orders ≤ 16) same told.few) c.save_told.result c.save_told.ensures.saves
 
 pub returns-clause-agrees : goal.returns-clause-agrees
 returns-clause-agrees g c =
     let old = g.R.Runner.state c.args.runner.now in
-    let mid = g.R.Runner.state c.run.new.self in
+    let mid = g.R.Runner.state c.answered.new.r in
     let new = g.R.Runner.state c.save_told.new.runner in
     let table = g.P.Keeper.table c.args.keeper.now in
     let ran = c.in-Ok.ensures.ran in
@@ -40,8 +40,8 @@ returns-clause-agrees g c =
 
 pub returns-in-Err-clause-agrees : goal.returns-in-Err-clause-agrees
 returns-in-Err-clause-agrees g c =
-    agreed_unsaved (g.P.Keeper.table c.args.keeper.now) (g.R.Runner.state c.args.runner.now) (g.R.Runner.state c.run.new.self) _ c.requires.known c.in-Err.ensures.ran tt
+    agreed_unsaved (g.P.Keeper.table c.args.keeper.now) (g.R.Runner.state c.args.runner.now) (g.R.Runner.state c.answered.new.r) _ c.requires.known c.in-Err.ensures.ran tt
 
 pub returns-in-Err-clause-round : goal.returns-in-Err-clause-round
 returns-in-Err-clause-round g c =
-    round_unasked c.args.moment (store_of g.P.Keeper.table g.P.Keeper.faults g.P.Keeper.calls c.args.keeper.now) (g.R.Runner.state c.args.runner.now) (g.R.Runner.state c.run.new.self) c.in-Err.ensures.ran
+    round_unasked c.args.moment (store_of g.P.Keeper.table g.P.Keeper.faults g.P.Keeper.calls c.args.keeper.now) (g.R.Runner.state c.args.runner.now) (g.R.Runner.state c.answered.new.r) c.in-Err.ensures.ran
