@@ -120,8 +120,8 @@ impl Hall {
     }
 
     /// Makes an act of the pass's session at `moment`, in milliseconds, and waits for the turns of its parts. The gate
-    /// is told of each part once it is out. The reply is the server's; running out of memory gives none, and the act
-    /// isn't made. It may wait for ever.
+    /// is told of each part once it is out. The reply, which is the server's, is written over what stands in its place;
+    /// running out of memory gives none, and the act isn't made. It may wait for ever.
     pub fn run<G: Gate, R: Wait>(
         &self,
         rt: &R,
