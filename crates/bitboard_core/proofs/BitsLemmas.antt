@@ -28,7 +28,8 @@ use Rattle.chess_model.proofs.Captures.{forward-near}
 use Rattle.chess_model.proofs.ChessLaws.{Clear-near}
 
 -- the square that was written, and the others
-written : (P : Placement) (s t : ℕ) (man : Option Man) → s < length P → (t ≡ s → man_at (slice_set P s man) t ≡ man) × (t ≢ s → man_at (slice_set P s man) t ≡ man_at P t)
+written : (P : Placement) (s t : ℕ) (man : Option Man) → s < length P
+    → (t ≡ s → man_at (slice_set P s man) t ≡ man) × (t ≢ s → man_at (slice_set P s man) t ≡ man_at P t)
 written P s t man lt = (
   λ e. ap (man_at (slice_set P s man)) e ∙ get_or-set_same P s man None lt,
   λ other. get_or-set_other P s t man None other,
@@ -48,23 +49,27 @@ module _ (f : Option Man → Bool) (P : Placement) (s : ℕ) (man : Option Man) 
         ];
   }
 
-  pub set_bit : (set : ℕ) → f man ≡ true → IsSetOf f P set → IsSetOf f (slice_set P s man) (bit_or set (1 * 2 ^ s % 2 ^ 64))
+  pub set_bit : (set : ℕ) → f man ≡ true → IsSetOf f P set
+      → IsSetOf f (slice_set P s man) (bit_or set (1 * 2 ^ s % 2 ^ 64))
   set_bit set e all =
       at_write set (bit_or set (1 * 2 ^ s % 2 ^ 64)) (bit_at_set_same w64 set s ls ∙ sym (bit_if-of_true (f man) e))
       (λ t lt other. bit_at_set_other w64 set s ls t other) all
 
-  pub clear_bit : (set : ℕ) → bit_if (f man) ≡ 0 → IsSetOf f P set → IsSetOf f (slice_set P s man) (bit_and set (bit_not w64 (1 * 2 ^ s % 2 ^ 64)))
+  pub clear_bit : (set : ℕ) → bit_if (f man) ≡ 0 → IsSetOf f P set
+      → IsSetOf f (slice_set P s man) (bit_and set (bit_not w64 (1 * 2 ^ s % 2 ^ 64)))
   clear_bit set e all =
       at_write set (bit_and set (bit_not w64 (1 * 2 ^ s % 2 ^ 64))) (bit_at_clear_same w64 set s ls ∙ sym e)
       (λ t lt other. bit_at_clear_other w64 set s ls t lt other) all
 
-  pub keep_bit : (set : ℕ) → bit_if (f (man_at P s)) ≡ bit_if (f man) → IsSetOf f P set → IsSetOf f (slice_set P s man) set
+  pub keep_bit : (set : ℕ) → bit_if (f (man_at P s)) ≡ bit_if (f man) → IsSetOf f P set
+      → IsSetOf f (slice_set P s man) set
   keep_bit set e all = at_write set set (all.each s ls ∙ e) (λ t lt other. refl) all
 
 bit_if-eqb : (i j : ℕ) → i ≢ j → bit_if (nat_eq i j) ≡ 0
 bit_if-eqb i j apart = elim (eqb_tells i j) [ inl h ↦ absurd (apart h.1) | inr h ↦ ap bit_if h.0 ]
 
-bit_of : (f : Option Man → Bool) (P : Placement) (s : ℕ) (man : Option Man) → man_at P s ≡ man → bit_if (f (man_at P s)) ≡ bit_if (f man)
+bit_of : (f : Option Man → Bool) (P : Placement) (s : ℕ) (man : Option Man) → man_at P s ≡ man
+    → bit_if (f (man_at P s)) ≡ bit_if (f man)
 bit_of f P s man e = ap (λ x. bit_if (f x)) e
 
 -- the twelve sets after one of them was written
@@ -74,7 +79,8 @@ men_written : (P : Placement) (men : List ℕ) (Q : Placement) (place x : ℕ) �
     (i : ℕ) → i < 12 → IsSetOf (is_placed i) Q (slice_index (slice_set men place x) i)
 men_written P men Q place x size lp all here others i li = elim (cases_order i place) [
   | inl same ↦
-      let e : slice_index (slice_set men place x) i ≡ x = ap (slice_index (slice_set men place x)) same ∙ get_or-set_same men place x 0 (omega (arith, size, lp)) in
+      let e : slice_index (slice_set men place x) i ≡ x =
+      ap (slice_index (slice_set men place x)) same ∙ get_or-set_same men place x 0 (omega (arith, size, lp)) in
       let h : IsSetOf (is_placed i) Q x = subst (λ (j : ℕ). IsSetOf (is_placed j) Q x) (sym same) here in
       subst (λ (set : ℕ). IsSetOf (is_placed i) Q set) (sym e) h
   | inr apart ↦
@@ -83,11 +89,13 @@ men_written P men Q place x size lp all here others i li = elim (cases_order i p
       subst (λ (set : ℕ). IsSetOf (is_placed i) Q set) (sym e) (others i li other)
 ]
 
-bit_at_place : (m : Man) (place i : ℕ) → place ≡ man_place m.colour m.kind → i ≢ place → bit_if (is_placed i (Some m)) ≡ 0
+bit_at_place : (m : Man) (place i : ℕ) → place ≡ man_place m.colour m.kind → i ≢ place
+    → bit_if (is_placed i (Some m)) ≡ 0
 bit_at_place m place i e other = bit_if-eqb (man_place m.colour m.kind) i (λ h. other (sym (e ∙ h)))
 
 -- a man comes to an empty square
-pub kept_put : (b : Inside) (s place : ℕ) (m : Man) (promoted : ℕ) → AreKept b → s < 64 → man_at b.squares s ≡ None → place < 12 →
+pub kept_put : (b : Inside) (s place : ℕ) (m : Man) (promoted : ℕ) → AreKept b → s < 64 → man_at b.squares s ≡ None
+    → place < 12 →
     place ≡ man_place m.colour m.kind → IsSetOf is_promoted (slice_set b.squares s (Some m)) promoted →
     AreKept (record {
       squares = slice_set b.squares s (Some m);
@@ -98,19 +106,24 @@ pub kept_put : (b : Inside) (s place : ℕ) (m : Man) (promoted : ℕ) → AreKe
 kept_put b s place m promoted h ls free lp e marks = record {
   squares = length-set b.squares s (Some m) ∙ h.squares;
   places = length-set b.men place (bit_or (slice_index b.men place) (1 * 2 ^ s % 2 ^ 64)) ∙ h.places;
-  men = men_written b.squares b.men (slice_set b.squares s (Some m)) place (bit_or (slice_index b.men place) (1 * 2 ^ s % 2 ^ 64)) h.places lp h.men
-      (set_bit (is_placed place) b.squares s (Some m) h.squares ls (slice_index b.men place) (eq-eqb (man_place m.colour m.kind) place (sym e)) (h.men place lp))
+  men =
+      men_written b.squares b.men (slice_set b.squares s (Some m)) place
+      (bit_or (slice_index b.men place) (1 * 2 ^ s % 2 ^ 64)) h.places lp h.men
+      (set_bit (is_placed place) b.squares s (Some m) h.squares ls (slice_index b.men place)
+      (eq-eqb (man_place m.colour m.kind) place (sym e)) (h.men place lp))
       (λ i li other. keep_bit (is_placed i) b.squares s (Some m) h.squares ls (slice_index b.men i)
       (bit_of (is_placed i) b.squares s None free ∙ sym (bit_at_place m place i e other)) (h.men i li));
   promoted = marks;
   occupied = set_bit is_some b.squares s (Some m) h.squares ls b.occupied refl h.occupied;
 }
 
-pub marked_put : (P : Placement) (s : ℕ) (m : Man) (set : ℕ) → length P ≡ 64 → s < 64 → m.promoted ≡ true → IsSetOf is_promoted P set →
+pub marked_put : (P : Placement) (s : ℕ) (m : Man) (set : ℕ) → length P ≡ 64 → s < 64 → m.promoted ≡ true
+    → IsSetOf is_promoted P set →
     IsSetOf is_promoted (slice_set P s (Some m)) (bit_or set (1 * 2 ^ s % 2 ^ 64))
 marked_put P s m set size ls e all = set_bit is_promoted P s (Some m) size ls set e all
 
-pub unmarked_put : (P : Placement) (s : ℕ) (m : Man) (set : ℕ) → length P ≡ 64 → s < 64 → man_at P s ≡ None → m.promoted ≡ false →
+pub unmarked_put : (P : Placement) (s : ℕ) (m : Man) (set : ℕ) → length P ≡ 64 → s < 64 → man_at P s ≡ None
+    → m.promoted ≡ false →
     IsSetOf is_promoted P set → IsSetOf is_promoted (slice_set P s (Some m)) set
 unmarked_put P s m set size ls free e all =
     keep_bit is_promoted P s (Some m) size ls set (bit_of is_promoted P s None free ∙ sym (ap bit_if e)) all
@@ -127,7 +140,9 @@ pub kept_lift : (b : Inside) (s place : ℕ) (m : Man) → AreKept b → s < 64 
 kept_lift b s place m h ls here lp e = record {
   squares = length-set b.squares s None ∙ h.squares;
   places = length-set b.men place (bit_and (slice_index b.men place) (bit_not w64 (1 * 2 ^ s % 2 ^ 64))) ∙ h.places;
-  men = men_written b.squares b.men (slice_set b.squares s None) place (bit_and (slice_index b.men place) (bit_not w64 (1 * 2 ^ s % 2 ^ 64))) h.places lp h.men
+  men =
+      men_written b.squares b.men (slice_set b.squares s None) place
+      (bit_and (slice_index b.men place) (bit_not w64 (1 * 2 ^ s % 2 ^ 64))) h.places lp h.men
       (clear_bit (is_placed place) b.squares s None h.squares ls (slice_index b.men place) refl (h.men place lp))
       (λ i li other. keep_bit (is_placed i) b.squares s None h.squares ls (slice_index b.men i)
       (bit_of (is_placed i) b.squares s (Some m) here ∙ bit_at_place m place i e other) (h.men i li));
@@ -149,7 +164,9 @@ pub kept_empty : AreKept (record { squares = replicate 64 None; men = replicate 
 kept_empty = record {
   squares = refl;
   places = refl;
-  men = λ i li. subst (λ (set : ℕ). IsSetOf (is_placed i) (replicate 64 None) set) (sym (zero_at i li)) (empty_set (is_placed i) refl);
+  men = λ i li.
+      subst (λ (set : ℕ). IsSetOf (is_placed i) (replicate 64 None) set) (sym (zero_at i li))
+      (empty_set (is_placed i) refl);
   promoted = empty_set is_promoted refl;
   occupied = empty_set is_some refl;
 }
@@ -172,13 +189,15 @@ six a b c d e f t h = elim (Has-or (bit_or (bit_or (bit_or (bit_or a b) c) d) e)
   ]
 ]
 
-held-of-placed : (c : Colour) (k : Kind) (man : Option Man) → is_placed (man_place c k) man ≡ true → is_held_by c man ≡ true
+held-of-placed : (c : Colour) (k : Kind) (man : Option Man) → is_placed (man_place c k) man ≡ true
+    → is_held_by c man ≡ true
 held-of-placed c k None e = absurd (true≢false (sym e))
 held-of-placed c k (Some m) e =
     let same = same_place m.colour c m.kind k (eqb-true (man_place m.colour m.kind) (man_place c k) e) in
     ap (λ x. same_colour x c) same.0 ∙ same_colour-self c
 
-held_at : (P : Placement) (c : Colour) (k : Kind) (set t : ℕ) → IsSetOf (is_placed (man_place c k)) P set → t < 64 → Has set t →
+held_at : (P : Placement) (c : Colour) (k : Kind) (set t : ℕ) → IsSetOf (is_placed (man_place c k)) P set → t < 64
+    → Has set t →
     is_held_by c (man_at P t) ≡ true
 held_at P c k set t all lt h =
     held-of-placed c k (man_at P t) (bit_if-true (is_placed (man_place c k) (man_at P t)) (sym (all.each t lt) ∙ h))
@@ -195,7 +214,8 @@ bit_from x false lt to from = elim (cases_order x 0) [
 
 module _ (P : Placement) (c : Colour) (side : Side) (men : AreMenOf P c side) where
   all_of : ℕ
-  all_of = bit_or (bit_or (bit_or (bit_or (bit_or side.pawns side.knights) side.bishops) side.rooks) side.queens) side.kings
+  all_of =
+      bit_or (bit_or (bit_or (bit_or (bit_or side.pawns side.knights) side.bishops) side.rooks) side.queens) side.kings
 
   is_held : (t : ℕ) → t < 64 → Has all_of t → is_held_by c (man_at P t) ≡ true
   unfolding all_of
@@ -216,15 +236,25 @@ module _ (P : Placement) (c : Colour) (side : Side) (men : AreMenOf P c side) wh
     ]
   ]
 
-  own_set : (t : ℕ) (k : Kind) (set : ℕ) → IsSetOf (is_placed (man_place c k)) P set → t < 64 → is_placed (man_place c k) (man_at P t) ≡ true → Has set t
+  own_set : (t : ℕ) (k : Kind) (set : ℕ) → IsSetOf (is_placed (man_place c k)) P set → t < 64
+      → is_placed (man_place c k) (man_at P t) ≡ true → Has set t
   own_set t k set all lt e = all.each t lt ∙ bit_if-of_true (is_placed (man_place c k) (man_at P t)) e
 
   by_kind : (t : ℕ) (k : Kind) → t < 64 → is_placed (man_place c k) (man_at P t) ≡ true → Has all_of t
   unfolding all_of
-  by_kind t Pawn lt e = Has-or_left _ _ t (Has-or_left _ _ t (Has-or_left _ _ t (Has-or_left _ _ t (Has-or_left _ _ t (own_set t Pawn side.pawns men.pawns lt e)))))
-  by_kind t Knight lt e = Has-or_left _ _ t (Has-or_left _ _ t (Has-or_left _ _ t (Has-or_left _ _ t (Has-or_right _ _ t (own_set t Knight side.knights men.knights lt e)))))
-  by_kind t Bishop lt e = Has-or_left _ _ t (Has-or_left _ _ t (Has-or_left _ _ t (Has-or_right _ _ t (own_set t Bishop side.bishops men.bishops lt e))))
-  by_kind t Rook lt e = Has-or_left _ _ t (Has-or_left _ _ t (Has-or_right _ _ t (own_set t Rook side.rooks men.rooks lt e)))
+  by_kind t Pawn lt e =
+      Has-or_left _ _ t
+      (Has-or_left _ _ t
+      (Has-or_left _ _ t (Has-or_left _ _ t (Has-or_left _ _ t (own_set t Pawn side.pawns men.pawns lt e)))))
+  by_kind t Knight lt e =
+      Has-or_left _ _ t
+      (Has-or_left _ _ t
+      (Has-or_left _ _ t (Has-or_left _ _ t (Has-or_right _ _ t (own_set t Knight side.knights men.knights lt e)))))
+  by_kind t Bishop lt e =
+      Has-or_left _ _ t
+      (Has-or_left _ _ t (Has-or_left _ _ t (Has-or_right _ _ t (own_set t Bishop side.bishops men.bishops lt e))))
+  by_kind t Rook lt e =
+      Has-or_left _ _ t (Has-or_left _ _ t (Has-or_right _ _ t (own_set t Rook side.rooks men.rooks lt e)))
   by_kind t Queen lt e = Has-or_left _ _ t (Has-or_right _ _ t (own_set t Queen side.queens men.queens lt e))
   by_kind t King lt e = Has-or_right _ _ t (own_set t King side.kings men.kings lt e)
 
@@ -233,15 +263,19 @@ module _ (P : Placement) (c : Colour) (side : Side) (men : AreMenOf P c side) wh
   of_man t (Some m) lt e h =
       let same : m.colour ≡ c = same_colour-eq m.colour c h in
       let place : man_place m.colour m.kind ≡ man_place c m.kind = ap (λ x. man_place x m.kind) same in
-      by_kind t m.kind lt (ap (is_placed (man_place c m.kind)) e ∙ eq-eqb (man_place m.colour m.kind) (man_place c m.kind) place)
+      by_kind t m.kind lt
+      (ap (is_placed (man_place c m.kind)) e ∙ eq-eqb (man_place m.colour m.kind) (man_place c m.kind) place)
 
   held_set : IsSetOf (is_held_by c) P all_of
   held_set = record {
-    each = λ t lt. bit_from (bit_at all_of t) (is_held_by c (man_at P t)) (bit_at-lt all_of t) (is_held t lt) (of_man t (man_at P t) lt refl);
+    each = λ t lt.
+        bit_from (bit_at all_of t) (is_held_by c (man_at P t)) (bit_at-lt all_of t) (is_held t lt)
+        (of_man t (man_at P t) lt refl);
   }
 
 pub men_of_colour : (P : Placement) (c : Colour) (side : Side) → AreMenOf P c side →
-    IsSetOf (is_held_by c) P (bit_or (bit_or (bit_or (bit_or (bit_or side.pawns side.knights) side.bishops) side.rooks) side.queens) side.kings)
+    IsSetOf (is_held_by c) P
+    (bit_or (bit_or (bit_or (bit_or (bit_or side.pawns side.knights) side.bishops) side.rooks) side.queens) side.kings)
 unfolding all_of
 men_of_colour P c side men = held_set P c side men
 
@@ -255,7 +289,8 @@ IsHeldBy-held : (c : Colour) (man : Option Man) → IsHeldBy c man → is_held_b
 IsHeldBy-held c None h = absurd h
 IsHeldBy-held c (Some m) h = ap (λ x. same_colour x c) h ∙ same_colour-self c
 
-pub Has-held : (P : Placement) (c : Colour) (set t : ℕ) → IsSetOf (is_held_by c) P set → t < 64 → Has set t ↔ IsHeldBy c (man_at P t)
+pub Has-held : (P : Placement) (c : Colour) (set t : ℕ) → IsSetOf (is_held_by c) P set → t < 64
+    → Has set t ↔ IsHeldBy c (man_at P t)
 Has-held P c set t all lt = (
   λ h. held-IsHeldBy c (man_at P t) (bit_if-true (is_held_by c (man_at P t)) (sym (all.each t lt) ∙ h)),
   λ h. all.each t lt ∙ bit_if-of_true (is_held_by c (man_at P t)) (IsHeldBy-held c (man_at P t) h),
@@ -270,7 +305,8 @@ Has-not set t fits lt = (
     clear : (x : ℕ) → x < 2 → ¬ (x ≡ 1) → {y : ℕ} → y ≡ 1 - x → y ≡ 1
     clear x l none e = elim (cases_order x 0) [
       | inl same ↦ omega (arith, same, e)
-      | inr other ↦ elim other [ inl less ↦ absurd (omega (arith, less)) | inr more ↦ absurd (none (omega (arith, l, more))) ]
+      | inr other ↦
+          elim other [ inl less ↦ absurd (omega (arith, less)) | inr more ↦ absurd (none (omega (arith, l, more))) ]
     ]
 
 goes-set : (P : Placement) (c : Colour) (k : Kind) (s struck own : ℕ) → own < 2 ^ 64 → IsSetOf (is_held_by c) P own →
@@ -278,19 +314,26 @@ goes-set : (P : Placement) (c : Colour) (k : Kind) (s struck own : ℕ) → own 
 goes-set P c k s struck own fits all hit t lt = (
   λ h.
       let parts = Has-and struck (bit_not w64 own) t h in
-      record { strikes = (hit.each t lt).0 parts.0; not_own = λ held. (Has-not own t fits lt).0 parts.1 ((Has-held P c own t all lt).1 held) },
+      record {
+        strikes = (hit.each t lt).0 parts.0;
+        not_own = λ held. (Has-not own t fits lt).0 parts.1 ((Has-held P c own t all lt).1 held);
+      },
   λ g. Has-and_both struck (bit_not w64 own) t ((hit.each t lt).1 g.strikes)
       ((Has-not own t fits lt).1 (λ h. g.not_own ((Has-held P c own t all lt).0 h))),
 )
 
 -- what a man other than a pawn strikes, its own men left out, is what it reaches
-pub reach_of_struck : (P : Placement) (c : Colour) (k : Kind) (s struck own : ℕ) → k ≢ Pawn → own < 2 ^ 64 → IsSetOf (is_held_by c) P own →
+pub reach_of_struck : (P : Placement) (c : Colour) (k : Kind) (s struck own : ℕ) → k ≢ Pawn → own < 2 ^ 64
+    → IsSetOf (is_held_by c) P own →
     IsStruckSet P c k s struck → IsReachSet P c k s (bit_and struck (bit_not w64 own))
 reach_of_struck P c Pawn s struck own other fits all hit = absurd (other refl)
-reach_of_struck P c Knight s struck own other fits all hit = record { each = goes-set P c Knight s struck own fits all hit }
-reach_of_struck P c Bishop s struck own other fits all hit = record { each = goes-set P c Bishop s struck own fits all hit }
+reach_of_struck P c Knight s struck own other fits all hit =
+    record { each = goes-set P c Knight s struck own fits all hit }
+reach_of_struck P c Bishop s struck own other fits all hit =
+    record { each = goes-set P c Bishop s struck own fits all hit }
 reach_of_struck P c Rook s struck own other fits all hit = record { each = goes-set P c Rook s struck own fits all hit }
-reach_of_struck P c Queen s struck own other fits all hit = record { each = goes-set P c Queen s struck own fits all hit }
+reach_of_struck P c Queen s struck own other fits all hit =
+    record { each = goes-set P c Queen s struck own fits all hit }
 reach_of_struck P c King s struck own other fits all hit = record { each = goes-set P c King s struck own fits all hit }
 
 none_is_not_some : (t : ℕ) (o : Option ℕ) → o ≡ None → o ≡ Some t → ⊥
@@ -301,7 +344,8 @@ unfolding IsStep
 near P c a b step = Clear-near P a b (forward-near c a b step.0 step.1)
 
 -- a pawn reaches what it may push to and the enemy men that it strikes
-pub reach_of_pawn : (P : Placement) (c : Colour) (s pushes struck others : ℕ) → IsPushSet P c s pushes → IsStruckSet P c Pawn s struck →
+pub reach_of_pawn : (P : Placement) (c : Colour) (s pushes struck others : ℕ) → IsPushSet P c s pushes
+    → IsStruckSet P c Pawn s struck →
     IsSetOf (is_held_by (opposite c)) P others → IsReachSet P c Pawn s (bit_or pushes (bit_and struck others))
 reach_of_pawn P c s pushes struck others push hit all = record {
   each = λ t lt. (
@@ -309,13 +353,19 @@ reach_of_pawn P c s pushes struck others push hit all = record {
       | inl x ↦ inl ((push.each t lt).0 x)
       | inr x ↦
           let parts = Has-and struck others t x in
-          inr (record { step = ((hit.each t lt).0 parts.0).step; enemy = inl ((Has-held P (opposite c) others t all lt).0 parts.1) })
+          inr (record {
+            step = ((hit.each t lt).0 parts.0).step;
+            enemy = inl ((Has-held P (opposite c) others t all lt).0 parts.1);
+          })
     ],
     λ r. elim r [
       | inl a ↦ Has-or_left pushes (bit_and struck others) t ((push.each t lt).1 a)
       | inr a ↦ elim (a.enemy) [
         | inl held ↦ Has-or_right pushes (bit_and struck others) t (Has-and_both struck others t
-            ((hit.each t lt).1 (record { step = a.step; open_way = near P c s t a.step })) ((Has-held P (opposite c) others t all lt).1 held))
+            ((hit.each t lt).1 (record {
+              step = a.step;
+              open_way = near P c s t a.step;
+            })) ((Has-held P (opposite c) others t all lt).1 held))
         | inr passed ↦ absurd (none_is_not_some t None refl passed)
       ]
     ],

@@ -13,7 +13,8 @@ pub record IsCopiedBelow (P copy : Placement) (n : ℕ) : Type 0 where
 pub copied-none : (P : Placement) → IsCopiedBelow P (replicate 64 None) 0
 copied-none P = record { size = refl; below = λ k lk. absurd (omega (arith, lk)) }
 
-pub copied-more : (P copy : Placement) (s : ℕ) → s < 64 → IsCopiedBelow P copy s → IsCopiedBelow P (slice_set copy s (man_at P s)) (s + 1)
+pub copied-more : (P copy : Placement) (s : ℕ) → s < 64 → IsCopiedBelow P copy s
+    → IsCopiedBelow P (slice_set copy s (man_at P s)) (s + 1)
 copied-more P copy s ls h = record {
   size = length-set copy s (man_at P s) ∙ h.size;
   below = λ k lk. elim (cases_order k s) [

@@ -39,7 +39,9 @@ module _ (set n : ℕ) (fits : set < 2 ^ 64) (ln : n < 64) where
   some : zeros < 64 → 0 < rest
   unfolding zeros count_trailing_zeros
   some less = elim (cases_order rest 0) [
-    | inl none ↦ let all : count_trailing_zeros 64 rest ≡ 64 = ap (count_trailing_zeros 64) none in absurd (omega (arith, less, all))
+    | inl none ↦
+        let all : count_trailing_zeros 64 rest ≡ 64 = ap (count_trailing_zeros 64) none in
+        absurd (omega (arith, less, all))
     | inr other ↦ elim other [ inl below ↦ absurd (omega (arith, below)) | inr more ↦ more ]
   ]
 
@@ -70,12 +72,14 @@ module _ (set n : ℕ) (fits : set < 2 ^ 64) (ln : n < 64) where
   none-before k le lk h =
       absurd (omega (arith, clear k lk, Has-and_both set mask k h (inside k le (omega (arith, lk, zeros-le)))))
 
-pub next-from : (set n : ℕ) → set < 2 ^ 64 → n < 64 → count_trailing_zeros 64 (bit_and set ((2 ^ 64 - 1) * 2 ^ n % 2 ^ 64)) < 64 →
+pub next-from : (set n : ℕ) → set < 2 ^ 64 → n < 64
+    → count_trailing_zeros 64 (bit_and set ((2 ^ 64 - 1) * 2 ^ n % 2 ^ 64)) < 64 →
     n ≤ count_trailing_zeros 64 (bit_and set ((2 ^ 64 - 1) * 2 ^ n % 2 ^ 64))
 unfolding zeros rest mask
 next-from set n fits ln less = above set n fits ln (zeros set n fits ln) less (found-in set n fits ln less).1
 
-pub next-found : (set n : ℕ) → set < 2 ^ 64 → n < 64 → count_trailing_zeros 64 (bit_and set ((2 ^ 64 - 1) * 2 ^ n % 2 ^ 64)) < 64 →
+pub next-found : (set n : ℕ) → set < 2 ^ 64 → n < 64
+    → count_trailing_zeros 64 (bit_and set ((2 ^ 64 - 1) * 2 ^ n % 2 ^ 64)) < 64 →
     Has set (count_trailing_zeros 64 (bit_and set ((2 ^ 64 - 1) * 2 ^ n % 2 ^ 64)))
 unfolding zeros rest mask
 next-found set n fits ln less = (found-in set n fits ln less).0

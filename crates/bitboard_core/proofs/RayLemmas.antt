@@ -63,10 +63,14 @@ record Steps (f r : Sense) (x y z w d p q k : ℕ) : Type 0 where
   less : k < d
 
 climbs-number : (f r : Sense) (x y z w d p q k : ℕ) → Climbs f r → Steps f r x y z w d p q k → 8 * q + p < 8 * w + z
-climbs-number Rises Rises x y z w d p q k way h = omega (arith, h.file, h.rank, h.file_k, h.rank_k, h.less, h.on_z, h.on_p)
-climbs-number Stays Rises x y z w d p q k way h = omega (arith, h.file, h.rank, h.file_k, h.rank_k, h.less, h.on_z, h.on_p)
-climbs-number Falls Rises x y z w d p q k way h = omega (arith, h.file, h.rank, h.file_k, h.rank_k, h.less, h.on_z, h.on_p, h.on_x)
-climbs-number Rises Stays x y z w d p q k way h = omega (arith, h.file, h.rank, h.file_k, h.rank_k, h.less, h.on_z, h.on_p)
+climbs-number Rises Rises x y z w d p q k way h =
+    omega (arith, h.file, h.rank, h.file_k, h.rank_k, h.less, h.on_z, h.on_p)
+climbs-number Stays Rises x y z w d p q k way h =
+    omega (arith, h.file, h.rank, h.file_k, h.rank_k, h.less, h.on_z, h.on_p)
+climbs-number Falls Rises x y z w d p q k way h =
+    omega (arith, h.file, h.rank, h.file_k, h.rank_k, h.less, h.on_z, h.on_p, h.on_x)
+climbs-number Rises Stays x y z w d p q k way h =
+    omega (arith, h.file, h.rank, h.file_k, h.rank_k, h.less, h.on_z, h.on_p)
 climbs-number Stays Stays x y z w d p q k way h = absurd way
 climbs-number Falls Stays x y z w d p q k way h = absurd way
 climbs-number Rises Falls x y z w d p q k way h = absurd way
@@ -79,10 +83,14 @@ sinks-number Stays Rises x y z w d p q k way h = absurd way
 sinks-number Falls Rises x y z w d p q k way h = absurd way
 sinks-number Rises Stays x y z w d p q k way h = absurd way
 sinks-number Stays Stays x y z w d p q k way h = absurd way
-sinks-number Falls Stays x y z w d p q k way h = omega (arith, h.file, h.rank, h.file_k, h.rank_k, h.less, h.on_z, h.on_p)
-sinks-number Rises Falls x y z w d p q k way h = omega (arith, h.file, h.rank, h.file_k, h.rank_k, h.less, h.on_z, h.on_p)
-sinks-number Stays Falls x y z w d p q k way h = omega (arith, h.file, h.rank, h.file_k, h.rank_k, h.less, h.on_z, h.on_p)
-sinks-number Falls Falls x y z w d p q k way h = omega (arith, h.file, h.rank, h.file_k, h.rank_k, h.less, h.on_z, h.on_p)
+sinks-number Falls Stays x y z w d p q k way h =
+    omega (arith, h.file, h.rank, h.file_k, h.rank_k, h.less, h.on_z, h.on_p)
+sinks-number Rises Falls x y z w d p q k way h =
+    omega (arith, h.file, h.rank, h.file_k, h.rank_k, h.less, h.on_z, h.on_p)
+sinks-number Stays Falls x y z w d p q k way h =
+    omega (arith, h.file, h.rank, h.file_k, h.rank_k, h.less, h.on_z, h.on_p)
+sinks-number Falls Falls x y z w d p q k way h =
+    omega (arith, h.file, h.rank, h.file_k, h.rank_k, h.less, h.on_z, h.on_p)
 
 -- squares by their coordinates
 
@@ -104,7 +112,8 @@ Goes Rises Falls = ⊤
 Goes Stays Falls = ⊤
 Goes Falls Falls = ⊤
 
-steps_apart : (f r : Sense) (x y p q k : ℕ) → Goes f r → Leads f x p k → Leads r y q k → max (abs_diff x p) (abs_diff y q) ≡ k
+steps_apart : (f r : Sense) (x y p q k : ℕ) → Goes f r → Leads f x p k → Leads r y q k
+    → max (abs_diff x p) (abs_diff y q) ≡ k
 steps_apart Rises Rises x y p q k way a b = omega (arith, a, b)
 steps_apart Stays Rises x y p q k way a b = omega (arith, a, b)
 steps_apart Falls Rises x y p q k way a b = omega (arith, a, b)
@@ -173,7 +182,8 @@ between f r a t k way la lt on some less =
     }
 
 -- of two squares of a way the one with fewer steps lies on the way to the other
-along-of : (f r : Sense) (a t u : ℕ) → IsOn f r a t → IsOn f r a u → distance a u ≤ distance a t → along a t (distance a u) ≡ u
+along-of : (f r : Sense) (a t u : ℕ) → IsOn f r a t → IsOn f r a u → distance a u ≤ distance a t
+    → along a t (distance a u) ≡ u
 along-of f r a t u on onu le =
     let file = toward-is f (file_of a) (file_of t) (file_of u) (distance a u) (distance a t) on.file onu.file le in
     let rank = toward-is r (rank_of a) (rank_of t) (rank_of u) (distance a u) (distance a t) on.rank onu.rank le in
@@ -196,18 +206,25 @@ steps-of f r a t u la on onu less = record {
 parts-lt : (u t : ℕ) → 8 * rank_of u + file_of u < 8 * rank_of t + file_of t → u < t
 parts-lt u t h = omega (arith, h)
 
-climbs-lt : (f r : Sense) (a t u : ℕ) → Climbs f r → a < 64 → IsOn f r a t → IsOn f r a u → distance a u < distance a t → u < t
+climbs-lt : (f r : Sense) (a t u : ℕ) → Climbs f r → a < 64 → IsOn f r a t → IsOn f r a u → distance a u < distance a t
+    → u < t
 climbs-lt f r a t u way la on onu less =
-    parts-lt u t (climbs-number f r (file_of a) (rank_of a) (file_of t) (rank_of t) (distance a t) (file_of u) (rank_of u) (distance a u) way
+    parts-lt u t
+    (climbs-number f r (file_of a) (rank_of a) (file_of t) (rank_of t) (distance a t) (file_of u) (rank_of u)
+    (distance a u) way
     (steps-of f r a t u la on onu less))
 
-sinks-lt : (f r : Sense) (a t u : ℕ) → Sinks f r → a < 64 → IsOn f r a t → IsOn f r a u → distance a u < distance a t → t < u
+sinks-lt : (f r : Sense) (a t u : ℕ) → Sinks f r → a < 64 → IsOn f r a t → IsOn f r a u → distance a u < distance a t
+    → t < u
 sinks-lt f r a t u way la on onu less =
-    parts-lt t u (sinks-number f r (file_of a) (rank_of a) (file_of t) (rank_of t) (distance a t) (file_of u) (rank_of u) (distance a u) way
+    parts-lt t u
+    (sinks-number f r (file_of a) (rank_of a) (file_of t) (rank_of t) (distance a t) (file_of u) (rank_of u)
+    (distance a u) way
     (steps-of f r a t u la on onu less))
 
 -- the one with the lesser number has fewer steps on a way that climbs
-climbs-steps : (f r : Sense) (a t u : ℕ) → Climbs f r → a < 64 → IsOn f r a t → IsOn f r a u → u < t → distance a u < distance a t
+climbs-steps : (f r : Sense) (a t u : ℕ) → Climbs f r → a < 64 → IsOn f r a t → IsOn f r a u → u < t
+    → distance a u < distance a t
 climbs-steps f r a t u way la on onu lt = elim (cases_order (distance a u) (distance a t)) [
   | inl same ↦ absurd (omega (
     arith,
@@ -215,10 +232,12 @@ climbs-steps f r a t u way la on onu lt = elim (cases_order (distance a u) (dist
     sym (along-of f r a t u on onu (omega (arith, same))) ∙ ap (along a t) same
         ∙ along-of f r a t t on on (omega arith),
   ))
-  | inr other ↦ elim other [ inl less ↦ less | inr more ↦ absurd (omega (arith, lt, climbs-lt f r a u t way la onu on more)) ]
+  | inr other ↦
+      elim other [ inl less ↦ less | inr more ↦ absurd (omega (arith, lt, climbs-lt f r a u t way la onu on more)) ]
 ]
 
-sinks-steps : (f r : Sense) (a t u : ℕ) → Sinks f r → a < 64 → IsOn f r a t → IsOn f r a u → t < u → distance a u < distance a t
+sinks-steps : (f r : Sense) (a t u : ℕ) → Sinks f r → a < 64 → IsOn f r a t → IsOn f r a u → t < u
+    → distance a u < distance a t
 sinks-steps f r a t u way la on onu lt = elim (cases_order (distance a u) (distance a t)) [
   | inl same ↦ absurd (omega (
     arith,
@@ -226,7 +245,8 @@ sinks-steps f r a t u way la on onu lt = elim (cases_order (distance a u) (dista
     sym (along-of f r a t u on onu (omega (arith, same))) ∙ ap (along a t) same
         ∙ along-of f r a t t on on (omega arith),
   ))
-  | inr other ↦ elim other [ inl less ↦ less | inr more ↦ absurd (omega (arith, lt, sinks-lt f r a u t way la onu on more)) ]
+  | inr other ↦
+      elim other [ inl less ↦ less | inr more ↦ absurd (omega (arith, lt, sinks-lt f r a u t way la onu on more)) ]
 ]
 
 -- the test of a way
@@ -237,13 +257,15 @@ Decides-leads Stays x y d = Decides-eqb y x
 Decides-leads Falls x y d = Decides-eqb x (y + d)
 
 Decides-is_on : (f r : Sense) (a t : ℕ) → Decides (is_on f r a t)
-    ((0 < distance a t) × (Leads f (file_of a) (file_of t) (distance a t) × Leads r (rank_of a) (rank_of t) (distance a t)))
+    ((0 < distance a t)
+    × (Leads f (file_of a) (file_of t) (distance a t) × Leads r (rank_of a) (rank_of t) (distance a t)))
 unfolding is_on
 Decides-is_on f r a t =
     let file = leads f (file_of a) (file_of t) (distance a t) in
     let rank = leads r (rank_of a) (rank_of t) (distance a t) in
     Decides-and (nat_lt 0 (distance a t)) (file && rank) (Decides-ltb 0 (distance a t))
-    (Decides-and file rank (Decides-leads f (file_of a) (file_of t) (distance a t)) (Decides-leads r (rank_of a) (rank_of t) (distance a t)))
+    (Decides-and file rank (Decides-leads f (file_of a) (file_of t) (distance a t))
+    (Decides-leads r (rank_of a) (rank_of t) (distance a t)))
 
 Has-is_on : (f r : Sense) (a t ray : ℕ) → t < 64 → ray ≡ set_of (is_on f r a) → Has ray t → IsOn f r a t
 Has-is_on f r a t ray lt e h =
@@ -258,7 +280,8 @@ is_on-Has f r a t ray lt e on =
 
 -- a ray that was cut at its first occupied square
 
-pub up_ray : (f r : Sense) (a occupied ray set : ℕ) → Climbs f r → a < 64 → ray ≡ set_of (is_on f r a) → IsUpStop ray occupied set →
+pub up_ray : (f r : Sense) (a occupied ray set : ℕ) → Climbs f r → a < 64 → ray ≡ set_of (is_on f r a)
+    → IsUpStop ray occupied set →
     IsRaySet f r a occupied set
 up_ray f r a occupied ray set way la e stop = record { square = la; each = λ t lt. (to t lt, from t lt) }
   where
@@ -270,7 +293,8 @@ up_ray f r a occupied ray set way la e stop = record { square = la; each = λ t 
           record {
             empty = λ k some less.
                 let b = between f r a t k (Climbs-goes f r way) la lt on some less in
-                let lower : along a t k < t = climbs-lt f r a t (along a t k) way la on b.on (omega (arith, b.steps, less)) in
+                let lower : along a t k < t =
+                climbs-lt f r a t (along a t k) way la on b.on (omega (arith, b.steps, less)) in
                 parts.1 (along a t k) lower (is_on-Has f r a (along a t k) ray b.square e b.on);
           },
         )
@@ -281,10 +305,12 @@ up_ray f r a occupied ray set way la e stop = record { square = la; each = λ t 
       λ u less on.
           let onu : IsOn f r a u = Has-is_on f r a u ray (omega (arith, less, lt)) e on in
           let fewer : distance a u < distance a t = climbs-steps f r a t u way la h.0 onu less in
-          ap (bit_at occupied) (sym (along-of f r a t u h.0 onu (omega (arith, fewer)))) ∙ h.1.empty (distance a u) onu.away fewer,
+          ap (bit_at occupied) (sym (along-of f r a t u h.0 onu (omega (arith, fewer))))
+          ∙ h.1.empty (distance a u) onu.away fewer,
     )
 
-pub down_ray : (f r : Sense) (a occupied ray set : ℕ) → Sinks f r → a < 64 → ray ≡ set_of (is_on f r a) → IsDownStop ray occupied set →
+pub down_ray : (f r : Sense) (a occupied ray set : ℕ) → Sinks f r → a < 64 → ray ≡ set_of (is_on f r a)
+    → IsDownStop ray occupied set →
     IsRaySet f r a occupied set
 down_ray f r a occupied ray set way la e stop = record { square = la; each = λ t lt. (to t lt, from t lt) }
   where
@@ -296,7 +322,8 @@ down_ray f r a occupied ray set way la e stop = record { square = la; each = λ 
           record {
             empty = λ k some less.
                 let b = between f r a t k (Sinks-goes f r way) la lt on some less in
-                let higher : t < along a t k = sinks-lt f r a t (along a t k) way la on b.on (omega (arith, b.steps, less)) in
+                let higher : t < along a t k =
+                sinks-lt f r a t (along a t k) way la on b.on (omega (arith, b.steps, less)) in
                 parts.1 (along a t k) b.square higher (is_on-Has f r a (along a t k) ray b.square e b.on);
           },
         )
@@ -307,34 +334,56 @@ down_ray f r a occupied ray set way la e stop = record { square = la; each = λ 
       λ u high less on.
           let onu : IsOn f r a u = Has-is_on f r a u ray high e on in
           let fewer : distance a u < distance a t = sinks-steps f r a t u way la h.0 onu less in
-          ap (bit_at occupied) (sym (along-of f r a t u h.0 onu (omega (arith, fewer)))) ∙ h.1.empty (distance a u) onu.away fewer,
+          ap (bit_at occupied) (sym (along-of f r a t u h.0 onu (omega (arith, fewer))))
+          ∙ h.1.empty (distance a u) onu.away fewer,
     )
 
 -- the rays from the printed tables
 
-pub at_table : (table : List ℕ) (f : ℕ → ℕ → Bool) (a : ℕ) → a < 64 → table ≡ table_of f → get_or table a 0 ≡ set_of (f a)
+pub at_table : (table : List ℕ) (f : ℕ → ℕ → Bool) (a : ℕ) → a < 64 → table ≡ table_of f
+    → get_or table a 0 ≡ set_of (f a)
 at_table table f a la e = ap (λ xs. get_or xs a 0) e ∙ table_of-at f a la
 
-pub north_ray : (a occupied set : ℕ) → a < 64 → IsUpStop (get_or NORTH a 0) occupied set → IsRaySet Stays Rises a occupied set
-north_ray a occupied set la stop = up_ray Stays Rises a occupied (get_or NORTH a 0) set tt la (at_table NORTH (is_on Stays Rises) a la north_is) stop
+pub north_ray : (a occupied set : ℕ) → a < 64 → IsUpStop (get_or NORTH a 0) occupied set
+    → IsRaySet Stays Rises a occupied set
+north_ray a occupied set la stop =
+    up_ray Stays Rises a occupied (get_or NORTH a 0) set tt la (at_table NORTH (is_on Stays Rises) a la north_is) stop
 
-pub east_ray : (a occupied set : ℕ) → a < 64 → IsUpStop (get_or EAST a 0) occupied set → IsRaySet Rises Stays a occupied set
-east_ray a occupied set la stop = up_ray Rises Stays a occupied (get_or EAST a 0) set tt la (at_table EAST (is_on Rises Stays) a la east_is) stop
+pub east_ray : (a occupied set : ℕ) → a < 64 → IsUpStop (get_or EAST a 0) occupied set
+    → IsRaySet Rises Stays a occupied set
+east_ray a occupied set la stop =
+    up_ray Rises Stays a occupied (get_or EAST a 0) set tt la (at_table EAST (is_on Rises Stays) a la east_is) stop
 
-pub north_east_ray : (a occupied set : ℕ) → a < 64 → IsUpStop (get_or NORTH_EAST a 0) occupied set → IsRaySet Rises Rises a occupied set
-north_east_ray a occupied set la stop = up_ray Rises Rises a occupied (get_or NORTH_EAST a 0) set tt la (at_table NORTH_EAST (is_on Rises Rises) a la north_east_is) stop
+pub north_east_ray : (a occupied set : ℕ) → a < 64 → IsUpStop (get_or NORTH_EAST a 0) occupied set
+    → IsRaySet Rises Rises a occupied set
+north_east_ray a occupied set la stop =
+    up_ray Rises Rises a occupied (get_or NORTH_EAST a 0) set tt la
+    (at_table NORTH_EAST (is_on Rises Rises) a la north_east_is) stop
 
-pub north_west_ray : (a occupied set : ℕ) → a < 64 → IsUpStop (get_or NORTH_WEST a 0) occupied set → IsRaySet Falls Rises a occupied set
-north_west_ray a occupied set la stop = up_ray Falls Rises a occupied (get_or NORTH_WEST a 0) set tt la (at_table NORTH_WEST (is_on Falls Rises) a la north_west_is) stop
+pub north_west_ray : (a occupied set : ℕ) → a < 64 → IsUpStop (get_or NORTH_WEST a 0) occupied set
+    → IsRaySet Falls Rises a occupied set
+north_west_ray a occupied set la stop =
+    up_ray Falls Rises a occupied (get_or NORTH_WEST a 0) set tt la
+    (at_table NORTH_WEST (is_on Falls Rises) a la north_west_is) stop
 
-pub south_ray : (a occupied set : ℕ) → a < 64 → IsDownStop (get_or SOUTH a 0) occupied set → IsRaySet Stays Falls a occupied set
-south_ray a occupied set la stop = down_ray Stays Falls a occupied (get_or SOUTH a 0) set tt la (at_table SOUTH (is_on Stays Falls) a la south_is) stop
+pub south_ray : (a occupied set : ℕ) → a < 64 → IsDownStop (get_or SOUTH a 0) occupied set
+    → IsRaySet Stays Falls a occupied set
+south_ray a occupied set la stop =
+    down_ray Stays Falls a occupied (get_or SOUTH a 0) set tt la (at_table SOUTH (is_on Stays Falls) a la south_is) stop
 
-pub west_ray : (a occupied set : ℕ) → a < 64 → IsDownStop (get_or WEST a 0) occupied set → IsRaySet Falls Stays a occupied set
-west_ray a occupied set la stop = down_ray Falls Stays a occupied (get_or WEST a 0) set tt la (at_table WEST (is_on Falls Stays) a la west_is) stop
+pub west_ray : (a occupied set : ℕ) → a < 64 → IsDownStop (get_or WEST a 0) occupied set
+    → IsRaySet Falls Stays a occupied set
+west_ray a occupied set la stop =
+    down_ray Falls Stays a occupied (get_or WEST a 0) set tt la (at_table WEST (is_on Falls Stays) a la west_is) stop
 
-pub south_east_ray : (a occupied set : ℕ) → a < 64 → IsDownStop (get_or SOUTH_EAST a 0) occupied set → IsRaySet Rises Falls a occupied set
-south_east_ray a occupied set la stop = down_ray Rises Falls a occupied (get_or SOUTH_EAST a 0) set tt la (at_table SOUTH_EAST (is_on Rises Falls) a la south_east_is) stop
+pub south_east_ray : (a occupied set : ℕ) → a < 64 → IsDownStop (get_or SOUTH_EAST a 0) occupied set
+    → IsRaySet Rises Falls a occupied set
+south_east_ray a occupied set la stop =
+    down_ray Rises Falls a occupied (get_or SOUTH_EAST a 0) set tt la
+    (at_table SOUTH_EAST (is_on Rises Falls) a la south_east_is) stop
 
-pub south_west_ray : (a occupied set : ℕ) → a < 64 → IsDownStop (get_or SOUTH_WEST a 0) occupied set → IsRaySet Falls Falls a occupied set
-south_west_ray a occupied set la stop = down_ray Falls Falls a occupied (get_or SOUTH_WEST a 0) set tt la (at_table SOUTH_WEST (is_on Falls Falls) a la south_west_is) stop
+pub south_west_ray : (a occupied set : ℕ) → a < 64 → IsDownStop (get_or SOUTH_WEST a 0) occupied set
+    → IsRaySet Falls Falls a occupied set
+south_west_ray a occupied set la stop =
+    down_ray Falls Falls a occupied (get_or SOUTH_WEST a 0) set tt la
+    (at_table SOUTH_WEST (is_on Falls Falls) a la south_west_is) stop

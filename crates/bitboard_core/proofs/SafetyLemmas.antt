@@ -28,16 +28,19 @@ AreCheckedBelow side by occupied kings n =
 
 held-place : (c : Colour) (k : Kind) (man : Option Man) → IsHeldAs c k man → is_placed (man_place c k) man ≡ true
 held-place c k None h = absurd h
-held-place c k (Some m) h = eq-eqb (man_place m.colour m.kind) (man_place c k) ((λ i. man_place (h.0 i) m.kind) ∙ ap (man_place c) h.1)
+held-place c k (Some m) h =
+    eq-eqb (man_place m.colour m.kind) (man_place c k) ((λ i. man_place (h.0 i) m.kind) ∙ ap (man_place c) h.1)
 
 place-held : (c : Colour) (k : Kind) (man : Option Man) → is_placed (man_place c k) man ≡ true → IsHeldAs c k man
 place-held c k None e = absurd (true≢false (sym e))
 place-held c k (Some m) e = same_place m.colour c m.kind k (eqb-true (man_place m.colour m.kind) (man_place c k) e)
 
 king-Has : (P : Placement) (c : Colour) (kings k : ℕ) → AreKingsOf P c kings → k < 64 → IsInCheckOn P c k → Has kings k
-king-Has P c kings k all lk h = all.each k lk ∙ bit_if-of_true (is_placed (man_place c King) (man_at P k)) (held-place c King (man_at P k) h.0)
+king-Has P c kings k all lk h =
+    all.each k lk ∙ bit_if-of_true (is_placed (man_place c King) (man_at P k)) (held-place c King (man_at P k) h.0)
 
-pub Has-king : (P : Placement) (c : Colour) (kings k : ℕ) → AreKingsOf P c kings → k < 64 → Has kings k → IsHeldAs c King (man_at P k)
+pub Has-king : (P : Placement) (c : Colour) (kings k : ℕ) → AreKingsOf P c kings → k < 64 → Has kings k
+    → IsHeldAs c King (man_at P k)
 Has-king P c kings k all lk h =
     place-held c King (man_at P k) (bit_if-true (is_placed (man_place c King) (man_at P k)) (sym (all.each k lk) ∙ h))
 
@@ -69,7 +72,8 @@ unsafe-one P by kings s own ls h attacked safe =
 
 -- a square is attacked where the set of those that strike it isn't empty
 
-attacked_some : (P : Placement) (by : Colour) (s set : ℕ) → set < 2 ^ 64 → 0 < set → IsStrikerSet P by s set → IsAttacked P by s
+attacked_some : (P : Placement) (by : Colour) (s set : ℕ) → set < 2 ^ 64 → 0 < set → IsStrikerSet P by s set
+    → IsAttacked P by s
 unfolding IsAttacked
 attacked_some P by s set fits some all =
     let lowest = bit_at-trailing_zeros w64 set some fits in

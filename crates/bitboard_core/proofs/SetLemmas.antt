@@ -74,7 +74,10 @@ pub Has-or_right : (a b t : ℕ) → Has b t → Has (bit_or a b) t
 Has-or_right a b t h = omega (arith, h, bit_at_or a b t, bit_at-lt a t)
 
 pub Has-and : (a b t : ℕ) → Has (bit_and a b) t → Has a t × Has b t
-Has-and a b t h = (omega (arith, h, bit_at_and a b t, bit_at-lt a t, bit_at-lt b t), omega (arith, h, bit_at_and a b t, bit_at-lt a t, bit_at-lt b t))
+Has-and a b t h = (
+  omega (arith, h, bit_at_and a b t, bit_at-lt a t, bit_at-lt b t),
+  omega (arith, h, bit_at_and a b t, bit_at-lt a t, bit_at-lt b t),
+)
 
 pub Has-and_both : (a b t : ℕ) → Has a t → Has b t → Has (bit_and a b) t
 Has-and_both a b t h k = omega (arith, h, k, bit_at_and a b t)

@@ -34,15 +34,18 @@ bit_of_none : (man : Option Man) → man ≡ None → bit_if (is_some man) ≡ 0
 bit_of_none None e = refl
 bit_of_none (Some m) e = cc
 
-clear_of_open : (P : Placement) (occupied a t : ℕ) → IsOccupied P occupied → a < 64 → t < 64 → IsOpenIn occupied a t → Clear P a t
+clear_of_open : (P : Placement) (occupied a t : ℕ) → IsOccupied P occupied → a < 64 → t < 64 → IsOpenIn occupied a t
+    → Clear P a t
 clear_of_open P occupied a t all la lt way = record {
   empty = λ k some less. none_of (man_at P (along a t k))
       (sym (all.each (along a t k) (along-lt a t k la lt)) ∙ way.empty k some less);
 }
 
-open_of_clear : (P : Placement) (occupied a t : ℕ) → IsOccupied P occupied → a < 64 → t < 64 → Clear P a t → IsOpenIn occupied a t
+open_of_clear : (P : Placement) (occupied a t : ℕ) → IsOccupied P occupied → a < 64 → t < 64 → Clear P a t
+    → IsOpenIn occupied a t
 open_of_clear P occupied a t all la lt way = record {
-  empty = λ k some less. all.each (along a t k) (along-lt a t k la lt) ∙ bit_of_none (man_at P (along a t k)) (way.empty k some less);
+  empty = λ k some less.
+      all.each (along a t k) (along-lt a t k la lt) ∙ bit_of_none (man_at P (along a t k)) (way.empty k some less);
 }
 
 -- lines and the ways that they are made of
@@ -53,7 +56,8 @@ same_square a t files ranks = omega (arith, files, ranks)
 not_here : (a t : ℕ) → 0 < distance a t → a ≢ t
 not_here a t away e = absurd (omega (arith, away, e))
 
-diagonal-of : (f r : Sense) (a t : ℕ) → files_apart a t ≡ distance a t → ranks_apart a t ≡ distance a t → IsOn f r a t → IsDiagonal a t
+diagonal-of : (f r : Sense) (a t : ℕ) → files_apart a t ≡ distance a t → ranks_apart a t ≡ distance a t → IsOn f r a t
+    → IsDiagonal a t
 diagonal-of f r a t files ranks on = (not_here a t on.away, files ∙ sym ranks)
 
 leads-apart : (s : Sense) (x y d : ℕ) → s ≢ Stays → Leads s x y d → abs_diff x y ≡ d
@@ -82,38 +86,80 @@ straight_on_rank f a t on = (not_here a t on.away, inr (omega (arith, on.rank)))
 abbrev pub OneOf : Type 0 → Type 0 → Type 0 → Type 0 → Type 0
 OneOf A B C D = A ⊎ (B ⊎ (C ⊎ D))
 
-diagonal-ways : (a t : ℕ) → IsDiagonal a t → OneOf (IsOn Rises Rises a t) (IsOn Falls Rises a t) (IsOn Rises Falls a t) (IsOn Falls Falls a t)
+diagonal-ways : (a t : ℕ) → IsDiagonal a t
+    → OneOf (IsOn Rises Rises a t) (IsOn Falls Rises a t) (IsOn Rises Falls a t) (IsOn Falls Falls a t)
 diagonal-ways a t h = elim (cases_order (file_of a) (file_of t)) [
   | inl same ↦ absurd (h.0 (same_square a t same (omega (arith, h.1, same))))
   | inr files ↦ elim (cases_order (rank_of a) (rank_of t)) [
     | inl same ↦ absurd (h.0 (same_square a t (omega (arith, h.1, same)) same))
     | inr ranks ↦ elim files [
       | inl right ↦ elim ranks [
-        | inl up ↦ inl (record { away = omega (arith, h.1, right, up); file = omega (arith, h.1, right, up); rank = omega (arith, h.1, right, up) })
-        | inr down ↦ inr (inr (inl (record { away = omega (arith, h.1, right, down); file = omega (arith, h.1, right, down); rank = omega (arith, h.1, right, down) })))
+        | inl up ↦
+            inl (record {
+              away = omega (arith, h.1, right, up);
+              file = omega (arith, h.1, right, up);
+              rank = omega (arith, h.1, right, up);
+            })
+        | inr down ↦
+            inr (inr (inl (record {
+              away = omega (arith, h.1, right, down);
+              file = omega (arith, h.1, right, down);
+              rank = omega (arith, h.1, right, down);
+            })))
       ]
       | inr left ↦ elim ranks [
-        | inl up ↦ inr (inl (record { away = omega (arith, h.1, left, up); file = omega (arith, h.1, left, up); rank = omega (arith, h.1, left, up) }))
-        | inr down ↦ inr (inr (inr (record { away = omega (arith, h.1, left, down); file = omega (arith, h.1, left, down); rank = omega (arith, h.1, left, down) })))
+        | inl up ↦
+            inr (inl (record {
+              away = omega (arith, h.1, left, up);
+              file = omega (arith, h.1, left, up);
+              rank = omega (arith, h.1, left, up);
+            }))
+        | inr down ↦
+            inr (inr (inr (record {
+              away = omega (arith, h.1, left, down);
+              file = omega (arith, h.1, left, down);
+              rank = omega (arith, h.1, left, down);
+            })))
       ]
     ]
   ]
 ]
 
-straight-ways : (a t : ℕ) → IsStraight a t → OneOf (IsOn Stays Rises a t) (IsOn Rises Stays a t) (IsOn Stays Falls a t) (IsOn Falls Stays a t)
+straight-ways : (a t : ℕ) → IsStraight a t
+    → OneOf (IsOn Stays Rises a t) (IsOn Rises Stays a t) (IsOn Stays Falls a t) (IsOn Falls Stays a t)
 straight-ways a t h = elim (h.1) [
   | inl file ↦ elim (cases_order (rank_of a) (rank_of t)) [
     | inl same ↦ absurd (h.0 (same_square a t (omega (arith, file)) same))
     | inr ranks ↦ elim ranks [
-      | inl up ↦ inl (record { away = omega (arith, file, up); file = omega (arith, file, up); rank = omega (arith, file, up) })
-      | inr down ↦ inr (inr (inl (record { away = omega (arith, file, down); file = omega (arith, file, down); rank = omega (arith, file, down) })))
+      | inl up ↦
+          inl (record {
+            away = omega (arith, file, up);
+            file = omega (arith, file, up);
+            rank = omega (arith, file, up);
+          })
+      | inr down ↦
+          inr (inr (inl (record {
+            away = omega (arith, file, down);
+            file = omega (arith, file, down);
+            rank = omega (arith, file, down);
+          })))
     ]
   ]
   | inr rank ↦ elim (cases_order (file_of a) (file_of t)) [
     | inl same ↦ absurd (h.0 (same_square a t same (omega (arith, rank))))
     | inr files ↦ elim files [
-      | inl right ↦ inr (inl (record { away = omega (arith, rank, right); file = omega (arith, rank, right); rank = omega (arith, rank, right) }))
-      | inr left ↦ inr (inr (inr (record { away = omega (arith, rank, left); file = omega (arith, rank, left); rank = omega (arith, rank, left) })))
+      | inl right ↦
+          inr (inl (record {
+            away = omega (arith, rank, right);
+            file = omega (arith, rank, right);
+            rank = omega (arith, rank, right);
+          }))
+      | inr left ↦
+          inr (inr (inr (record {
+            away = omega (arith, rank, left);
+            file = omega (arith, rank, left);
+            rank = omega (arith, rank, left);
+          })))
     ]
   ]
 ]
@@ -143,7 +189,11 @@ four-Has a b c d t h = elim h [
 one_of_ways : {A B C D X Y Z W : Type 0} → OneOf A B C D → (A → X) → (B → Y) → (C → Z) → (D → W) → OneOf X Y Z W
 one_of_ways h a b c d = elim h [
   | inl x ↦ inl (a x)
-  | inr h2 ↦ elim h2 [ inl y ↦ inr (inl (b y)) | inr h3 ↦ elim h3 [ inl z ↦ inr (inr (inl (c z))) | inr w ↦ inr (inr (inr (d w))) ] ]
+  | inr h2 ↦
+      elim h2 [
+        | inl y ↦ inr (inl (b y))
+        | inr h3 ↦ elim h3 [ inl z ↦ inr (inr (inl (c z))) | inr w ↦ inr (inr (inr (d w))) ]
+      ]
 ]
 
 any_of : {A B C D X : Type 0} → OneOf A B C D → (A → X) → (B → X) → (C → X) → (D → X) → X
@@ -155,16 +205,37 @@ any_of h a b c d = elim h [
 -- sliders
 
 pub bishop_set : (P : Placement) (c : Colour) (a occupied ne nw se sw : ℕ) → a < 64 → IsOccupied P occupied →
-    IsRaySet Rises Rises a occupied ne → IsRaySet Falls Rises a occupied nw → IsRaySet Rises Falls a occupied se → IsRaySet Falls Falls a occupied sw →
+    IsRaySet Rises Rises a occupied ne → IsRaySet Falls Rises a occupied nw → IsRaySet Rises Falls a occupied se
+    → IsRaySet Falls Falls a occupied sw →
     IsStruckSet P c Bishop a (bit_or (bit_or (bit_or ne nw) se) sw)
 unfolding IsStep
 bishop_set P c a occupied ne nw se sw la all hne hnw hse hsw = record {
   each = λ t lt. (
     λ h. any_of (Has-four ne nw se sw t h)
-        (λ x. let p = (hne.each t lt).0 x in record { step = diagonal_on Rises Rises a t rises rises p.0; open_way = clear_of_open P occupied a t all la lt p.1 })
-        (λ x. let p = (hnw.each t lt).0 x in record { step = diagonal_on Falls Rises a t falls rises p.0; open_way = clear_of_open P occupied a t all la lt p.1 })
-        (λ x. let p = (hse.each t lt).0 x in record { step = diagonal_on Rises Falls a t rises falls p.0; open_way = clear_of_open P occupied a t all la lt p.1 })
-        (λ x. let p = (hsw.each t lt).0 x in record { step = diagonal_on Falls Falls a t falls falls p.0; open_way = clear_of_open P occupied a t all la lt p.1 }),
+        (λ x.
+        let p = (hne.each t lt).0 x in
+        record {
+          step = diagonal_on Rises Rises a t rises rises p.0;
+          open_way = clear_of_open P occupied a t all la lt p.1;
+        })
+        (λ x.
+        let p = (hnw.each t lt).0 x in
+        record {
+          step = diagonal_on Falls Rises a t falls rises p.0;
+          open_way = clear_of_open P occupied a t all la lt p.1;
+        })
+        (λ x.
+        let p = (hse.each t lt).0 x in
+        record {
+          step = diagonal_on Rises Falls a t rises falls p.0;
+          open_way = clear_of_open P occupied a t all la lt p.1;
+        })
+        (λ x.
+        let p = (hsw.each t lt).0 x in
+        record {
+          step = diagonal_on Falls Falls a t falls falls p.0;
+          open_way = clear_of_open P occupied a t all la lt p.1;
+        }),
     λ s.
         let way = open_of_clear P occupied a t all la lt s.open_way in
         four-Has ne nw se sw t (one_of_ways (diagonal-ways a t s.step)
@@ -174,16 +245,25 @@ bishop_set P c a occupied ne nw se sw la all hne hnw hse hsw = record {
 }
 
 pub rook_set : (P : Placement) (c : Colour) (a occupied n e s w : ℕ) → a < 64 → IsOccupied P occupied →
-    IsRaySet Stays Rises a occupied n → IsRaySet Rises Stays a occupied e → IsRaySet Stays Falls a occupied s → IsRaySet Falls Stays a occupied w →
+    IsRaySet Stays Rises a occupied n → IsRaySet Rises Stays a occupied e → IsRaySet Stays Falls a occupied s
+    → IsRaySet Falls Stays a occupied w →
     IsStruckSet P c Rook a (bit_or (bit_or (bit_or n e) s) w)
 unfolding IsStep
 rook_set P c a occupied n e s w la all hn he hs hw = record {
   each = λ t lt. (
     λ h. any_of (Has-four n e s w t h)
-        (λ x. let p = (hn.each t lt).0 x in record { step = straight_on_file Rises a t p.0; open_way = clear_of_open P occupied a t all la lt p.1 })
-        (λ x. let p = (he.each t lt).0 x in record { step = straight_on_rank Rises a t p.0; open_way = clear_of_open P occupied a t all la lt p.1 })
-        (λ x. let p = (hs.each t lt).0 x in record { step = straight_on_file Falls a t p.0; open_way = clear_of_open P occupied a t all la lt p.1 })
-        (λ x. let p = (hw.each t lt).0 x in record { step = straight_on_rank Falls a t p.0; open_way = clear_of_open P occupied a t all la lt p.1 }),
+        (λ x.
+        let p = (hn.each t lt).0 x in
+        record { step = straight_on_file Rises a t p.0; open_way = clear_of_open P occupied a t all la lt p.1 })
+        (λ x.
+        let p = (he.each t lt).0 x in
+        record { step = straight_on_rank Rises a t p.0; open_way = clear_of_open P occupied a t all la lt p.1 })
+        (λ x.
+        let p = (hs.each t lt).0 x in
+        record { step = straight_on_file Falls a t p.0; open_way = clear_of_open P occupied a t all la lt p.1 })
+        (λ x.
+        let p = (hw.each t lt).0 x in
+        record { step = straight_on_rank Falls a t p.0; open_way = clear_of_open P occupied a t all la lt p.1 }),
     λ h.
         let way = open_of_clear P occupied a t all la lt h.open_way in
         four-Has n e s w t (one_of_ways (straight-ways a t h.step)
@@ -192,7 +272,8 @@ rook_set P c a occupied n e s w la all hn he hs hw = record {
   );
 }
 
-pub queen_set : (P : Placement) (c : Colour) (a bishop rook : ℕ) → IsStruckSet P c Bishop a bishop → IsStruckSet P c Rook a rook →
+pub queen_set : (P : Placement) (c : Colour) (a bishop rook : ℕ) → IsStruckSet P c Bishop a bishop
+    → IsStruckSet P c Rook a rook →
     IsStruckSet P c Queen a (bit_or bishop rook)
 unfolding IsStep
 queen_set P c a bishop rook hb hr = record {
@@ -225,9 +306,12 @@ knight_set P c a la = record {
       let three = nat_eq (files_apart a t) 2 in
       let four = nat_eq (ranks_apart a t) 1 in
       let d : Decides (is_knight_step a t) (IsKnightStep a t) =
-      Decides-or (one && two) (three && four) (Decides-and one two (Decides-eqb (files_apart a t) 1) (Decides-eqb (ranks_apart a t) 2))
+      Decides-or (one && two) (three && four)
+      (Decides-and one two (Decides-eqb (files_apart a t) 1) (Decides-eqb (ranks_apart a t) 2))
       (Decides-and three four (Decides-eqb (files_apart a t) 2) (Decides-eqb (ranks_apart a t) 1)) in
-      let has = Has-test (is_knight_step a) (get_or KNIGHT a 0) t (IsKnightStep a t) (at_table KNIGHT is_knight_step a la knight_is) lt d in
+      let has =
+      Has-test (is_knight_step a) (get_or KNIGHT a 0) t (IsKnightStep a t)
+      (at_table KNIGHT is_knight_step a la knight_is) lt d in
       (λ h. record { step = has.0 h; open_way = tt }, λ s. has.1 s.step);
 }
 
@@ -235,8 +319,12 @@ pub king_set : (P : Placement) (c : Colour) (a : ℕ) → a < 64 → IsStruckSet
 unfolding is_king_step IsStep
 king_set P c a la = record {
   each = λ t lt.
-      let has = Has-test (is_king_step a) (get_or KING a 0) t (distance a t ≡ 1) (at_table KING is_king_step a la king_is) lt (Decides-eqb (distance a t) 1) in
-      (λ h. let near = has.0 h in record { step = near; open_way = Clear-near P a t (omega (arith, near)) }, λ s. has.1 s.step);
+      let has =
+      Has-test (is_king_step a) (get_or KING a 0) t (distance a t ≡ 1) (at_table KING is_king_step a la king_is) lt
+      (Decides-eqb (distance a t) 1) in (
+        λ h. let near = has.0 h in record { step = near; open_way = Clear-near P a t (omega (arith, near)) },
+        λ s. has.1 s.step,
+      );
 }
 
 strike-near : (r : Sense) (a t : ℕ) → files_apart a t ≡ 1 → Leads r (rank_of a) (rank_of t) 1 → distance a t ≤ 1
@@ -244,7 +332,8 @@ strike-near Rises a t files rank = omega (arith, files, rank)
 strike-near Stays a t files rank = omega (arith, files, rank)
 strike-near Falls a t files rank = omega (arith, files, rank)
 
-Decides-strike : (r : Sense) (a t : ℕ) → Decides (is_pawn_strike r a t) ((files_apart a t ≡ 1) × Leads r (rank_of a) (rank_of t) 1)
+Decides-strike : (r : Sense) (a t : ℕ)
+    → Decides (is_pawn_strike r a t) ((files_apart a t ≡ 1) × Leads r (rank_of a) (rank_of t) 1)
 unfolding is_pawn_strike
 Decides-strike r a t =
     Decides-and (nat_eq (files_apart a t) 1) (leads r (rank_of a) (rank_of t) 1) (Decides-eqb (files_apart a t) 1)
@@ -254,24 +343,34 @@ pub white_pawn_set : (P : Placement) (a : ℕ) → a < 64 → IsStruckSet P Whit
 unfolding IsStep
 white_pawn_set P a la = record {
   each = λ t lt.
-      let has = Has-test (is_pawn_strike Rises a) (get_or WHITE_STRIKES a 0) t ((files_apart a t ≡ 1) × Leads Rises (rank_of a) (rank_of t) 1)
-      (at_table WHITE_STRIKES (is_pawn_strike Rises) a la white_strikes_is) lt (Decides-strike Rises a t) in
-      (λ h. let p = has.0 h in record { step = p; open_way = Clear-near P a t (strike-near Rises a t p.0 p.1) }, λ s. has.1 s.step);
+      let has =
+      Has-test (is_pawn_strike Rises a) (get_or WHITE_STRIKES a 0) t
+      ((files_apart a t ≡ 1) × Leads Rises (rank_of a) (rank_of t) 1)
+      (at_table WHITE_STRIKES (is_pawn_strike Rises) a la white_strikes_is) lt (Decides-strike Rises a t) in (
+        λ h. let p = has.0 h in record { step = p; open_way = Clear-near P a t (strike-near Rises a t p.0 p.1) },
+        λ s. has.1 s.step,
+      );
 }
 
 pub black_pawn_set : (P : Placement) (a : ℕ) → a < 64 → IsStruckSet P Black Pawn a (get_or BLACK_STRIKES a 0)
 unfolding IsStep
 black_pawn_set P a la = record {
   each = λ t lt.
-      let has = Has-test (is_pawn_strike Falls a) (get_or BLACK_STRIKES a 0) t ((files_apart a t ≡ 1) × Leads Falls (rank_of a) (rank_of t) 1)
-      (at_table BLACK_STRIKES (is_pawn_strike Falls) a la black_strikes_is) lt (Decides-strike Falls a t) in
-      (λ h. let p = has.0 h in record { step = p; open_way = Clear-near P a t (strike-near Falls a t p.0 p.1) }, λ s. has.1 s.step);
+      let has =
+      Has-test (is_pawn_strike Falls a) (get_or BLACK_STRIKES a 0) t
+      ((files_apart a t ≡ 1) × Leads Falls (rank_of a) (rank_of t) 1)
+      (at_table BLACK_STRIKES (is_pawn_strike Falls) a la black_strikes_is) lt (Decides-strike Falls a t) in (
+        λ h. let p = has.0 h in record { step = p; open_way = Clear-near P a t (strike-near Falls a t p.0 p.1) },
+        λ s. has.1 s.step,
+      );
 }
 
 -- pushes
 
 IsPush : Sense → ℕ → ℕ → ℕ → Type 0
-IsPush r second a t = (files_apart a t ≡ 0) × (Leads r (rank_of a) (rank_of t) 1 ⊎ (Leads r (rank_of a) (rank_of t) 2 × (rank_of a ≡ second)))
+IsPush r second a t =
+    (files_apart a t ≡ 0)
+    × (Leads r (rank_of a) (rank_of t) 1 ⊎ (Leads r (rank_of a) (rank_of t) 2 × (rank_of a ≡ second)))
 
 Decides-push : (r : Sense) (second a t : ℕ) → Decides (is_pawn_push r second a t) (IsPush r second a t)
 unfolding is_pawn_push IsPush
@@ -283,18 +382,24 @@ Decides-push r second a t =
     (Decides-or one (two && at) (Decides-leads r (rank_of a) (rank_of t) 1)
     (Decides-and two at (Decides-leads r (rank_of a) (rank_of t) 2) (Decides-eqb (rank_of a) second)))
 
-free_bit : (P : Placement) (occupied t : ℕ) → occupied < 2 ^ 64 → IsOccupied P occupied → t < 64 → Has (bit_not w64 occupied) t ↔ (man_at P t ≡ None)
+free_bit : (P : Placement) (occupied t : ℕ) → occupied < 2 ^ 64 → IsOccupied P occupied → t < 64
+    → Has (bit_not w64 occupied) t ↔ (man_at P t ≡ None)
 free_bit P occupied t fits all lt = (
   λ h. none_of (man_at P t) (sym (all.each t lt) ∙ omega (arith, h, bit_at_not w64 occupied t fits lt)),
   λ e. omega (arith, bit_at_not w64 occupied t fits lt, all.each t lt ∙ bit_of_none (man_at P t) e),
 )
 
-push-on : (r : Sense) (a t : ℕ) → files_apart a t ≡ 0 → (Leads r (rank_of a) (rank_of t) 1 ⊎ Leads r (rank_of a) (rank_of t) 2) → r ≢ Stays → IsOn Stays r a t
-push-on Rises a t files (inl one) moving = record { away = omega (arith, files, one); file = omega (arith, files); rank = omega (arith, files, one) }
-push-on Rises a t files (inr two) moving = record { away = omega (arith, files, two); file = omega (arith, files); rank = omega (arith, files, two) }
+push-on : (r : Sense) (a t : ℕ) → files_apart a t ≡ 0
+    → (Leads r (rank_of a) (rank_of t) 1 ⊎ Leads r (rank_of a) (rank_of t) 2) → r ≢ Stays → IsOn Stays r a t
+push-on Rises a t files (inl one) moving =
+    record { away = omega (arith, files, one); file = omega (arith, files); rank = omega (arith, files, one) }
+push-on Rises a t files (inr two) moving =
+    record { away = omega (arith, files, two); file = omega (arith, files); rank = omega (arith, files, two) }
 push-on Stays a t files h moving = absurd (moving refl)
-push-on Falls a t files (inl one) moving = record { away = omega (arith, files, one); file = omega (arith, files); rank = omega (arith, files, one) }
-push-on Falls a t files (inr two) moving = record { away = omega (arith, files, two); file = omega (arith, files); rank = omega (arith, files, two) }
+push-on Falls a t files (inl one) moving =
+    record { away = omega (arith, files, one); file = omega (arith, files); rank = omega (arith, files, one) }
+push-on Falls a t files (inr two) moving =
+    record { away = omega (arith, files, two); file = omega (arith, files); rank = omega (arith, files, two) }
 
 one_or_two : {A B C : Type 0} → A ⊎ (B × C) → A ⊎ B
 one_or_two h = elim h [ inl x ↦ inl x | inr y ↦ inr y.0 ]
@@ -314,11 +419,17 @@ white_push_set P a occupied ray la fits all hray = record {
             let inner = Has-and ray table t outer.0 in
             let way = (hray.each t lt).0 inner.0 in
             let push = ahead.0 inner.1 in
-            record { file = push.0; ahead = push.1; way = clear_of_open P occupied a t all la lt way.1; free = empty.0 outer.1 },
+            record {
+              file = push.0;
+              ahead = push.1;
+              way = clear_of_open P occupied a t all la lt way.1;
+              free = empty.0 outer.1;
+            },
         λ h.
             let on = push-on Rises a t h.file (one_or_two h.ahead) rises in
             Has-and_both (bit_and ray table) (bit_not w64 occupied) t
-            (Has-and_both ray table t ((hray.each t lt).1 (on, open_of_clear P occupied a t all la lt h.way)) (ahead.1 (h.file, h.ahead)))
+            (Has-and_both ray table t ((hray.each t lt).1 (on, open_of_clear P occupied a t all la lt h.way))
+            (ahead.1 (h.file, h.ahead)))
             (empty.1 h.free),
       );
 }
@@ -338,11 +449,17 @@ black_push_set P a occupied ray la fits all hray = record {
             let inner = Has-and ray table t outer.0 in
             let way = (hray.each t lt).0 inner.0 in
             let push = ahead.0 inner.1 in
-            record { file = push.0; ahead = push.1; way = clear_of_open P occupied a t all la lt way.1; free = empty.0 outer.1 },
+            record {
+              file = push.0;
+              ahead = push.1;
+              way = clear_of_open P occupied a t all la lt way.1;
+              free = empty.0 outer.1;
+            },
         λ h.
             let on = push-on Falls a t h.file (one_or_two h.ahead) falls in
             Has-and_both (bit_and ray table) (bit_not w64 occupied) t
-            (Has-and_both ray table t ((hray.each t lt).1 (on, open_of_clear P occupied a t all la lt h.way)) (ahead.1 (h.file, h.ahead)))
+            (Has-and_both ray table t ((hray.each t lt).1 (on, open_of_clear P occupied a t all la lt h.way))
+            (ahead.1 (h.file, h.ahead)))
             (empty.1 h.free),
       );
 }

@@ -21,16 +21,27 @@ pub up_stop : (ray occupied stop mask : ℕ) → stop < 64 → bit_at (bit_or (b
 up_stop ray occupied stop mask within here below e = record { each = λ t lt. (to t lt, from t lt) }
   where
     clear : (u : ℕ) → u < stop → Has ray u → bit_at occupied u ≡ 0
-    clear u lt on = omega (arith, on, below u lt, bit_at_or (bit_and ray occupied) (2 ^ 63) u, bit_at_and ray occupied u, bit_at-lt occupied u)
+    clear u lt on =
+        omega (
+          arith,
+          on,
+          below u lt,
+          bit_at_or (bit_and ray occupied) (2 ^ 63) u,
+          bit_at_and ray occupied u,
+          bit_at-lt occupied u,
+        )
 
-    to : (t : ℕ) → t < 64 → Has (bit_and ray mask) t → (Has ray t × ((u : ℕ) → u < t → Has ray u → bit_at occupied u ≡ 0))
-    to t lt h = let both = Has-and ray mask t h in (both.0, λ u less on. clear u (near (cases_lt t (stop + 1)) both.1 less) on)
+    to : (t : ℕ) → t < 64 → Has (bit_and ray mask) t
+        → (Has ray t × ((u : ℕ) → u < t → Has ray u → bit_at occupied u ≡ 0))
+    to t lt h =
+        let both = Has-and ray mask t h in (both.0, λ u less on. clear u (near (cases_lt t (stop + 1)) both.1 less) on)
       where
         near : (t < stop + 1) ⊎ (stop + 1 ≤ t) → Has mask t → {u : ℕ} → u < t → u < stop
         near (inl l) m less = omega arith
         near (inr l) m less = absurd (omega (arith, m, ap (λ x. bit_at x t) e, bit_at_ones_above (stop + 1) t l))
 
-    from : (t : ℕ) → t < 64 → (Has ray t × ((u : ℕ) → u < t → Has ray u → bit_at occupied u ≡ 0)) → Has (bit_and ray mask) t
+    from : (t : ℕ) → t < 64 → (Has ray t × ((u : ℕ) → u < t → Has ray u → bit_at occupied u ≡ 0))
+        → Has (bit_and ray mask) t
     from t lt h = Has-and_both ray mask t h.0 (inside (cases_lt t (stop + 1)))
       where
         inside : (t < stop + 1) ⊎ (stop + 1 ≤ t) → Has mask t
@@ -50,16 +61,21 @@ pub down_stop : (ray occupied stop mask : ℕ) → stop < 64 → bit_at (bit_or 
 down_stop ray occupied stop mask within here above e = record { each = λ t lt. (to t lt, from t lt) }
   where
     clear : (u : ℕ) → stop < u → Has ray u → bit_at occupied u ≡ 0
-    clear u lt on = omega (arith, on, above u lt, bit_at_or (bit_and ray occupied) 1 u, bit_at_and ray occupied u, bit_at-lt occupied u)
+    clear u lt on =
+        omega
+        (arith, on, above u lt, bit_at_or (bit_and ray occupied) 1 u, bit_at_and ray occupied u, bit_at-lt occupied u)
 
-    to : (t : ℕ) → t < 64 → Has (bit_and ray mask) t → (Has ray t × ((u : ℕ) → u < 64 → t < u → Has ray u → bit_at occupied u ≡ 0))
-    to t lt h = let both = Has-and ray mask t h in (both.0, λ u high less on. clear u (near (cases_lt t stop) both.1 less) on)
+    to : (t : ℕ) → t < 64 → Has (bit_and ray mask) t
+        → (Has ray t × ((u : ℕ) → u < 64 → t < u → Has ray u → bit_at occupied u ≡ 0))
+    to t lt h =
+        let both = Has-and ray mask t h in (both.0, λ u high less on. clear u (near (cases_lt t stop) both.1 less) on)
       where
         near : (t < stop) ⊎ (stop ≤ t) → Has mask t → {u : ℕ} → t < u → stop < u
         near (inr l) m less = omega arith
         near (inl l) m less = absurd (omega (arith, m, ap (λ x. bit_at x t) e, bit_at_mask_below stop 64 t l))
 
-    from : (t : ℕ) → t < 64 → (Has ray t × ((u : ℕ) → u < 64 → t < u → Has ray u → bit_at occupied u ≡ 0)) → Has (bit_and ray mask) t
+    from : (t : ℕ) → t < 64 → (Has ray t × ((u : ℕ) → u < 64 → t < u → Has ray u → bit_at occupied u ≡ 0))
+        → Has (bit_and ray mask) t
     from t lt h = Has-and_both ray mask t h.0 (inside (cases_lt t stop))
       where
         inside : (t < stop) ⊎ (stop ≤ t) → Has mask t
@@ -72,21 +88,26 @@ down_stop ray occupied stop mask within here above e = record { each = λ t lt. 
             absurd (omega (arith, parts.1, h.1 stop within l parts.0))
 
 either-lt : (ray occupied : ℕ) → ray < 2 ^ 64 → bit_or (bit_and ray occupied) (2 ^ 63) < 2 ^ 64
-either-lt ray occupied h = or_lt 64 (bit_and ray occupied) (2 ^ 63) (omega (arith, h, and_le_l ray occupied)) (omega arith)
+either-lt ray occupied h =
+    or_lt 64 (bit_and ray occupied) (2 ^ 63) (omega (arith, h, and_le_l ray occupied)) (omega arith)
 
 either-pos : (ray occupied b : ℕ) → 0 < b → 0 < bit_or (bit_and ray occupied) b
 either-pos ray occupied b h = omega (arith, h, le_or_r (bit_and ray occupied) b)
 
-pub up_stop-lt : (ray occupied : ℕ) → ray < 2 ^ 64 → count_trailing_zeros 64 (bit_or (bit_and ray occupied) (2 ^ 63)) < 64
+pub up_stop-lt : (ray occupied : ℕ) → ray < 2 ^ 64
+    → count_trailing_zeros 64 (bit_or (bit_and ray occupied) (2 ^ 63)) < 64
 up_stop-lt ray occupied h =
-    (bit_at-trailing_zeros w64 (bit_or (bit_and ray occupied) (2 ^ 63)) (either-pos ray occupied (2 ^ 63) (omega arith)) (either-lt ray occupied h)).0
+    (bit_at-trailing_zeros w64 (bit_or (bit_and ray occupied) (2 ^ 63)) (either-pos ray occupied (2 ^ 63) (omega arith))
+    (either-lt ray occupied h)).0
 
 pub up_stop_by_zeros : (ray occupied : ℕ) → ray < 2 ^ 64 →
-    IsUpStop ray occupied (bit_and ray ((2 ^ 64 - 1) / 2 ^ (63 - count_trailing_zeros 64 (bit_or (bit_and ray occupied) (2 ^ 63)))))
+    IsUpStop ray occupied
+    (bit_and ray ((2 ^ 64 - 1) / 2 ^ (63 - count_trailing_zeros 64 (bit_or (bit_and ray occupied) (2 ^ 63)))))
 up_stop_by_zeros ray occupied h =
     let n = bit_or (bit_and ray occupied) (2 ^ 63) in
     let stop = count_trailing_zeros 64 n in
-    let zeros = bit_at-trailing_zeros w64 n (either-pos ray occupied (2 ^ 63) (omega arith)) (either-lt ray occupied h) in
+    let zeros =
+    bit_at-trailing_zeros w64 n (either-pos ray occupied (2 ^ 63) (omega arith)) (either-lt ray occupied h) in
     let within : stop < 64 = zeros.0 in
     let less : 63 - stop ≤ 64 = omega arith in
     let width : 64 - (63 - stop) ≡ stop + 1 = omega (arith, within) in
@@ -110,7 +131,8 @@ pub down_stop-some : (ray occupied : ℕ) → 0 < bit_or (bit_and ray occupied) 
 down_stop-some ray occupied = either-pos ray occupied 1 (omega arith)
 
 pub down_stop_by_top : (ray occupied stop : ℕ) → stop < 64 → 2 ^ stop ≤ bit_or (bit_and ray occupied) 1 →
-    bit_or (bit_and ray occupied) 1 < 2 * 2 ^ stop → IsDownStop ray occupied (bit_and ray ((2 ^ 64 - 1) * 2 ^ stop % 2 ^ 64))
+    bit_or (bit_and ray occupied) 1 < 2 * 2 ^ stop
+    → IsDownStop ray occupied (bit_and ray ((2 ^ 64 - 1) * 2 ^ stop % 2 ^ 64))
 down_stop_by_top ray occupied stop within low high =
     let n = bit_or (bit_and ray occupied) 1 in
     let le : stop ≤ 64 = omega (arith, within) in

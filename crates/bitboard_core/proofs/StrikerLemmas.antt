@@ -64,7 +64,8 @@ same_place c d k j e = (
 )
 
 -- a man of the place of c and k strikes as one of that colour and kind
-strikes-as : (P : Placement) (c : Colour) (k : Kind) (a s : ℕ) (man : Option Man) → is_placed (man_place c k) man ≡ true →
+strikes-as : (P : Placement) (c : Colour) (k : Kind) (a s : ℕ) (man : Option Man)
+    → is_placed (man_place c k) man ≡ true →
     Strikes P c k a s → StrikesAs P c a s man
 strikes-as P c k a s None e strikes = absurd (true≢false (sym e))
 strikes-as P c k a s (Some m) e strikes =
@@ -84,14 +85,16 @@ struck-back P c k a s h =
 hit : (P : Placement) (c : Colour) (k : Kind) (s a set men : ℕ) → IsStruckSet P (opposite c) k s set →
     IsSetOf (is_placed (man_place c k)) P men → a < 64 → Has set a → Has men a → StrikesFrom P c a s
 hit P c k s a set men struck all la there here =
-    strikes-as P c k a s (man_at P a) (bit_if-true (is_placed (man_place c k) (man_at P a)) (sym (all.each a la) ∙ here))
+    strikes-as P c k a s (man_at P a)
+    (bit_if-true (is_placed (man_place c k) (man_at P a)) (sym (all.each a la) ∙ here))
     (struck-back P c k a s ((struck.each a la).0 there))
 
 stands : (P : Placement) (c : Colour) (k : Kind) (a men : ℕ) → IsSetOf (is_placed (man_place c k)) P men → a < 64 →
     is_placed (man_place c k) (man_at P a) ≡ true → Has men a
 stands P c k a men all la e = all.each a la ∙ bit_if-of_true (is_placed (man_place c k) (man_at P a)) e
 
-there-Has : (P : Placement) (c : Colour) (k : Kind) (a s set : ℕ) → IsStruckSet P (opposite c) k s set → a < 64 → Strikes P c k a s → Has set a
+there-Has : (P : Placement) (c : Colour) (k : Kind) (a s set : ℕ) → IsStruckSet P (opposite c) k s set → a < 64
+    → Strikes P c k a s → Has set a
 there-Has P c k a s set struck la h = (struck.each a la).1 (Strikes-back P c k a s h)
 
 -- the sets that are looked at for a square s
@@ -110,7 +113,8 @@ rook-queen : (P : Placement) (c : Colour) (a b : ℕ) → Strikes P c Rook a b �
 unfolding IsStep
 rook-queen P c a b h = record { step = inl h.step; open_way = h.open_way }
 
-queen-line : (P : Placement) (c : Colour) (a b : ℕ) → Strikes P c Queen a b → Strikes P c Rook a b ⊎ Strikes P c Bishop a b
+queen-line : (P : Placement) (c : Colour) (a b : ℕ) → Strikes P c Queen a b
+    → Strikes P c Rook a b ⊎ Strikes P c Bishop a b
 unfolding IsStep
 queen-line P c a b h = elim (h.step) [
   | inl line ↦ inl (record { step = line; open_way = h.open_way })
@@ -127,10 +131,12 @@ module _ (P : Placement) (c : Colour) (s pawn knight king bishop rook : ℕ) (si
 
   all_strikers : ℕ
   all_strikers =
-      bit_or (bit_or (bit_or (bit_or (bit_and pawn side.pawns) (bit_and knight side.knights)) (bit_and king side.kings)) (bit_and bishop diagonal))
+      bit_or (bit_or (bit_or (bit_or (bit_and pawn side.pawns) (bit_and knight side.knights)) (bit_and king side.kings))
+      (bit_and bishop diagonal))
       (bit_and rook straight)
 
-  by_queen_line : (a line set : ℕ) (k : Kind) → a < 64 → IsStruckSet P (opposite c) k s set → (Strikes P c k a s → Strikes P c Queen a s) →
+  by_queen_line : (a line set : ℕ) (k : Kind) → a < 64 → IsStruckSet P (opposite c) k s set
+      → (Strikes P c k a s → Strikes P c Queen a s) →
       Has set a → Has side.queens a → StrikesFrom P c a s
   by_queen_line a line set k la struck wider there here =
       strikes-as P c Queen a s (man_at P a)
@@ -168,10 +174,15 @@ module _ (P : Placement) (c : Colour) (s pawn knight king bishop rook : ℕ) (si
         | inl x ↦ elim (Has-or (bit_or (bit_or A B) K) D a x) [
           | inr y ↦ on_diagonal a la y
           | inl y ↦ elim (Has-or (bit_or A B) K a y) [
-            | inr z ↦ let p = Has-and king side.kings a z in hit P c King s a king side.kings look.kings men.kings la p.0 p.1
+            | inr z ↦
+                let p = Has-and king side.kings a z in hit P c King s a king side.kings look.kings men.kings la p.0 p.1
             | inl z ↦ elim (Has-or A B a z) [
-              | inr w ↦ let p = Has-and knight side.knights a w in hit P c Knight s a knight side.knights look.knights men.knights la p.0 p.1
-              | inl w ↦ let p = Has-and pawn side.pawns a w in hit P c Pawn s a pawn side.pawns look.pawns men.pawns la p.0 p.1
+              | inr w ↦
+                  let p = Has-and knight side.knights a w in
+                  hit P c Knight s a knight side.knights look.knights men.knights la p.0 p.1
+              | inl w ↦
+                  let p = Has-and pawn side.pawns a w in
+                  hit P c Pawn s a pawn side.pawns look.pawns men.pawns la p.0 p.1
             ]
           ]
         ]
@@ -193,7 +204,10 @@ module _ (P : Placement) (c : Colour) (s pawn knight king bishop rook : ℕ) (si
   unfolding all_strikers diagonal
   in_diagonal a there here =
       let both : Has (bit_or side.bishops side.queens) a =
-      elim here [ inl x ↦ Has-or_left side.bishops side.queens a x | inr x ↦ Has-or_right side.bishops side.queens a x ] in
+      elim here [
+        | inl x ↦ Has-or_left side.bishops side.queens a x
+        | inr x ↦ Has-or_right side.bishops side.queens a x
+      ] in
       Has-or_left _ _ a (Has-or_right _ _ a (Has-and_both bishop (bit_or side.bishops side.queens) a there both))
 
   in_straight : (a : ℕ) → Has rook a → Has side.rooks a ⊎ Has side.queens a → Has all_strikers a
@@ -203,21 +217,33 @@ module _ (P : Placement) (c : Colour) (s pawn knight king bishop rook : ℕ) (si
       elim here [ inl x ↦ Has-or_left side.rooks side.queens a x | inr x ↦ Has-or_right side.rooks side.queens a x ] in
       Has-or_right _ _ a (Has-and_both rook (bit_or side.rooks side.queens) a there both)
 
-  by_kind : (a : ℕ) (k : Kind) → a < 64 → is_placed (man_place c k) (man_at P a) ≡ true → Strikes P c k a s → Has all_strikers a
+  by_kind : (a : ℕ) (k : Kind) → a < 64 → is_placed (man_place c k) (man_at P a) ≡ true → Strikes P c k a s
+      → Has all_strikers a
   by_kind a Pawn la own h =
-      in_pawns a (Has-and_both pawn side.pawns a (there-Has P c Pawn a s pawn look.pawns la h) (stands P c Pawn a side.pawns men.pawns la own))
+      in_pawns a
+      (Has-and_both pawn side.pawns a (there-Has P c Pawn a s pawn look.pawns la h)
+      (stands P c Pawn a side.pawns men.pawns la own))
   by_kind a Knight la own h =
-      in_knights a (Has-and_both knight side.knights a (there-Has P c Knight a s knight look.knights la h) (stands P c Knight a side.knights men.knights la own))
+      in_knights a
+      (Has-and_both knight side.knights a (there-Has P c Knight a s knight look.knights la h)
+      (stands P c Knight a side.knights men.knights la own))
   by_kind a Bishop la own h =
-      in_diagonal a (there-Has P c Bishop a s bishop look.bishops la h) (inl (stands P c Bishop a side.bishops men.bishops la own))
+      in_diagonal a (there-Has P c Bishop a s bishop look.bishops la h)
+      (inl (stands P c Bishop a side.bishops men.bishops la own))
   by_kind a Rook la own h =
       in_straight a (there-Has P c Rook a s rook look.rooks la h) (inl (stands P c Rook a side.rooks men.rooks la own))
   by_kind a Queen la own h = elim (queen-line P c a s h) [
-    | inl line ↦ in_straight a (there-Has P c Rook a s rook look.rooks la line) (inr (stands P c Queen a side.queens men.queens la own))
-    | inr line ↦ in_diagonal a (there-Has P c Bishop a s bishop look.bishops la line) (inr (stands P c Queen a side.queens men.queens la own))
+    | inl line ↦
+        in_straight a (there-Has P c Rook a s rook look.rooks la line)
+        (inr (stands P c Queen a side.queens men.queens la own))
+    | inr line ↦
+        in_diagonal a (there-Has P c Bishop a s bishop look.bishops la line)
+        (inr (stands P c Queen a side.queens men.queens la own))
   ]
   by_kind a King la own h =
-      in_kings a (Has-and_both king side.kings a (there-Has P c King a s king look.kings la h) (stands P c King a side.kings men.kings la own))
+      in_kings a
+      (Has-and_both king side.kings a (there-Has P c King a s king look.kings la h)
+      (stands P c King a side.kings men.kings la own))
 
   by_man : (a : ℕ) (man : Option Man) → a < 64 → man_at P a ≡ man → StrikesAs P c a s man → Has all_strikers a
   by_man a None la e h = absurd h
@@ -227,12 +253,20 @@ module _ (P : Placement) (c : Colour) (s pawn knight king bishop rook : ℕ) (si
   striker_set : IsStrikerSet P c s all_strikers
   striker_set = record { each = λ a la. (found a la, by_man a (man_at P a) la refl) }
 
-pub strikers_found : (P : Placement) (c : Colour) (s pawn knight king bishop rook : ℕ) (side : Side) → AreMenOf P c side →
-    IsStruckSet P (opposite c) Pawn s pawn → IsStruckSet P (opposite c) Knight s knight → IsStruckSet P (opposite c) King s king →
+pub strikers_found : (P : Placement) (c : Colour) (s pawn knight king bishop rook : ℕ) (side : Side)
+    → AreMenOf P c side →
+    IsStruckSet P (opposite c) Pawn s pawn → IsStruckSet P (opposite c) Knight s knight
+    → IsStruckSet P (opposite c) King s king →
     IsStruckSet P (opposite c) Bishop s bishop → IsStruckSet P (opposite c) Rook s rook →
     IsStrikerSet P c s
     (bit_or (bit_or (bit_or (bit_or (bit_and pawn side.pawns) (bit_and knight side.knights)) (bit_and king side.kings))
     (bit_and bishop (bit_or side.bishops side.queens))) (bit_and rook (bit_or side.rooks side.queens)))
 unfolding all_strikers diagonal straight
 strikers_found P c s pawn knight king bishop rook side men a b d e f =
-    striker_set P c s pawn knight king bishop rook side men (record { pawns = a; knights = b; kings = d; bishops = e; rooks = f })
+    striker_set P c s pawn knight king bishop rook side men (record {
+      pawns = a;
+      knights = b;
+      kings = d;
+      bishops = e;
+      rooks = f;
+    })

@@ -23,22 +23,28 @@ joins rows who channel =
     record {
       joined = list_any-append (is_row who channel) rows (last ∷ [])
           ∙ or_right (is_in rows who channel) (is_row who channel last || false)
-          (or_left (is_row who channel last) false (and_from (who == who) (channel == channel) (eq-eqb who who refl) (eq-eqb channel channel refl)));
+          (or_left (is_row who channel last) false
+          (and_from (who == who) (channel == channel) (eq-eqb who who refl) (eq-eqb channel channel refl)));
       others = λ other number differs. list_any-append (is_row other number) rows (last ∷ [])
           ∙ or_none (is_in rows other number) (is_row other number last) differs;
     }
 
 -- the row of one isn't that of another
-differs_from : (who channel other number : ℕ) (row : Membership) → ((other == who) && (number == channel)) ≡ false → is_row other number row ≡ true
+differs_from : (who channel other number : ℕ) (row : Membership) → ((other == who) && (number == channel)) ≡ false
+    → is_row other number row ≡ true
     → is_row who channel row ≡ false
 differs_from who channel other number row differs h =
-    ap (λ w. (w == who) && (row.channel == channel)) (eqb-true row.who other (first_so (row.who == other) (row.channel == number) h))
-    ∙ ap (λ c. (other == who) && (c == channel)) (eqb-true row.channel number (second_so (row.who == other) (row.channel == number) h))
+    ap (λ w. (w == who) && (row.channel == channel))
+    (eqb-true row.who other (first_so (row.who == other) (row.channel == number) h))
+    ∙ ap (λ c. (other == who) && (c == channel))
+    (eqb-true row.channel number (second_so (row.who == other) (row.channel == number) h))
     ∙ differs
 
 pub leaves : (rows : List Membership) (who channel : ℕ) → Leaves rows who channel
 leaves rows who channel = record {
-  left = any-filter_same (is_row who channel) (λ row. not (is_row who channel row)) false (λ row h. not_from_true (is_row who channel row) h) rows;
+  left =
+      any-filter_same (is_row who channel) (λ row. not (is_row who channel row)) false
+      (λ row h. not_from_true (is_row who channel row) h) rows;
   others = λ other number differs. any-filter_same (is_row other number) (λ row. not (is_row who channel row)) true
       (λ row h. not_from_false (is_row who channel row) (differs_from who channel other number row differs h)) rows;
 }
@@ -49,18 +55,23 @@ leaves_all rows who = record {
       (λ row h. not_from_true (row.who == who) (first_so (row.who == who) (row.channel == channel) h)) rows;
   others = λ other channel differs. any-filter_same (is_row other channel) (λ row. not (row.who == who)) true
       (λ row h. not_from_false (row.who == who)
-      (ap (λ w. w == who) (eqb-true row.who other (first_so (row.who == other) (row.channel == channel) h)) ∙ ne_eqb other who differs)) rows;
+      (ap (λ w. w == who) (eqb-true row.who other (first_so (row.who == other) (row.channel == channel) h))
+      ∙ ne_eqb other who differs))
+      rows;
 }
 
 pub names_come_and_go : (names : List (List ℕ)) (key : List ℕ) → NamesComeAndGo names key
 names_come_and_go names key = record {
   added = list_any-append (λ other. bytes_eq other key) names (key ∷ [])
-      ∙ or_right (is_on names key) (bytes_eq key key || false) (or_left (bytes_eq key key) false (nat_list_eq_equiv.refl key));
+      ∙ or_right (is_on names key) (bytes_eq key key || false)
+      (or_left (bytes_eq key key) false (nat_list_eq_equiv.refl key));
   added_alone = λ other differs. list_any-append (λ name. bytes_eq name other) names (key ∷ [])
       ∙ or_none (is_on names other) (bytes_eq key other) differs;
   removed = any-filter_same (λ name. bytes_eq name key) (λ name. not (bytes_eq name key)) false
       (λ name h. not_from_true (bytes_eq name key) h) names;
   removed_alone = λ other differs. any-filter_same (λ name. bytes_eq name other) (λ name. not (bytes_eq name key)) true
       (λ name h. not_from_false (bytes_eq name key)
-      (false_from_ne_true (bytes_eq name key) (λ same. differs (sym ((bytes_eq-Decides name other).0 h) ∙ (bytes_eq-Decides name key).0 same)))) names;
+      (false_from_ne_true (bytes_eq name key)
+      (λ same. differs (sym ((bytes_eq-Decides name other).0 h) ∙ (bytes_eq-Decides name key).0 same))))
+      names;
 }

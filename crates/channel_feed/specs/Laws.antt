@@ -19,11 +19,13 @@ pub record Leaves (rows : List Membership) (who channel : ℕ) : Type 0 where
 -- a player who leaves all channels is in none; nobody else is moved
 pub record LeavesAll (rows : List Membership) (who : ℕ) : Type 0 where
   pub left : (channel : ℕ) → is_in (without_player who rows) who channel ≡ false
-  pub others : (other channel : ℕ) → other ≢ who → is_in (without_player who rows) other channel ≡ is_in rows other channel
+  pub others : (other channel : ℕ) → other ≢ who
+      → is_in (without_player who rows) other channel ≡ is_in rows other channel
 
 -- a name that is added is on the list, and one that is removed isn't; every other is as before
 pub record NamesComeAndGo (names : List (List ℕ)) (key : List ℕ) : Type 0 where
   pub added : is_on (adding names key).after key ≡ true
-  pub added_alone : (other : List ℕ) → bytes_eq key other ≡ false → is_on (adding names key).after other ≡ is_on names other
+  pub added_alone : (other : List ℕ) → bytes_eq key other ≡ false
+      → is_on (adding names key).after other ≡ is_on names other
   pub removed : is_on (without_name key names) key ≡ false
   pub removed_alone : (other : List ℕ) → other ≢ key → is_on (without_name key names) other ≡ is_on names other

@@ -48,21 +48,25 @@ each_file P a b c d e f g h (suc (suc (suc (suc (suc (suc (suc zero))))))) n = h
 each_file P a b c d e f g h (suc (suc (suc (suc (suc (suc (suc (suc more)))))))) n = absurd (omega (arith, n))
 
 pub length-array : (v : Variant) → length (array_of v) ≡ 64
-length-array v = eight (λ rank. length (array_from rank) ≡ 64) (λ a b c d e f g h. refl) (back_rank v) (home_rank_of v).eight
+length-array v =
+    eight (λ rank. length (array_from rank) ≡ 64) (λ a b c d e f g h. refl) (back_rank v) (home_rank_of v).eight
 
 pub men_at_start : (v : Variant) → men_on (array_of v) ≡ 32
-men_at_start v = eight (λ rank. men_on (array_from rank) ≡ 32) (λ a b c d e f g h. refl) (back_rank v) (home_rank_of v).eight
+men_at_start v =
+    eight (λ rank. men_on (array_from rank) ≡ 32) (λ a b c d e f g h. refl) (back_rank v) (home_rank_of v).eight
 
 -- the man on a home rank
 on_home : (rank : List Kind) → length rank ≡ 8 → (c : Colour) (file : ℕ) → file < 8 →
     man_at (array_from rank) (square_at file (home_rank c)) ≡ unpromoted c (kind_on rank file)
 on_home rank size White file less =
-    eight (λ rank. (file : ℕ) → file < 8 → man_at (array_from rank) (square_at file 0) ≡ unpromoted White (kind_on rank file))
+    eight
+    (λ rank. (file : ℕ) → file < 8 → man_at (array_from rank) (square_at file 0) ≡ unpromoted White (kind_on rank file))
     (λ a b c d e f g h. each_file (λ file. man_at (array_from (a ∷ b ∷ c ∷ d ∷ e ∷ f ∷ g ∷ h ∷ [])) (square_at file 0)
     ≡ unpromoted White (kind_on (a ∷ b ∷ c ∷ d ∷ e ∷ f ∷ g ∷ h ∷ []) file)) refl refl refl refl refl refl refl refl)
     rank size file less
 on_home rank size Black file less =
-    eight (λ rank. (file : ℕ) → file < 8 → man_at (array_from rank) (square_at file 7) ≡ unpromoted Black (kind_on rank file))
+    eight
+    (λ rank. (file : ℕ) → file < 8 → man_at (array_from rank) (square_at file 7) ≡ unpromoted Black (kind_on rank file))
     (λ a b c d e f g h. each_file (λ file. man_at (array_from (a ∷ b ∷ c ∷ d ∷ e ∷ f ∷ g ∷ h ∷ [])) (square_at file 7)
     ≡ unpromoted Black (kind_on (a ∷ b ∷ c ∷ d ∷ e ∷ f ∷ g ∷ h ∷ []) file)) refl refl refl refl refl refl refl refl)
     rank size file less
@@ -71,7 +75,8 @@ pub kings_home : (v : Variant) (c : Colour) → man_at (array_of v) (king_home v
 kings_home v c =
     let rank = home_rank_of v in
     let files = files_of v in
-    on_home (back_rank v) rank.eight c (king_file v) (omega (arith, files.short_rook, files.most)) ∙ ap (unpromoted c) rank.king
+    on_home (back_rank v) rank.eight c (king_file v) (omega (arith, files.short_rook, files.most))
+    ∙ ap (unpromoted c) rank.king
 
 pub rooks_home : (v : Variant) (c : Colour) (long : Bool) → man_at (array_of v) (rook_home v c long) ≡ unpromoted c Rook
 rooks_home v c true =
@@ -85,11 +90,14 @@ rooks_home v c false =
 
 -- ---- how many men there are
 
-kings_of : (c : Colour) (rank : List Kind) → length rank ≡ 8 → count_by (is_held_as c King) (array_from rank) ≡ count_on King rank
+kings_of : (c : Colour) (rank : List Kind) → length rank ≡ 8
+    → count_by (is_held_as c King) (array_from rank) ≡ count_on King rank
 kings_of White rank size =
-    eight (λ rank. count_by (is_held_as White King) (array_from rank) ≡ count_on King rank) (λ a b c d e f g h. omega arith) rank size
+    eight (λ rank. count_by (is_held_as White King) (array_from rank) ≡ count_on King rank)
+    (λ a b c d e f g h. omega arith) rank size
 kings_of Black rank size =
-    eight (λ rank. count_by (is_held_as Black King) (array_from rank) ≡ count_on King rank) (λ a b c d e f g h. omega arith) rank size
+    eight (λ rank. count_by (is_held_as Black King) (array_from rank) ≡ count_on King rank)
+    (λ a b c d e f g h. omega arith) rank size
 
 pub kings_at_start : (v : Variant) (c : Colour) → count_by (is_held_as c King) (array_of v) ≡ 1
 kings_at_start v c =
@@ -100,19 +108,44 @@ kings_at_start v c =
 abbrev pawns_as : Kind → ℕ
 pawns_as k = cond (same_kind Pawn k) 8 0
 
-men_from : (c : Colour) (k : Kind) (rank : List Kind) → length rank ≡ 8 → men_of c k (array_from rank) ≡ count_on k rank + pawns_as k
-men_from White Pawn rank size = eight (λ rank. men_of White Pawn (array_from rank) ≡ count_on Pawn rank + 8) (λ a b c d e f g h. omega arith) rank size
-men_from White Knight rank size = eight (λ rank. men_of White Knight (array_from rank) ≡ count_on Knight rank + 0) (λ a b c d e f g h. omega arith) rank size
-men_from White Bishop rank size = eight (λ rank. men_of White Bishop (array_from rank) ≡ count_on Bishop rank + 0) (λ a b c d e f g h. omega arith) rank size
-men_from White Rook rank size = eight (λ rank. men_of White Rook (array_from rank) ≡ count_on Rook rank + 0) (λ a b c d e f g h. omega arith) rank size
-men_from White Queen rank size = eight (λ rank. men_of White Queen (array_from rank) ≡ count_on Queen rank + 0) (λ a b c d e f g h. omega arith) rank size
-men_from White King rank size = eight (λ rank. men_of White King (array_from rank) ≡ count_on King rank + 0) (λ a b c d e f g h. omega arith) rank size
-men_from Black Pawn rank size = eight (λ rank. men_of Black Pawn (array_from rank) ≡ count_on Pawn rank + 8) (λ a b c d e f g h. omega arith) rank size
-men_from Black Knight rank size = eight (λ rank. men_of Black Knight (array_from rank) ≡ count_on Knight rank + 0) (λ a b c d e f g h. omega arith) rank size
-men_from Black Bishop rank size = eight (λ rank. men_of Black Bishop (array_from rank) ≡ count_on Bishop rank + 0) (λ a b c d e f g h. omega arith) rank size
-men_from Black Rook rank size = eight (λ rank. men_of Black Rook (array_from rank) ≡ count_on Rook rank + 0) (λ a b c d e f g h. omega arith) rank size
-men_from Black Queen rank size = eight (λ rank. men_of Black Queen (array_from rank) ≡ count_on Queen rank + 0) (λ a b c d e f g h. omega arith) rank size
-men_from Black King rank size = eight (λ rank. men_of Black King (array_from rank) ≡ count_on King rank + 0) (λ a b c d e f g h. omega arith) rank size
+men_from : (c : Colour) (k : Kind) (rank : List Kind) → length rank ≡ 8
+    → men_of c k (array_from rank) ≡ count_on k rank + pawns_as k
+men_from White Pawn rank size =
+    eight (λ rank. men_of White Pawn (array_from rank) ≡ count_on Pawn rank + 8) (λ a b c d e f g h. omega arith) rank
+    size
+men_from White Knight rank size =
+    eight (λ rank. men_of White Knight (array_from rank) ≡ count_on Knight rank + 0) (λ a b c d e f g h. omega arith)
+    rank size
+men_from White Bishop rank size =
+    eight (λ rank. men_of White Bishop (array_from rank) ≡ count_on Bishop rank + 0) (λ a b c d e f g h. omega arith)
+    rank size
+men_from White Rook rank size =
+    eight (λ rank. men_of White Rook (array_from rank) ≡ count_on Rook rank + 0) (λ a b c d e f g h. omega arith) rank
+    size
+men_from White Queen rank size =
+    eight (λ rank. men_of White Queen (array_from rank) ≡ count_on Queen rank + 0) (λ a b c d e f g h. omega arith) rank
+    size
+men_from White King rank size =
+    eight (λ rank. men_of White King (array_from rank) ≡ count_on King rank + 0) (λ a b c d e f g h. omega arith) rank
+    size
+men_from Black Pawn rank size =
+    eight (λ rank. men_of Black Pawn (array_from rank) ≡ count_on Pawn rank + 8) (λ a b c d e f g h. omega arith) rank
+    size
+men_from Black Knight rank size =
+    eight (λ rank. men_of Black Knight (array_from rank) ≡ count_on Knight rank + 0) (λ a b c d e f g h. omega arith)
+    rank size
+men_from Black Bishop rank size =
+    eight (λ rank. men_of Black Bishop (array_from rank) ≡ count_on Bishop rank + 0) (λ a b c d e f g h. omega arith)
+    rank size
+men_from Black Rook rank size =
+    eight (λ rank. men_of Black Rook (array_from rank) ≡ count_on Rook rank + 0) (λ a b c d e f g h. omega arith) rank
+    size
+men_from Black Queen rank size =
+    eight (λ rank. men_of Black Queen (array_from rank) ≡ count_on Queen rank + 0) (λ a b c d e f g h. omega arith) rank
+    size
+men_from Black King rank size =
+    eight (λ rank. men_of Black King (array_from rank) ≡ count_on King rank + 0) (λ a b c d e f g h. omega arith) rank
+    size
 
 one_set_is : (k : Kind) → on_home_rank k + pawns_as k ≡ one_set k
 one_set_is Pawn = refl
@@ -127,7 +160,8 @@ array_is_set v c k =
     let rank = home_rank_of v in
     men_from c k (back_rank v) rank.eight ∙ ap (λ (n : ℕ). n + pawns_as k) (rank.counts k) ∙ one_set_is k
 
--- ---- nobody is in check: whatever stands on White's home rank, a pawn is in its way, and pawns and knights are too far
+-- ---- nobody is in check: whatever stands on White's home rank, a pawn is in its way, and pawns and knights are too
+-- far
 
 -- where which men stand, whatever the home ranks are
 record ArePlaced (P : Placement) : Type 0 where
@@ -170,7 +204,8 @@ are_placed rank size =
     let t = tested rank size in
     record {
       black_king = λ s less held.
-          leb-true 56 s (or_not-true (nat_le 56 s) (is_held_as Black King (man_at P s)) (at_square (king_test P) t.0 s less)
+          leb-true 56 s
+          (or_not-true (nat_le 56 s) (is_held_as Black King (man_at P s)) (at_square (king_test P) t.0 s less)
           ((Decides-held_as Black King (man_at P s)).1 held));
       white = λ s less held.
           ltb-true s 16 (or_not-true (nat_lt s 16) (is_held_by White (man_at P s)) (at_square (white_test P) t.1 s less)
@@ -199,7 +234,8 @@ blocked : (P : Placement) → ArePlaced P → (a s : ℕ) → a < 8 → 56 ≤ s
 blocked P placed a s h l m clear =
     let far : 1 < distance a s = omega (arith, seven_apart a s h l m) in
     let free : man_at P (along a s 1) ≡ None = clear.empty 1 (omega arith) far in
-    let pawn : man_at P (8 + toward (file_of a) (file_of s) 1) ≡ unpromoted White Pawn = placed.pawns (toward (file_of a) (file_of s) 1) (next_file a s h) in
+    let pawn : man_at P (8 + toward (file_of a) (file_of s) 1) ≡ unpromoted White Pawn =
+    placed.pawns (toward (file_of a) (file_of s) 1) (next_file a s h) in
     let both : None ≡ unpromoted White Pawn = sym free ∙ ap (man_at P) (next_square a s h l m) ∙ pawn in
     cc
 
@@ -228,7 +264,8 @@ colour_of : (P : Placement) (a s : ℕ) (man : Option Man) → StrikesAs P White
 colour_of P a s None h = h
 colour_of P a s (Some m) h = h.0
 
-struck_by : (P : Placement) → ArePlaced P → (a s : ℕ) → a < 8 → 56 ≤ s → s < 64 → (man : Option Man) → ¬ StrikesAs P White a s man
+struck_by : (P : Placement) → ArePlaced P → (a s : ℕ) → a < 8 → 56 ≤ s → s < 64 → (man : Option Man)
+    → ¬ StrikesAs P White a s man
 struck_by P placed a s h l m None strikes = strikes
 struck_by P placed a s h l m (Some x) strikes = from_home P placed x.kind a s h l m strikes.1
 
@@ -237,7 +274,8 @@ no_attack P placed a s h l m strikes = elim (cases_lt a 8) [
   | inl home ↦ struck_by P placed a s home l m (man_at P a) strikes
   | inr ahead ↦
       let less : a < 16 = placed.white a h (colour_of P a s (man_at P a) strikes) in
-      let pawn : StrikesAs P White a s (unpromoted White Pawn) = subst (StrikesAs P White a s) (pawn_on P placed a ahead less) strikes in
+      let pawn : StrikesAs P White a s (unpromoted White Pawn) =
+      subst (StrikesAs P White a s) (pawn_on P placed a ahead less) strikes in
       from_pawns P a s ahead less l m pawn.1
 ]
 
@@ -254,7 +292,8 @@ safe_at_start v =
 
 -- a list of eight is that of its elements
 pub eight_files : (files : Files) → length files ≡ 8 →
-    get_or files 0 None ∷ get_or files 1 None ∷ get_or files 2 None ∷ get_or files 3 None ∷ get_or files 4 None ∷ get_or files 5 None
+    get_or files 0 None ∷ get_or files 1 None ∷ get_or files 2 None ∷ get_or files 3 None ∷ get_or files 4 None
+    ∷ get_or files 5 None
     ∷ get_or files 6 None ∷ get_or files 7 None ∷ [] ≡ files
 eight_files [] n = absurd (omega (arith, n))
 eight_files (a ∷ []) n = absurd (omega (arith, n))
@@ -285,8 +324,13 @@ pub array_made : (files : Files) → length files ≡ 8 → (wa wb wc wd we wf w
     → bf ≡ unpromoted Black (unwrap_or (get_or files 5 None) Pawn)
     → bg ≡ unpromoted Black (unwrap_or (get_or files 6 None) Pawn)
     → bh ≡ unpromoted Black (unwrap_or (get_or files 7 None) Pawn)
-    → (wa ∷ wb ∷ wc ∷ wd ∷ we ∷ wf ∷ wg ∷ wh ∷ []) ++ replicate 8 (unpromoted White Pawn) ++ replicate 32 None ++ replicate 8 (unpromoted Black Pawn) ++ (ba ∷ bb ∷ bc ∷ bd ∷ be ∷ bf ∷ bg ∷ bh ∷ [])
+    → (wa ∷ wb ∷ wc ∷ wd ∷ we ∷ wf ∷ wg ∷ wh ∷ []) ++ replicate 8 (unpromoted White Pawn) ++ replicate 32 None
+    ++ replicate 8 (unpromoted Black Pawn) ++ (ba ∷ bb ∷ bc ∷ bd ∷ be ∷ bf ∷ bg ∷ bh ∷ [])
     ≡ array_from (map (λ man. unwrap_or man Pawn) files)
-array_made files size wa wb wc wd we wf wg wh ba bb bc bd be bf bg bh ewa ewb ewc ewd ewe ewf ewg ewh eba ebb ebc ebd ebe ebf ebg ebh =
-    (λ i. (ewa i ∷ ewb i ∷ ewc i ∷ ewd i ∷ ewe i ∷ ewf i ∷ ewg i ∷ ewh i ∷ []) ++ replicate 8 (unpromoted White Pawn) ++ replicate 32 None ++ replicate 8 (unpromoted Black Pawn) ++ (eba i ∷ ebb i ∷ ebc i ∷ ebd i ∷ ebe i ∷ ebf i ∷ ebg i ∷ ebh i ∷ []))
+array_made files size wa wb wc wd we wf wg wh ba bb bc bd be bf bg bh ewa ewb ewc ewd ewe ewf ewg ewh eba ebb ebc ebd
+    ebe ebf ebg ebh =
+    (λ i.
+    (ewa i ∷ ewb i ∷ ewc i ∷ ewd i ∷ ewe i ∷ ewf i ∷ ewg i ∷ ewh i ∷ []) ++ replicate 8 (unpromoted White Pawn)
+    ++ replicate 32 None ++ replicate 8 (unpromoted Black Pawn)
+    ++ (eba i ∷ ebb i ∷ ebc i ∷ ebd i ∷ ebe i ∷ ebf i ∷ ebg i ∷ ebh i ∷ []))
     ∙ ap (λ (fs : Files). array_from (map (λ man. unwrap_or man Pawn) fs)) (eight_files files size)

@@ -27,7 +27,8 @@ pub record IsMover (p : Position) (a b : ℕ) (promo : Option Kind) (m : Man) : 
   pub reaches : Reaches p.men p.en_passant p.to_move m.kind a b
   pub becomes : HasPromotion p.to_move m.kind b promo
 
-mover_of : (p : Position) (a b : ℕ) (promo : Option Kind) (man : Option Man) → man_at p.men a ≡ man → GoesAs p a b promo man →
+mover_of : (p : Position) (a b : ℕ) (promo : Option Kind) (man : Option Man) → man_at p.men a ≡ man
+    → GoesAs p a b promo man →
     (m : Man) × IsMover p a b promo m
 mover_of p a b promo None e goes = absurd goes
 mover_of p a b promo (Some m) e goes = (m, record { there = e; own = goes.0; reaches = goes.1; becomes = goes.2 })
@@ -79,8 +80,10 @@ other_colour Black White h = refl
 other_colour Black Black h = absurd (h refl)
 
 -- a king of the other side can't stand where an own man strikes
-spared : (p : Position) (a b : ℕ) (m x : Man) → IsKingSafe p.men (opposite p.to_move) → a < 64 → b < 64 → man_at p.men a ≡ Some m →
-    m.colour ≡ p.to_move → Strikes p.men p.to_move m.kind a b → man_at p.men b ≡ Some x → x.colour ≡ opposite p.to_move → IsPrey p x
+spared : (p : Position) (a b : ℕ) (m x : Man) → IsKingSafe p.men (opposite p.to_move) → a < 64 → b < 64
+    → man_at p.men a ≡ Some m →
+    m.colour ≡ p.to_move → Strikes p.men p.to_move m.kind a b → man_at p.men b ≡ Some x → x.colour ≡ opposite p.to_move
+    → IsPrey p x
 unfolding IsAttacked
 spared p a b m x safe ha hb from own strikes there enemy = record {
   enemy = enemy;
@@ -93,7 +96,8 @@ spared p a b m x safe ha hb from own strikes there enemy = record {
 }
 
 -- what stands where an own man strikes
-meets : (p : Position) (a b : ℕ) (m : Man) → IsKingSafe p.men (opposite p.to_move) → a < 64 → b < 64 → man_at p.men a ≡ Some m →
+meets : (p : Position) (a b : ℕ) (m : Man) → IsKingSafe p.men (opposite p.to_move) → a < 64 → b < 64
+    → man_at p.men a ≡ Some m →
     m.colour ≡ p.to_move → Strikes p.men p.to_move m.kind a b → ¬ IsHeldBy p.to_move (man_at p.men b) →
     taking_square p.men a b ≡ b → (o : Option Man) → man_at p.men b ≡ o → Take p a b
 meets p a b m safe ha hb from own strikes not_own square None there = nothing square there
@@ -102,11 +106,13 @@ meets p a b m safe ha hb from own strikes not_own square (Some x) there =
     other_colour x.colour p.to_move (λ e. not_own (subst (λ o. IsHeldBy p.to_move o) (sym there) e)) in
     on_target x square there (spared p a b m x safe ha hb from own strikes there enemy)
 
-piece_takes : (p : Position) (a b : ℕ) (m : Man) → IsKingSafe p.men (opposite p.to_move) → a < 64 → b < 64 → man_at p.men a ≡ Some m →
+piece_takes : (p : Position) (a b : ℕ) (m : Man) → IsKingSafe p.men (opposite p.to_move) → a < 64 → b < 64
+    → man_at p.men a ≡ Some m →
     m.colour ≡ p.to_move → is_pawn (Some m) ≡ false → Goes p.men p.to_move m.kind a b → Take p a b
 piece_takes p a b m safe ha hb from own piece goes =
     let q : is_en_passant p.men a b ≡ false =
-    and_left (is_pawn (man_at p.men a)) (is_none (man_at p.men b) && not (nat_eq (file_of a) (file_of b))) (ap is_pawn from ∙ piece) in
+    and_left (is_pawn (man_at p.men a)) (is_none (man_at p.men b) && not (nat_eq (file_of a) (file_of b)))
+    (ap is_pawn from ∙ piece) in
     meets p a b m safe ha hb from own goes.strikes goes.not_own
     (take_on (is_en_passant p.men a b) (square_at (file_of b) (rank_of a)) b q) (man_at p.men b) refl
 
@@ -141,7 +147,8 @@ unfolding IsStep
 pawn_takes p a b m sound ha hb from own pawn (inl ahead) =
     let file : file_of a ≡ file_of b = omega (arith, ahead.file) in
     let q : is_en_passant p.men a b ≡ false =
-    same_file (is_pawn (man_at p.men a)) (is_none (man_at p.men b)) (not (nat_eq (file_of a) (file_of b))) (equal (file_of a) (file_of b) file) in
+    same_file (is_pawn (man_at p.men a)) (is_none (man_at p.men b)) (not (nat_eq (file_of a) (file_of b)))
+    (equal (file_of a) (file_of b) file) in
     nothing (take_on (is_en_passant p.men a b) (square_at (file_of b) (rank_of a)) b q) ahead.free
 pawn_takes p a b m sound ha hb from own pawn (inr takes) = elim (takes.enemy) [
   | inl enemy ↦
@@ -150,7 +157,10 @@ pawn_takes p a b m sound ha hb from own pawn (inr takes) = elim (takes.enemy) [
       not_both (is_pawn (man_at p.men a)) (is_none (man_at p.men b)) (not (nat_eq (file_of a) (file_of b))) other.1 in
       let strikes : Strikes p.men p.to_move m.kind a b =
       subst (λ k. Strikes p.men p.to_move k a b) (sym pawn)
-      (record { step = takes.step; open_way = Clear-near p.men a b (forward-near p.to_move a b takes.step.0 takes.step.1) }) in
+      (record {
+        step = takes.step;
+        open_way = Clear-near p.men a b (forward-near p.to_move a b takes.step.0 takes.step.1);
+      }) in
       meets p a b m sound.other_safe ha hb from own strikes other.0
       (take_on (is_en_passant p.men a b) (square_at (file_of b) (rank_of a)) b q) (man_at p.men b) refl
   | inr square ↦
@@ -160,7 +170,8 @@ pawn_takes p a b m sound ha hb from own pawn (inr takes) = elim (takes.enemy) [
       (ap is_pawn from ∙ ap is_pawn_kind pawn) (ap is_none passed.empty)
       (not_equal (file_of a) (file_of b) (files_differ a b takes.step.0)) in
       let there : taking_square p.men a b ≡ behind (opposite p.to_move) b =
-      take_beside (is_en_passant p.men a b) (square_at (file_of b) (rank_of a)) b q ∙ beside p.to_move a b takes.step.1 in
+      take_beside (is_en_passant p.men a b) (square_at (file_of b) (rank_of a)) b q
+      ∙ beside p.to_move a b takes.step.1 in
       let how : IsPassing p a b = record {
         pawn = subst (λ o. IsHeldAs p.to_move Pawn o) (sym from) (own, pawn);
         square = square;
@@ -169,33 +180,41 @@ pawn_takes p a b m sound ha hb from own pawn (inr takes) = elim (takes.enemy) [
       passing there passed (λ e. behind_differs p.to_move a b takes.step.1 (sym there ∙ e)) how
 ]
 
-take_by : (p : Position) (a b : ℕ) (m : Man) → IsSound p → a < 64 → b < 64 → man_at p.men a ≡ Some m → m.colour ≡ p.to_move →
+take_by : (p : Position) (a b : ℕ) (m : Man) → IsSound p → a < 64 → b < 64 → man_at p.men a ≡ Some m
+    → m.colour ≡ p.to_move →
     (k : Kind) → m.kind ≡ k → Reaches p.men p.en_passant p.to_move k a b → Take p a b
 take_by p a b m sound ha hb from own Pawn e reach = pawn_takes p a b m sound ha hb from own e reach
 take_by p a b m sound ha hb from own Knight e reach =
-    piece_takes p a b m sound.other_safe ha hb from own (ap is_pawn_kind e) (subst (λ k. Goes p.men p.to_move k a b) (sym e) reach)
+    piece_takes p a b m sound.other_safe ha hb from own (ap is_pawn_kind e)
+    (subst (λ k. Goes p.men p.to_move k a b) (sym e) reach)
 take_by p a b m sound ha hb from own Bishop e reach =
-    piece_takes p a b m sound.other_safe ha hb from own (ap is_pawn_kind e) (subst (λ k. Goes p.men p.to_move k a b) (sym e) reach)
+    piece_takes p a b m sound.other_safe ha hb from own (ap is_pawn_kind e)
+    (subst (λ k. Goes p.men p.to_move k a b) (sym e) reach)
 take_by p a b m sound ha hb from own Rook e reach =
-    piece_takes p a b m sound.other_safe ha hb from own (ap is_pawn_kind e) (subst (λ k. Goes p.men p.to_move k a b) (sym e) reach)
+    piece_takes p a b m sound.other_safe ha hb from own (ap is_pawn_kind e)
+    (subst (λ k. Goes p.men p.to_move k a b) (sym e) reach)
 take_by p a b m sound ha hb from own Queen e reach =
-    piece_takes p a b m sound.other_safe ha hb from own (ap is_pawn_kind e) (subst (λ k. Goes p.men p.to_move k a b) (sym e) reach)
+    piece_takes p a b m sound.other_safe ha hb from own (ap is_pawn_kind e)
+    (subst (λ k. Goes p.men p.to_move k a b) (sym e) reach)
 take_by p a b m sound ha hb from own King e reach =
-    piece_takes p a b m sound.other_safe ha hb from own (ap is_pawn_kind e) (subst (λ k. Goes p.men p.to_move k a b) (sym e) reach)
+    piece_takes p a b m sound.other_safe ha hb from own (ap is_pawn_kind e)
+    (subst (λ k. Goes p.men p.to_move k a b) (sym e) reach)
 
 pub take_of : (p : Position) (a b : ℕ) (promo : Option Kind) → IsSound p → IsPlainMove p a b promo → Take p a b
 take_of p a b promo sound h =
     let t = mover p a b promo h in
     take_by p a b t.0 sound h.from h.to t.1.there t.1.own t.0.kind refl t.1.reaches
 
-pawn_is_prey : (p : Position) (o : Option Man) (x : Man) → o ≡ Some x → IsHeldAs (opposite p.to_move) Pawn o → IsPrey p x
+pawn_is_prey : (p : Position) (o : Option Man) (x : Man) → o ≡ Some x → IsHeldAs (opposite p.to_move) Pawn o
+    → IsPrey p x
 pawn_is_prey p None x e h = absurd h
 pawn_is_prey p (Some y) x e h =
     let same : y ≡ x = cc in
     subst (λ z. IsPrey p z) same (record { enemy = h.0; no_king = λ king. let f : Pawn ≡ King = sym h.1 ∙ king in cc })
 
 prey_of : (p : Position) (a b : ℕ) (x : Man) → Take p a b → man_at p.men (taking_square p.men a b) ≡ Some x → IsPrey p x
-prey_of p a b x (nothing square free) e = absurd (let f : None ≡ Some x = sym free ∙ ap (man_at p.men) (sym square) ∙ e in cc)
+prey_of p a b x (nothing square free) e =
+    absurd (let f : None ≡ Some x = sym free ∙ ap (man_at p.men) (sym square) ∙ e in cc)
 prey_of p a b x (on_target y square there prey) e =
     let f : Some y ≡ Some x = sym there ∙ ap (man_at p.men) (sym square) ∙ e in
     let same : y ≡ x = cc in
@@ -203,13 +222,15 @@ prey_of p a b x (on_target y square there prey) e =
 prey_of p a b x (passing square passed differ how) e =
     pawn_is_prey p (man_at p.men (behind (opposite p.to_move) b)) x (ap (man_at p.men) (sym square) ∙ e) passed.pawn
 
-pub captures_prey : (p : Position) (m : Move) → IsSound p → Allowed p m → (x : Man) → taken p.men m ≡ Some x → IsPrey p x
+pub captures_prey : (p : Position) (m : Move) → IsSound p → Allowed p m → (x : Man) → taken p.men m ≡ Some x
+    → IsPrey p x
 captures_prey p (Plain a b promo) sound h x e = prey_of p a b x (take_of p a b promo sound h.move) e
 captures_prey p (Castle long) sound h x e = cc
 captures_prey p (Drop k to) sound h x e = cc
 
 -- an en passant capture, by its squares
-passing_square : (p : Position) (a b : ℕ) (m : Man) → IsSound p → man_at p.men a ≡ Some m → m.kind ≡ Pawn → IsPassing p a b →
+passing_square : (p : Position) (a b : ℕ) (m : Man) → IsSound p → man_at p.men a ≡ Some m → m.kind ≡ Pawn
+    → IsPassing p a b →
     Reaches p.men p.en_passant p.to_move Pawn a b →
     (taking_square p.men a b ≡ behind (opposite p.to_move) b) × (taking_square p.men a b ≢ b)
 unfolding IsStep
@@ -237,7 +258,8 @@ takes_where p a b s (passing square passed differ how) other away e = away how (
 pub moves_a_man : (p : Position) (a b : ℕ) (promo : Option Kind) → IsSound p → Allowed p (Plain a b promo) →
     MovesAMan p a b promo (place_after p.variant p.men p.to_move (Plain a b promo))
 moves_a_man p a b promo sound h =
-    let known : MovesOneMan p.men a b promo (place_after p.variant p.men p.to_move (Plain a b promo)) = known_squares p (Plain a b promo) sound.squares h in
+    let known : MovesOneMan p.men a b promo (place_after p.variant p.men p.to_move (Plain a b promo)) =
+    known_squares p (Plain a b promo) sound.squares h in
     let who = mover p a b promo h.move in
     record {
       leaves = known.origin;
@@ -251,5 +273,6 @@ moves_a_man p a b promo sound h =
           subst (λ k. Reaches p.men p.en_passant p.to_move k a b) pawn who.1.reaches in
           let t = passing_square p a b who.0 sound who.1.there pawn how reach in
           ap (man_at (place_after p.variant p.men p.to_move (Plain a b promo))) (sym t.0) ∙ known.taken t.1;
-      others = λ s from to away. known.others s from to (takes_where p a b s (take_of p a b promo sound h.move) to away);
+      others = λ s from to away.
+          known.others s from to (takes_where p a b s (take_of p a b promo sound h.move) to away);
     }

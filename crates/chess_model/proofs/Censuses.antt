@@ -40,7 +40,8 @@ weights_steady : (c : Colour) (k : Kind) → IsSteady (weight c k)
 weights_steady c k = record {
   none = refl;
   steady = λ m j e h.
-      ap (λ (x : Kind). cond {A = ℕ} (same_colour m.colour c && same_kind x k) 1 0) (sym (handed_pawn m.promoted m.kind e));
+      ap (λ (x : Kind). cond {A = ℕ} (same_colour m.colour c && same_kind x k) 1 0)
+      (sym (handed_pawn m.promoted m.kind e));
 }
 
 -- a drop brings what it drops
@@ -59,7 +60,8 @@ handed_king false k h = false_from_ne_true (same_kind k King) (λ e. h ((Decides
 king_kept : (p : Position) (c : Colour) (o : Option Man) → ((x : Man) → o ≡ Some x → IsPrey p x) → weight c King o ≡ 0
 king_kept p c None prey = refl
 king_kept p c (Some x) prey =
-    ap (λ (y : Bool). cond {A = ℕ} (same_colour x.colour c && y) 1 0) (handed_king x.promoted x.kind (prey x refl).no_king) ∙
+    ap (λ (y : Bool). cond {A = ℕ} (same_colour x.colour c && y) 1 0)
+    (handed_king x.promoted x.kind (prey x refl).no_king) ∙
     cond_and-false (same_colour x.colour c)
 
 king_undropped : (p : Position) (m : Move) (c : Colour) → Allowed p m →
@@ -73,7 +75,8 @@ king_undropped p (Drop k to) c h =
 
 -- what stands on a board and was captured there are one set of each colour and what was dropped
 record IsBalanced (v : Variant) (ms : List Move) : Type 0 where
-  men : (c : Colour) (k : Kind) → men_of c k (place_from v (array_of v) White ms) + count_by (loses c k) (settings v (array_of v) White ms)
+  men : (c : Colour) (k : Kind)
+      → men_of c k (place_from v (array_of v) White ms) + count_by (loses c k) (settings v (array_of v) White ms)
       ≡ one_set k + count_by (drops c k) (settings v (array_of v) White ms)
   kings_kept : (c : Colour) → count_by (loses c King) (settings v (array_of v) White ms) ≡ 0
   kings_undropped : (c : Colour) → count_by (drops c King) (settings v (array_of v) White ms) ≡ 0
@@ -85,11 +88,14 @@ balanced_start v = record {
   kings_undropped = λ c. refl;
 }
 
-count_push : (f : Ply → Bool) (H G : List Ply) (x : Ply) → G ≡ H ++ x ∷ [] → count_by f G ≡ count_by f H + cond (f x) 1 0
+count_push : (f : Ply → Bool) (H G : List Ply) (x : Ply) → G ≡ H ++ x ∷ []
+    → count_by f G ≡ count_by f H + cond (f x) 1 0
 count_push f H G x e = ap (count_by f) e ∙ sum_by_push (λ h. cond (f h) 1 0) H x
 
-balanced_next : (v : Variant) (ms : List Move) (p : Position) → p.variant ≡ v → p.men ≡ place_from v (array_of v) White ms →
-    p.to_move ≡ side_from White ms → (m : Move) → IsSound p → Allowed p m → IsBalanced v ms → IsBalanced v (ms ++ m ∷ [])
+balanced_next : (v : Variant) (ms : List Move) (p : Position) → p.variant ≡ v
+    → p.men ≡ place_from v (array_of v) White ms →
+    p.to_move ≡ side_from White ms → (m : Move) → IsSound p → Allowed p m → IsBalanced v ms
+    → IsBalanced v (ms ++ m ∷ [])
 balanced_next v ms p e_v e_men e_side m sound h s =
     let P : Placement = place_from v (array_of v) White ms in
     let by : Colour = side_from White ms in
@@ -103,21 +109,27 @@ balanced_next v ms p e_v e_men e_side m sound h s =
     (λ i. place_after (e_v i) (e_men i) (e_side i) m) ∙ sym (place_from-append v (array_of v) White ms m) in
     record {
       men = λ c k.
-          let w : sum_by (weight c k) (place_after p.variant p.men p.to_move m) + weight c k (taken p.men m) ≡ sum_by (weight c k) p.men + brought (weight c k) p.to_move m =
+          let w : sum_by (weight c k) (place_after p.variant p.men p.to_move m) + weight c k (taken p.men m)
+          ≡ sum_by (weight c k) p.men + brought (weight c k) p.to_move m =
           weight-after (weight c k) (weights_steady c k) p m sound h in
-          let lost : count_by (loses c k) G ≡ count_by (loses c k) H + cond (loses c k x) 1 0 = count_push (loses c k) H G x grown in
-          let dropped : count_by (drops c k) G ≡ count_by (drops c k) H + cond (drops c k x) 1 0 = count_push (drops c k) H G x grown in
-          let a : sum_by (weight c k) (place_after p.variant p.men p.to_move m) ≡ men_of c k (place_from v (array_of v) White (ms ++ m ∷ [])) =
+          let lost : count_by (loses c k) G ≡ count_by (loses c k) H + cond (loses c k x) 1 0 =
+          count_push (loses c k) H G x grown in
+          let dropped : count_by (drops c k) G ≡ count_by (drops c k) H + cond (drops c k x) 1 0 =
+          count_push (drops c k) H G x grown in
+          let a : sum_by (weight c k) (place_after p.variant p.men p.to_move m)
+          ≡ men_of c k (place_from v (array_of v) White (ms ++ m ∷ [])) =
           ap (sum_by (weight c k)) placed in
           let b : sum_by (weight c k) p.men ≡ men_of c k P = ap (sum_by (weight c k)) e_men in
-          let t : weight c k (taken p.men m) ≡ cond (loses c k x) 1 0 = ap (λ (z : Ply). cond {A = ℕ} (loses c k z) 1 0) same in
+          let t : weight c k (taken p.men m) ≡ cond (loses c k x) 1 0 =
+          ap (λ (z : Ply). cond {A = ℕ} (loses c k z) 1 0) same in
           let d : brought (weight c k) p.to_move m ≡ cond (drops c k x) 1 0 =
           brought-drops c k p.men p.to_move m ∙ ap (λ (z : Ply). cond {A = ℕ} (drops c k z) 1 0) same in
           let before : men_of c k P + count_by (loses c k) H ≡ one_set k + count_by (drops c k) H = s.men c k in
           omega (arith, w, lost, dropped, a, b, t, d, before);
       kings_kept = λ c.
           let t : cond (loses c King x) 1 0 ≡ 0 =
-          ap (λ (z : Ply). cond {A = ℕ} (loses c King z) 1 0) (sym same) ∙ king_kept p c (taken p.men m) (captures_prey p m sound h) in
+          ap (λ (z : Ply). cond {A = ℕ} (loses c King z) 1 0) (sym same)
+          ∙ king_kept p c (taken p.men m) (captures_prey p m sound h) in
           omega (arith, count_push (loses c King) H G x grown, t, s.kings_kept c);
       kings_undropped = λ c.
           let d : cond (drops c King x) 1 0 ≡ 0 =
@@ -125,7 +137,8 @@ balanced_next v ms p e_v e_men e_side m sound h s =
           omega (arith, count_push (drops c King) H G x grown, d, s.kings_undropped c);
     }
 
-balanced_step : (v : Variant) (b : ℕ) (T : List HalfMove) (h : HalfMove) → IsLegal v T → Allowed (position_after v T h.board) h.what →
+balanced_step : (v : Variant) (b : ℕ) (T : List HalfMove) (h : HalfMove) → IsLegal v T
+    → Allowed (position_after v T h.board) h.what →
     IsBalanced v (moves_of b T) → IsBalanced v (moves_of b (T ++ h ∷ []))
 balanced_step v b T h legal allowed s = elim (cases_eq h.board b) [
   | inl same ↦
@@ -139,7 +152,8 @@ balanced_step v b T h legal allowed s = elim (cases_eq h.board b) [
 ]
 
 balanced : (v : Variant) (b : ℕ) (T : List HalfMove) → IsLegal v T → IsBalanced v (moves_of b T)
-balanced v b T legal = legal_induction v (λ U. IsBalanced v (moves_of b U)) (balanced_start v) (balanced_step v b) T legal
+balanced v b T legal =
+    legal_induction v (λ U. IsBalanced v (moves_of b U)) (balanced_start v) (balanced_step v b) T legal
 
 -- nobody drops more than came into the hand
 
@@ -161,12 +175,14 @@ gained-more Bughouse T d b m c k = count_more (loses c k) Bughouse T d (other_bo
 abbrev IsPaid : Variant → List HalfMove → Type 0
 IsPaid v T = (b : ℕ) (c : Colour) (k : Kind) → spent v T b c k ≤ gained v T b c k
 
-paid_next : (v : Variant) (T : List HalfMove) (h : HalfMove) → IsLegal v T → Allowed (position_after v T h.board) h.what → IsPaid v T → IsPaid v (T ++ h ∷ [])
+paid_next : (v : Variant) (T : List HalfMove) (h : HalfMove) → IsLegal v T → Allowed (position_after v T h.board) h.what
+    → IsPaid v T → IsPaid v (T ++ h ∷ [])
 paid_next v T h legal allowed paid b c k = elim (cases_eq h.board b) [
   | inl same ↦ subst (λ x. spent v (T ++ h ∷ []) x c k ≤ gained v (T ++ h ∷ []) x c k) same
       (paid-append v T h.board h.what (paid h.board) allowed c k)
   | inr other ↦
-      let still : spent v (T ++ h ∷ []) b c k ≡ spent v T b c k = ap (count_by (drops c k)) (history-other v T h.board b h.what other) in
+      let still : spent v (T ++ h ∷ []) b c k ≡ spent v T b c k =
+      ap (count_by (drops c k)) (history-other v T h.board b h.what other) in
       omega (arith, still, paid b c k, gained-more v T h.board b h.what c k)
 ]
 
@@ -186,7 +202,8 @@ of_colours Black White x = omega arith
 of_colours Black Black x = refl
 
 shared_capture : (by : Colour) (k : Kind) (o : Option Man) →
-    cond {A = ℕ} (same_colour by White && hands_over k o) 1 0 + cond {A = ℕ} (same_colour by Black && hands_over k o) 1 0
+    cond {A = ℕ} (same_colour by White && hands_over k o) 1 0
+    + cond {A = ℕ} (same_colour by Black && hands_over k o) 1 0
     ≡ cond {A = ℕ} (is_held_by White o && hands_over k o) 1 0 + cond {A = ℕ} (is_held_by Black o && hands_over k o) 1 0
 shared_capture White k None = refl
 shared_capture Black k None = refl
@@ -197,7 +214,8 @@ count_cons : (f : Ply → Bool) (x : Ply) (H : List Ply) → count_by f (x ∷ H
 count_cons f x H = sum_by-cons (λ h. cond (f h) 1 0) x H
 
 captures_shared : (k : Kind) (H : List Ply) →
-    count_by (captures White k) H + count_by (captures Black k) H ≡ count_by (loses White k) H + count_by (loses Black k) H
+    count_by (captures White k) H + count_by (captures Black k) H
+    ≡ count_by (loses White k) H + count_by (loses Black k) H
 captures_shared k [] = refl
 captures_shared k (x ∷ H) =
     let here = shared_capture x.by k (taken x.before x.what) in
@@ -213,7 +231,8 @@ captures_shared k (x ∷ H) =
     )
 
 -- how many of a kind are in the hand that is what came less what went
-in_hand : (v : Variant) (T : List HalfMove) (b : ℕ) (c : Colour) (k : Kind) → (k ≡ King → gained v T b c k ≡ spent v T b c k) →
+in_hand : (v : Variant) (T : List HalfMove) (b : ℕ) (c : Colour) (k : Kind)
+    → (k ≡ King → gained v T b c k ≡ spent v T b c k) →
     count_in (hand_after v T b c) k ≡ gained v T b c k - spent v T b c k
 in_hand v T b c Pawn h = refl
 in_hand v T b c Knight h = refl
@@ -239,10 +258,22 @@ king_in_crazyhouse : (T : List HalfMove) (b : ℕ) → IsLegal Crazyhouse T → 
     gained Crazyhouse T b c King ≡ spent Crazyhouse T b c King
 king_in_crazyhouse T b legal White =
     let s = balanced Crazyhouse b T legal in
-    omega (arith, captures_shared King (history Crazyhouse T b), s.kings_kept White, s.kings_kept Black, s.kings_undropped White)
+    omega (
+      arith,
+      captures_shared King (history Crazyhouse T b),
+      s.kings_kept White,
+      s.kings_kept Black,
+      s.kings_undropped White,
+    )
 king_in_crazyhouse T b legal Black =
     let s = balanced Crazyhouse b T legal in
-    omega (arith, captures_shared King (history Crazyhouse T b), s.kings_kept White, s.kings_kept Black, s.kings_undropped Black)
+    omega (
+      arith,
+      captures_shared King (history Crazyhouse T b),
+      s.kings_kept White,
+      s.kings_kept Black,
+      s.kings_undropped Black,
+    )
 
 crazyhouse_kept : (T : List HalfMove) (b : ℕ) (k : Kind) → IsLegal Crazyhouse T →
     men_of White k (place_from Crazyhouse (array_of Crazyhouse) White (moves_of b T)) +
@@ -265,9 +296,11 @@ crazyhouse_kept T b k legal =
       legal_paid Crazyhouse T legal b Black k,
     )
 
-king_in_pair : (T : List HalfMove) (b : ℕ) → IsLegal Bughouse T → (c : Colour) → gained Bughouse T b c King ≡ spent Bughouse T b c King
+king_in_pair : (T : List HalfMove) (b : ℕ) → IsLegal Bughouse T → (c : Colour)
+    → gained Bughouse T b c King ≡ spent Bughouse T b c King
 king_in_pair T b legal c =
-    omega (arith, (balanced Bughouse (other_board b) T legal).kings_kept c, (balanced Bughouse b T legal).kings_undropped c)
+    omega
+    (arith, (balanced Bughouse (other_board b) T legal).kings_kept c, (balanced Bughouse b T legal).kings_undropped c)
 
 pair_kept : (T : List HalfMove) (c : Colour) (k : Kind) → IsLegal Bughouse T →
     men_of c k (place_from Bughouse (array_of Bughouse) White (moves_of 1 T)) +

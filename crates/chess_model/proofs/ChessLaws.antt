@@ -91,10 +91,14 @@ OnLine-straight : (a b : ℕ) → IsStraight a b → OnLine a b
 OnLine-straight a b step = elim (step.1) [
   | inl files ↦ record {
     file = inl (no_diff (file_of a) (file_of b) files);
-    rank = inr (apart (rank_of a) (rank_of b) (distance a b) (sym (max-zero_left (files_apart a b) (ranks_apart a b) files)));
+    rank =
+        inr
+        (apart (rank_of a) (rank_of b) (distance a b) (sym (max-zero_left (files_apart a b) (ranks_apart a b) files)));
   }
   | inr ranks ↦ record {
-    file = inr (apart (file_of a) (file_of b) (distance a b) (sym (max-zero_right (files_apart a b) (ranks_apart a b) ranks)));
+    file =
+        inr
+        (apart (file_of a) (file_of b) (distance a b) (sym (max-zero_right (files_apart a b) (ranks_apart a b) ranks)));
     rank = inl (no_diff (rank_of a) (rank_of b) ranks);
   }
 ]
@@ -145,13 +149,18 @@ near-max x y e h = omega arith
 way-back : (P : Placement) (c : Colour) (k : Kind) (a b : ℕ) → IsStep c k a b → IsOpen k P a b → IsOpen k P b a
 unfolding IsStep
 way-back P c Pawn a b step way =
-    Clear-near P b a (near-max (files_apart b a) (ranks_apart b a) (files-sym b a ∙ step.0) (IsForward-near c a b step.1))
+    Clear-near P b a
+    (near-max (files_apart b a) (ranks_apart b a) (files-sym b a ∙ step.0) (IsForward-near c a b step.1))
 way-back P c Knight a b step way = tt
 way-back P c Bishop a b step way = Clear-back P a b (OnLine-diagonal a b step) way
 way-back P c Rook a b step way = Clear-back P a b (OnLine-straight a b step) way
 way-back P c Queen a b step way =
-    elim step [ inl h ↦ Clear-back P a b (OnLine-straight a b h) way | inr h ↦ Clear-back P a b (OnLine-diagonal a b h) way ]
-way-back P c King a b step way = let e : distance b a ≡ 1 = distance-sym b a ∙ step in Clear-near P b a (omega (arith, e))
+    elim step [
+      | inl h ↦ Clear-back P a b (OnLine-straight a b h) way
+      | inr h ↦ Clear-back P a b (OnLine-diagonal a b h) way
+    ]
+way-back P c King a b step way =
+    let e : distance b a ≡ 1 = distance-sym b a ∙ step in Clear-near P b a (omega (arith, e))
 
 pub Strikes-back : (P : Placement) (c : Colour) (k : Kind) (a b : ℕ) → Strikes P c k a b → Strikes P (opposite c) k b a
 Strikes-back P c k a b h = record {
@@ -163,7 +172,8 @@ pub opposite-opposite : (c : Colour) → opposite (opposite c) ≡ c
 opposite-opposite White = refl
 opposite-opposite Black = refl
 
-meets : (P : Placement) (c : Colour) (a s : ℕ) → a < 64 → (man : Option Man) → man_at P a ≡ man → StrikesAs P c a s man →
+meets : (P : Placement) (c : Colour) (a s : ℕ) → a < 64 → (man : Option Man) → man_at P a ≡ man
+    → StrikesAs P c a s man →
     MeetsOwnKind P c s
 meets P c a s h None e strikes = absurd strikes
 meets P c a s h (Some m) e strikes = record {
@@ -190,7 +200,8 @@ attack_both_ways P c s = (λ h. meets P c h.0 s h.1 (man_at P h.0) refl h.2, att
 
 -- squares
 
-squares-plain : (P : Placement) (a b : ℕ) (promo : Option Kind) → a < length P → b < length P → taking_square P a b < length P →
+squares-plain : (P : Placement) (a b : ℕ) (promo : Option Kind) → a < length P → b < length P
+    → taking_square P a b < length P →
     a ≢ b → MovesOneMan P a b promo (place_after Chess P White (Plain a b promo))
 squares-plain P a b promo ha hb ht differ =
     let t : ℕ = taking_square P a b in
@@ -204,9 +215,11 @@ squares-plain P a b promo ha hb ht differ =
       target = get_or-set_same left b man None hb';
       origin = get_or-set_other left b a man None differ ∙ get_or-set_same lifted a None None ha';
       taken = λ tb.
-          get_or-set_other left b t man None tb ∙ get_or-set_other lifted a t None None away ∙ get_or-set_same P t None None ht;
+          get_or-set_other left b t man None tb ∙ get_or-set_other lifted a t None None away
+          ∙ get_or-set_same P t None None ht;
       others = λ s sa sb st.
-          get_or-set_other left b s man None sb ∙ get_or-set_other lifted a s None None sa ∙ get_or-set_other P t s None None st;
+          get_or-set_other left b s man None sb ∙ get_or-set_other lifted a s None None sa
+          ∙ get_or-set_other P t s None None st;
     }
 
 squares-castle : (v : Variant) (P : Placement) (c : Colour) (long : Bool) → length P ≡ 64 →
@@ -224,7 +237,8 @@ squares-castle v P c long size =
     let one_came : Placement = slice_set both_left x king in
     let hk : k < length P = omega (arith, size, at.king) in
     let hr : r < length one_left = omega (arith, size, at.rook, length-set P k None) in
-    let hx : x < length both_left = omega (arith, size, at.king_goal, length-set P k None, length-set one_left r None) in
+    let hx : x < length both_left =
+    omega (arith, size, at.king_goal, length-set P k None, length-set one_left r None) in
     let hy : y < length one_came =
     omega (arith, size, at.rook_goal, length-set P k None, length-set one_left r None, length-set both_left x king) in
     record {
@@ -259,14 +273,16 @@ known_squares p (Drop k to) size h =
 right_before : (v : Variant) (T : List HalfMove) (h : HalfMove) (b : ℕ) (c : Colour) (long : Bool) →
     right_stands v (history v (T ++ h ∷ []) b) c long ≡ true → right_stands v (history v T b) c long ≡ true
 right_before v T h b c long stands =
-    let own : right_stands v (history v (T ++ h ∷ []) h.board) c long ≡ true → right_stands v (history v T h.board) c long ≡ true =
+    let own : right_stands v (history v (T ++ h ∷ []) h.board) c long ≡ true
+    → right_stands v (history v T h.board) c long ≡ true =
     (λ now.
     let grown = ap (λ (H : List Ply). right_stands v H c long) (history-same v T h.board h.what) ∙
     right_stands-append v (history v T h.board) (last_ply v T h.board h.what) c long in
     first_so (right_stands v (history v T h.board) c long)
     (keeps_right v c long (last_ply v T h.board h.what).by h.what) (sym grown ∙ now)) in
     let other : h.board ≢ b → right_stands v (history v T b) c long ≡ true =
-    (λ differ. sym (ap (λ (H : List Ply). right_stands v H c long) (history-other v T h.board b h.what differ)) ∙ stands) in
+    (λ differ.
+    sym (ap (λ (H : List Ply). right_stands v H c long) (history-other v T h.board b h.what differ)) ∙ stands) in
     let P : ℕ → Type 0 = λ x.
     right_stands v (history v (T ++ h ∷ []) x) c long ≡ true → right_stands v (history v T x) c long ≡ true in
     elim (cases_order h.board b) [
@@ -288,7 +304,8 @@ length_cond : (q : Bool) (x : Ply) (xs : List Ply) → length (cond q (x ∷ xs)
 length_cond true x xs = omega arith
 length_cond false x xs = refl
 
-quiet_step : (H : List Ply) (x : Ply) → quiet_count (H ++ x ∷ []) ≡ cond (is_quiet x.before x.what) (quiet_count H + 1) 0
+quiet_step : (H : List Ply) (x : Ply)
+    → quiet_count (H ++ x ∷ []) ≡ cond (is_quiet x.before x.what) (quiet_count H + 1) 0
 quiet_step H x =
     let quiet : Ply → Bool = λ h. is_quiet h.before h.what in
     ap (λ (hs : List Ply). length (take_while quiet hs)) (reverse-append H (x ∷ [])) ∙
@@ -318,20 +335,25 @@ reversible_quiet P (Drop k to) h = absurd (h tt)
 
 pub quiet_counted : CountsQuietMoves
 quiet_counted = record {
-  to_zero = λ H x h. quiet_step H x ∙ ap (λ (q : Bool). cond q (quiet_count H + 1) 0) (irreversible_not_quiet x.before x.what h);
-  one_more = λ H x h. quiet_step H x ∙ ap (λ (q : Bool). cond q (quiet_count H + 1) 0) (reversible_quiet x.before x.what h);
+  to_zero = λ H x h.
+      quiet_step H x ∙ ap (λ (q : Bool). cond q (quiet_count H + 1) 0) (irreversible_not_quiet x.before x.what h);
+  one_more = λ H x h.
+      quiet_step H x ∙ ap (λ (q : Bool). cond q (quiet_count H + 1) 0) (reversible_quiet x.before x.what h);
 }
 
 -- men
 
-length-place_from : (v : Variant) (P : Placement) (c : Colour) (ms : List Move) → length (place_from v P c ms) ≡ length P
+length-place_from : (v : Variant) (P : Placement) (c : Colour) (ms : List Move)
+    → length (place_from v P c ms) ≡ length P
 length-place_from v P c [] = refl
-length-place_from v P c (m ∷ ms) = length-place_from v (place_after v P c m) (opposite c) ms ∙ length-place_after v P c m
+length-place_from v P c (m ∷ ms) =
+    length-place_from v (place_after v P c m) (opposite c) ms ∙ length-place_after v P c m
 
 pub men_not_made : NoMenAreMade
 men_not_made p T b m stands allowed =
     let size : length p.men ≡ 64 =
-    ap (λ (q : Position). length q.men) stands.same ∙ length-place_from p.variant (array_of p.variant) White (moves_of b T) ∙ length-array p.variant in
+    ap (λ (q : Position). length q.men) stands.same
+    ∙ length-place_from p.variant (array_of p.variant) White (moves_of b T) ∙ length-array p.variant in
     let next_stands = Stands-next p T b m allowed stands in
     let Q : Position → Type 0 = λ x. all_men x ≤ all_men p in
     subst Q next_stands.same (all_men-next p m size allowed)

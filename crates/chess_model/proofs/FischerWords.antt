@@ -13,16 +13,21 @@ words_with digits = 102 ∷ 105 ∷ 115 ∷ 99 ∷ 104 ∷ 101 ∷ 114 ∷ 32 �
 pub one_digit : (n units : ℕ) → n < 10 → units ≡ 48 + n % 10 → units ∷ [] ≡ decimal n
 one_digit n units less u = ap (λ (d : ℕ). d ∷ []) (omega (arith, u)) ∙ sym (decimal_digit n less)
 
-pub two_digits : (n tens units : ℕ) → 10 ≤ n → n < 100 → tens ≡ 48 + n / 10 % 10 → units ≡ 48 + n % 10 → tens ∷ units ∷ [] ≡ decimal n
+pub two_digits : (n tens units : ℕ) → 10 ≤ n → n < 100 → tens ≡ 48 + n / 10 % 10 → units ≡ 48 + n % 10
+    → tens ∷ units ∷ [] ≡ decimal n
 two_digits n tens units some less t u =
     let first : tens ∷ [] ≡ decimal (n / 10) = one_digit (n / 10) tens (omega arith) t in
-    ap (λ (ds : List ℕ). ds ++ units ∷ []) first ∙ ap (λ (d : ℕ). decimal (n / 10) ++ d ∷ []) u ∙ sym (decimal_step n some (omega arith))
+    ap (λ (ds : List ℕ). ds ++ units ∷ []) first ∙ ap (λ (d : ℕ). decimal (n / 10) ++ d ∷ []) u
+    ∙ sym (decimal_step n some (omega arith))
 
-pub three_digits : (n hundreds tens units : ℕ) → 100 ≤ n → n < 960 → hundreds ≡ 48 + n / 100 → tens ≡ 48 + n / 10 % 10 → units ≡ 48 + n % 10 →
+pub three_digits : (n hundreds tens units : ℕ) → 100 ≤ n → n < 960 → hundreds ≡ 48 + n / 100 → tens ≡ 48 + n / 10 % 10
+    → units ≡ 48 + n % 10 →
     hundreds ∷ tens ∷ units ∷ [] ≡ decimal n
 three_digits n hundreds tens units some less h t u =
-    let first : hundreds ∷ tens ∷ [] ≡ decimal (n / 10) = two_digits (n / 10) hundreds tens (omega arith) (omega arith) (omega (arith, h)) t in
-    ap (λ (ds : List ℕ). ds ++ units ∷ []) first ∙ ap (λ (d : ℕ). decimal (n / 10) ++ d ∷ []) u ∙ sym (decimal_step n (omega arith) (omega arith))
+    let first : hundreds ∷ tens ∷ [] ≡ decimal (n / 10) =
+    two_digits (n / 10) hundreds tens (omega arith) (omega arith) (omega (arith, h)) t in
+    ap (λ (ds : List ℕ). ds ++ units ∷ []) first ∙ ap (λ (d : ℕ). decimal (n / 10) ++ d ∷ []) u
+    ∙ sym (decimal_step n (omega arith) (omega arith))
 
 -- bytes of digits are printable
 printable : (digit : ℕ) → 48 ≤ digit → digit < 58 → is_printable digit ≡ true
@@ -31,8 +36,10 @@ printable digit low high = rw (le-leb 32 digit (omega arith), le-leb digit 126 (
 pub one_text : (a : ℕ) → 48 ≤ a → a < 58 → IsMoveText (102 ∷ 105 ∷ 115 ∷ 99 ∷ 104 ∷ 101 ∷ 114 ∷ 32 ∷ a ∷ [])
 one_text a la ha = record { some = omega arith; most = omega arith; printable = rw (printable a la ha) refl }
 
-pub two_text : (a b : ℕ) → 48 ≤ a → a < 58 → 48 ≤ b → b < 58 → IsMoveText (102 ∷ 105 ∷ 115 ∷ 99 ∷ 104 ∷ 101 ∷ 114 ∷ 32 ∷ a ∷ b ∷ [])
-two_text a b la ha lb hb = record { some = omega arith; most = omega arith; printable = rw (printable a la ha, printable b lb hb) refl }
+pub two_text : (a b : ℕ) → 48 ≤ a → a < 58 → 48 ≤ b → b < 58
+    → IsMoveText (102 ∷ 105 ∷ 115 ∷ 99 ∷ 104 ∷ 101 ∷ 114 ∷ 32 ∷ a ∷ b ∷ [])
+two_text a b la ha lb hb =
+    record { some = omega arith; most = omega arith; printable = rw (printable a la ha, printable b lb hb) refl }
 
 pub three_text : (a b c : ℕ) → 48 ≤ a → a < 58 → 48 ≤ b → b < 58 → 48 ≤ c → c < 58 →
     IsMoveText (102 ∷ 105 ∷ 115 ∷ 99 ∷ 104 ∷ 101 ∷ 114 ∷ 32 ∷ a ∷ b ∷ c ∷ [])
@@ -42,7 +49,8 @@ three_text a b c la ha lb hb lc hc = record {
   printable = rw (printable a la ha, printable b lb hb, printable c lc hc) refl;
 }
 
-pub value_of : (read : Option (List ℕ)) (text bytes : List ℕ) → read ≡ Some text → IfSome read (λ t. t ≡ bytes) → text ≡ bytes
+pub value_of : (read : Option (List ℕ)) (text bytes : List ℕ) → read ≡ Some text → IfSome read (λ t. t ≡ bytes)
+    → text ≡ bytes
 value_of read text bytes e value = let C : Option (List ℕ) → Type 0 = λ o. IfSome o (λ t. t ≡ bytes) in subst C e value
 
 -- what stands behind `fischer `

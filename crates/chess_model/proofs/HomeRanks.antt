@@ -56,7 +56,8 @@ abbrev pair_number : ℕ → ℕ → ℕ
 pair_number first behind = slice_index_or (0 ∷ 4 ∷ 7 ∷ 9 ∷ []) first 0 + behind
 
 abbrev knights_number : List Kind → ℕ
-knights_number rank = pair_number (first_file Knight rank) (3 - first_file Knight (reverse rank) - first_file Knight rank)
+knights_number rank =
+    pair_number (first_file Knight rank) (3 - first_file Knight (reverse rank) - first_file Knight rank)
 
 abbrev number_of : List Kind → ℕ
 number_of rank =
@@ -75,11 +76,13 @@ all_numbered = refl
 numbered : (n : ℕ) → n < 960 → (is_home_rank (numbered_rank n) ≡ true) × (nat_eq (number_of (numbered_rank n)) n ≡ true)
 numbered n less =
     and_parts (is_home_rank (numbered_rank n)) (nat_eq (number_of (numbered_rank n)) n)
-    (list_all-each is_numbered (range_with_len 0 960) all_numbered n (Among-range 0 960 n (omega arith) (omega (arith, less))))
+    (list_all-each is_numbered (range_with_len 0 960) all_numbered n
+    (Among-range 0 960 n (omega arith) (omega (arith, less))))
 
 no_two_alike : (m n : ℕ) → m < 960 → n < 960 → numbered_rank m ≡ numbered_rank n → m ≡ n
 no_two_alike m n lm ln e =
-    sym (eqb-true (number_of (numbered_rank m)) m (numbered m lm).1) ∙ ap number_of e ∙ eqb-true (number_of (numbered_rank n)) n (numbered n ln).1
+    sym (eqb-true (number_of (numbered_rank m)) m (numbered m lm).1) ∙ ap number_of e
+    ∙ eqb-true (number_of (numbered_rank n)) n (numbered n ln).1
 
 -- ---- the rank of a variant
 
@@ -137,7 +140,8 @@ home_rank_of Bughouse = usual
 home_rank_of (Fischer number) = tested (numbered_rank (number % 960)) (numbered (number % 960) (omega arith)).0
 
 pub order_of : (n : ℕ) → n < 960 →
-    (first_file Rook (numbered_rank n) < first_file King (numbered_rank n)) × (first_file King (numbered_rank n) < last_file Rook (numbered_rank n))
+    (first_file Rook (numbered_rank n) < first_file King (numbered_rank n))
+    × (first_file King (numbered_rank n) < last_file Rook (numbered_rank n))
 order_of n less = (tested (numbered_rank n) (numbered n less).0).order
 
 -- the files of the homes

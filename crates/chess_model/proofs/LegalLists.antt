@@ -27,7 +27,8 @@ place (v ∷ xs) x (w ∷ ys) y zs e =
       | inr before ↦ inr (before.0, λ i. first i ∷ before.1 i)
     ]
 
-pub IsLegal-append : (v : Variant) (T : List HalfMove) (x : HalfMove) → IsLegal v T → Allowed (position_after v T x.board) x.what →
+pub IsLegal-append : (v : Variant) (T : List HalfMove) (x : HalfMove) → IsLegal v T
+    → Allowed (position_after v T x.board) x.what →
     IsLegal v (T ++ x ∷ [])
 IsLegal-append v T x legal allowed = record {
   each = λ before after h e.
@@ -46,7 +47,8 @@ legal_lists = record {
   grows = IsLegal-append;
   shrinks = λ v T x legal. record {
     each = λ before after h e.
-        legal.each before (after ++ x ∷ []) h (ap (λ (xs : List HalfMove). xs ++ x ∷ []) e ∙ append_assoc before (h ∷ after) (x ∷ []));
+        legal.each before (after ++ x ∷ []) h
+        (ap (λ (xs : List HalfMove). xs ++ x ∷ []) e ∙ append_assoc before (h ∷ after) (x ∷ []));
   };
   last = λ v T x legal. legal.each T [] x refl;
 }

@@ -38,7 +38,8 @@ pub settings-append : (v : Variant) (P : Placement) (c : Colour) (ms : List Move
     settings v P c ms ++ record { before = place_from v P c ms; by = side_from c ms; what = m } ∷ []
 settings-append v P c [] m = refl
 settings-append v P c (x ∷ ms) m =
-    ap (λ (H : List Ply). record { before = P; by = c; what = x } ∷ H) (settings-append v (place_after v P c x) (opposite c) ms m)
+    ap (λ (H : List Ply). record { before = P; by = c; what = x } ∷ H)
+    (settings-append v (place_after v P c x) (opposite c) ms m)
 
 pub moves_of-same : (b : ℕ) (T : List HalfMove) (m : Move) → moves_of b (T ++ one b m) ≡ moves_of b T ++ m ∷ []
 moves_of-same b T m =
@@ -53,7 +54,8 @@ moves_of-other b d T m h =
     let on_board : HalfMove → Bool = λ h. nat_eq h.board d in
     let nothing : filter on_board (one b m) ≡ [] = rw (ne_eqb b d h) refl in
     ap (λ (hs : List HalfMove). map (λ h. h.what) hs)
-    (filter-append on_board T (one b m) ∙ ap (λ (hs : List HalfMove). filter on_board T ++ hs) nothing ∙ append-nil (filter on_board T))
+    (filter-append on_board T (one b m) ∙ ap (λ (hs : List HalfMove). filter on_board T ++ hs) nothing
+    ∙ append-nil (filter on_board T))
 
 -- the half-move m in its setting after T
 abbrev pub last_ply : Variant → List HalfMove → ℕ → Move → Ply
@@ -66,9 +68,11 @@ last_ply v T b m = record {
 pub history-same : (v : Variant) (T : List HalfMove) (b : ℕ) (m : Move) →
     history v (T ++ one b m) b ≡ history v T b ++ last_ply v T b m ∷ []
 history-same v T b m =
-    ap (λ (ms : List Move). settings v (array_of v) White ms) (moves_of-same b T m) ∙ settings-append v (array_of v) White (moves_of b T) m
+    ap (λ (ms : List Move). settings v (array_of v) White ms) (moves_of-same b T m)
+    ∙ settings-append v (array_of v) White (moves_of b T) m
 
-pub history-other : (v : Variant) (T : List HalfMove) (b d : ℕ) (m : Move) → b ≢ d → history v (T ++ one b m) d ≡ history v T d
+pub history-other : (v : Variant) (T : List HalfMove) (b d : ℕ) (m : Move) → b ≢ d
+    → history v (T ++ one b m) d ≡ history v T d
 history-other v T b d m h = ap (λ (ms : List Move). settings v (array_of v) White ms) (moves_of-other b d T m h)
 
 pub right_stands-append : (v : Variant) (H : List Ply) (x : Ply) (c : Colour) (long : Bool) →
@@ -108,7 +112,8 @@ quiet_count-append H x =
 
 pub spent-append : (v : Variant) (T : List HalfMove) (b : ℕ) (m : Move) (c : Colour) (k : Kind) →
     spent v (T ++ one b m) b c k ≡ spent v T b c k + cond (drops c k (last_ply v T b m)) 1 0
-spent-append v T b m c k = rw history-same (sum_by_push (λ h. cond (drops c k h) 1 0) (history v T b) (last_ply v T b m))
+spent-append v T b m c k =
+    rw history-same (sum_by_push (λ h. cond (drops c k h) 1 0) (history v T b) (last_ply v T b m))
 
 pub gained-append : (v : Variant) (T : List HalfMove) (b : ℕ) (m : Move) (c : Colour) (k : Kind) →
     gained v (T ++ one b m) b c k ≡ gained v T b c k + gain v c k (last_ply v T b m)
@@ -129,4 +134,11 @@ hand_after-append v T b m c paid =
     let step : (k : Kind) → gained v (T ++ one b m) b c k - spent v (T ++ one b m) b c k
     ≡ gained v T b c k - spent v T b c k + gain v c k (last_ply v T b m) - cond (drops c k (last_ply v T b m)) 1 0 =
     λ k. omega (arith, gained-append v T b m c k, spent-append v T b m c k, paid k) in
-    λ i. record { pawns = step Pawn i; knights = step Knight i; bishops = step Bishop i; rooks = step Rook i; queens = step Queen i }
+    λ i.
+    record {
+      pawns = step Pawn i;
+      knights = step Knight i;
+      bishops = step Bishop i;
+      rooks = step Rook i;
+      queens = step Queen i;
+    }

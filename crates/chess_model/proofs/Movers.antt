@@ -30,7 +30,8 @@ record HasTurn (c : Colour) (k : ℕ) (x : Ply) : Type 0 where
   even : k % 2 ≡ 0 → x.by ≡ c
   odd : k % 2 ≡ 1 → x.by ≡ opposite c
 
-mover_at : (v : Variant) (P : Placement) (c : Colour) (ms : List Move) (k : ℕ) (x : Ply) → k < length (settings v P c ms) →
+mover_at : (v : Variant) (P : Placement) (c : Colour) (ms : List Move) (k : ℕ) (x : Ply)
+    → k < length (settings v P c ms) →
     HasTurn c k (slice_index_or (settings v P c ms) k x)
 mover_at v P c [] k x h = absurd (omega arith)
 mover_at v P c (m ∷ ms) zero x h = record { even = λ e. refl; odd = λ e. absurd (omega (arith, e)) }

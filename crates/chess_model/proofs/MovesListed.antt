@@ -30,7 +30,8 @@ among_promoted (Some Rook) h = inr (inr (inl refl))
 among_promoted (Some Queen) h = inr (inl refl)
 among_promoted (Some King) h = absurd h
 
-among_promotions : (p : Position) (k : Kind) (b : ℕ) (promo : Option Kind) → HasPromotion p.to_move k b promo → Among promo promotions
+among_promotions : (p : Position) (k : Kind) (b : ℕ) (promo : Option Kind) → HasPromotion p.to_move k b promo
+    → Among promo promotions
 among_promotions p Pawn b promo (inl h) = among_promoted promo h.1
 among_promotions p Pawn b promo (inr h) = inl h.1
 among_promotions p Knight b promo h = inl h
@@ -39,7 +40,8 @@ among_promotions p Rook b promo h = inl h
 among_promotions p Queen b promo h = inl h
 among_promotions p King b promo h = inl h
 
-promotion_of_man : (p : Position) (a b : ℕ) (promo : Option Kind) (man : Option Man) → GoesAs p a b promo man → Among promo promotions
+promotion_of_man : (p : Position) (a b : ℕ) (promo : Option Kind) (man : Option Man) → GoesAs p a b promo man
+    → Among promo promotions
 promotion_of_man p a b promo None h = absurd h
 promotion_of_man p a b promo (Some m) h = among_promotions p m.kind b promo h.2
 
@@ -74,7 +76,8 @@ from_hand p k to h =
     (Among-map (Drop k) squares to (among_squares to h.square))
 
 listed : (p : Position) (m : Move) → IsMove p m → Among m (board_moves ++ drop_moves)
-listed p (Plain a b promo) h = Among-append_left board_moves drop_moves (Plain a b promo) (on_board p (Plain a b promo) tt h)
+listed p (Plain a b promo) h =
+    Among-append_left board_moves drop_moves (Plain a b promo) (on_board p (Plain a b promo) tt h)
 listed p (Castle long) h = Among-append_left board_moves drop_moves (Castle long) (on_board p (Castle long) tt h)
 listed p (Drop k to) h = Among-append_right board_moves drop_moves (Drop k to) (from_hand p k to h)
 
@@ -101,8 +104,10 @@ unfolding Below
 range_below a n [] e = tt
 range_below a zero (x ∷ xs) e = absurd (let t : move_place x ∷ map move_place xs ≡ [] = e in cc)
 range_below a (suc n) (x ∷ xs) e =
-    let first : move_place x ≡ a = (let t : move_place x ∷ map move_place xs ≡ a ∷ range_with_len (a + 1) n = e in cc) in
-    let rest : map move_place xs ≡ range_with_len (a + 1) n = (let t : move_place x ∷ map move_place xs ≡ a ∷ range_with_len (a + 1) n = e in cc) in
+    let first : move_place x ≡ a =
+    (let t : move_place x ∷ map move_place xs ≡ a ∷ range_with_len (a + 1) n = e in cc) in
+    let rest : map move_place xs ≡ range_with_len (a + 1) n =
+    (let t : move_place x ∷ map move_place xs ≡ a ∷ range_with_len (a + 1) n = e in cc) in
     (omega arith, subst (λ k. Below (k + 1) xs) (sym first) (range_below (a + 1) n xs rest))
 
 below_less : (a b : ℕ) (xs : List Move) → a ≤ b → Below b xs → Below a xs
@@ -110,7 +115,8 @@ unfolding Below
 below_less a b [] h below = tt
 below_less a b (x ∷ xs) h below = (omega (arith, below.0), below.1)
 
-below_kept : (p : Position) (b : Bool) (x : Move) (rest : List Move) (n : ℕ) → n ≤ move_place x → Below (move_place x + 1) rest →
+below_kept : (p : Position) (b : Bool) (x : Move) (rest : List Move) (n : ℕ) → n ≤ move_place x
+    → Below (move_place x + 1) rest →
     Below n (cond b (x ∷ rest) rest)
 unfolding Below
 below_kept p true x rest n h below = (h, below)
@@ -136,7 +142,8 @@ pairs [] n i j d below less within = absurd (omega arith)
 pairs (x ∷ xs) n i zero d below less within = absurd (omega arith)
 pairs (x ∷ xs) n zero (suc j) d below less within =
     let later = at_least xs (move_place x + 1) j d below.1 (omega arith) in omega (arith, later)
-pairs (x ∷ xs) n (suc i) (suc j) d below less within = pairs xs (move_place x + 1) i j d below.1 (omega arith) (omega arith)
+pairs (x ∷ xs) n (suc i) (suc j) d below less within =
+    pairs xs (move_place x + 1) i j d below.1 (omega arith) (omega arith)
 
 pub moves_listed : MovesAreListed
 unfolding allowed_moves
@@ -147,6 +154,7 @@ moves_listed = record {
   );
   ordered = λ p i j d less within.
       pairs (allowed_moves p) 0 i j d
-      (below_filter p (board_moves ++ drop_moves) 0 (range_below 0 20802 (board_moves ++ drop_moves) places_follow)) less within;
+      (below_filter p (board_moves ++ drop_moves) 0 (range_below 0 20802 (board_moves ++ drop_moves) places_follow))
+      less within;
   places = places_follow;
 }

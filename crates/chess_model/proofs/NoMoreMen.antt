@@ -82,7 +82,8 @@ IsStep-differs c Rook a b step e = step.0 e
 IsStep-differs c Queen a b step e = elim step [ inl h ↦ h.0 e | inr h ↦ h.0 e ]
 IsStep-differs c King a b step e = omega (arith, step)
 
-pub Reaches-differs : (P : Placement) (en_passant : Option ℕ) (c : Colour) (k : Kind) (a b : ℕ) → Reaches P en_passant c k a b → a ≢ b
+pub Reaches-differs : (P : Placement) (en_passant : Option ℕ) (c : Colour) (k : Kind) (a b : ℕ)
+    → Reaches P en_passant c k a b → a ≢ b
 Reaches-differs P en_passant c Pawn a b (inl h) e = elim h.ahead [
   | inl near ↦ IsForward-differs c 1 a b (omega arith) near e
   | inr far ↦ IsForward-differs c 2 a b (omega arith) far.0 e
@@ -143,7 +144,8 @@ hand-plain Crazyhouse hand White White P a b promo = omega (arith, men_in-more h
 hand-plain Crazyhouse hand Black Black P a b promo = omega (arith, men_in-more hand (taken P (Plain a b promo)))
 hand-plain _ hand _ _ P a b promo = omega arith
 
-no_gain : (v : Variant) (c : Colour) (k : Kind) (h : Ply) → hands_over k (taken h.before h.what) ≡ false → gain v c k h ≡ 0
+no_gain : (v : Variant) (c : Colour) (k : Kind) (h : Ply) → hands_over k (taken h.before h.what) ≡ false
+    → gain v c k h ≡ 0
 no_gain Chess c k h e = refl
 no_gain (Fischer number) c k h e = refl
 no_gain Crazyhouse c k h e = rw e (cond_and-false (same_colour h.by c))
@@ -152,7 +154,8 @@ no_gain Bughouse c k h e = refl
 hand-castle : (v : Variant) (hand : Hand) (c by : Colour) (P : Placement) (long : Bool) →
     men_in (next_hand v hand c (record { before = P; by = by; what = Castle long })) ≤ men_in hand
 hand-castle v hand c by P long =
-    let none : (k : Kind) → gain v c k (record { before = P; by = by; what = Castle long }) ≡ 0 = λ k. no_gain v c k _ refl in
+    let none : (k : Kind) → gain v c k (record { before = P; by = by; what = Castle long }) ≡ 0 = λ k.
+    no_gain v c k _ refl in
     omega (arith, none Pawn, none Knight, none Bishop, none Rook, none Queen)
 
 -- a drop takes one man out of the hand of its own colour
@@ -167,7 +170,8 @@ drop_own hand King f none held = absurd (omega arith)
 
 hand-drop : (v : Variant) (hand : Hand) (c by : Colour) (P : Placement) (j : Kind) (to : ℕ) →
     (same_colour by c ≡ true → 0 < count_in hand j) →
-    men_in (next_hand v hand c (record { before = P; by = by; what = Drop j to })) + cond (same_colour by c) 1 0 ≤ men_in hand
+    men_in (next_hand v hand c (record { before = P; by = by; what = Drop j to })) + cond (same_colour by c) 1 0
+    ≤ men_in hand
 hand-drop v hand White White P j to held =
     let h : Ply = record { before = P; by = White; what = Drop j to } in
     drop_own hand j (λ k. gain v White k h) (λ k. no_gain v White k h refl) (held refl)
@@ -175,10 +179,12 @@ hand-drop v hand Black Black P j to held =
     let h : Ply = record { before = P; by = Black; what = Drop j to } in
     drop_own hand j (λ k. gain v Black k h) (λ k. no_gain v Black k h refl) (held refl)
 hand-drop v hand White Black P j to held =
-    let none : (k : Kind) → gain v White k (record { before = P; by = Black; what = Drop j to }) ≡ 0 = λ k. no_gain v White k _ refl in
+    let none : (k : Kind) → gain v White k (record { before = P; by = Black; what = Drop j to }) ≡ 0 = λ k.
+    no_gain v White k _ refl in
     omega (arith, none Pawn, none Knight, none Bishop, none Rook, none Queen)
 hand-drop v hand Black White P j to held =
-    let none : (k : Kind) → gain v Black k (record { before = P; by = White; what = Drop j to }) ≡ 0 = λ k. no_gain v Black k _ refl in
+    let none : (k : Kind) → gain v Black k (record { before = P; by = White; what = Drop j to }) ≡ 0 = λ k.
+    no_gain v Black k _ refl in
     omega (arith, none Pawn, none Knight, none Bishop, none Rook, none Queen)
 
 -- what one of two colours has is what the two have
@@ -202,10 +208,46 @@ pub record Homes (v : Variant) (c : Colour) (long : Bool) : Type 0 where
   pub goals_differ : king_end c long ≢ rook_end c long
 
 pub homes : (v : Variant) (c : Colour) (long : Bool) → Homes v c long
-homes v White true = let f = files_of v in record { king = omega (arith, f.long_rook, f.short_rook, f.most); rook = omega (arith, f.long_rook, f.short_rook, f.most); king_goal = omega arith; rook_goal = omega arith; differ = λ e. omega (arith, e, f.long_rook, f.short_rook, f.most); goals_differ = λ e. omega arith }
-homes v White false = let f = files_of v in record { king = omega (arith, f.long_rook, f.short_rook, f.most); rook = omega (arith, f.long_rook, f.short_rook, f.most); king_goal = omega arith; rook_goal = omega arith; differ = λ e. omega (arith, e, f.long_rook, f.short_rook, f.most); goals_differ = λ e. omega arith }
-homes v Black true = let f = files_of v in record { king = omega (arith, f.long_rook, f.short_rook, f.most); rook = omega (arith, f.long_rook, f.short_rook, f.most); king_goal = omega arith; rook_goal = omega arith; differ = λ e. omega (arith, e, f.long_rook, f.short_rook, f.most); goals_differ = λ e. omega arith }
-homes v Black false = let f = files_of v in record { king = omega (arith, f.long_rook, f.short_rook, f.most); rook = omega (arith, f.long_rook, f.short_rook, f.most); king_goal = omega arith; rook_goal = omega arith; differ = λ e. omega (arith, e, f.long_rook, f.short_rook, f.most); goals_differ = λ e. omega arith }
+homes v White true =
+    let f = files_of v in
+    record {
+      king = omega (arith, f.long_rook, f.short_rook, f.most);
+      rook = omega (arith, f.long_rook, f.short_rook, f.most);
+      king_goal = omega arith;
+      rook_goal = omega arith;
+      differ = λ e. omega (arith, e, f.long_rook, f.short_rook, f.most);
+      goals_differ = λ e. omega arith;
+    }
+homes v White false =
+    let f = files_of v in
+    record {
+      king = omega (arith, f.long_rook, f.short_rook, f.most);
+      rook = omega (arith, f.long_rook, f.short_rook, f.most);
+      king_goal = omega arith;
+      rook_goal = omega arith;
+      differ = λ e. omega (arith, e, f.long_rook, f.short_rook, f.most);
+      goals_differ = λ e. omega arith;
+    }
+homes v Black true =
+    let f = files_of v in
+    record {
+      king = omega (arith, f.long_rook, f.short_rook, f.most);
+      rook = omega (arith, f.long_rook, f.short_rook, f.most);
+      king_goal = omega arith;
+      rook_goal = omega arith;
+      differ = λ e. omega (arith, e, f.long_rook, f.short_rook, f.most);
+      goals_differ = λ e. omega arith;
+    }
+homes v Black false =
+    let f = files_of v in
+    record {
+      king = omega (arith, f.long_rook, f.short_rook, f.most);
+      rook = omega (arith, f.long_rook, f.short_rook, f.most);
+      king_goal = omega arith;
+      rook_goal = omega arith;
+      differ = λ e. omega (arith, e, f.long_rook, f.short_rook, f.most);
+      goals_differ = λ e. omega arith;
+    }
 
 held_by : (p : Position) (c : Colour) (j : Kind) → 0 < count_in (hand_of_side p p.to_move) j →
     same_colour p.to_move c ≡ true → 0 < count_in (hand_of_side p c) j
@@ -229,7 +271,8 @@ all_men-next p (Castle long) size h =
     let at = homes p.variant p.to_move long in
     let board = men_on-two_moved p.men (king_home p.variant p.to_move) (rook_home p.variant p.to_move long)
     (king_end p.to_move long) (rook_end p.to_move long)
-    (omega (arith, size, at.king)) (omega (arith, size, at.rook)) (omega (arith, size, at.king_goal)) (omega (arith, size, at.rook_goal))
+    (omega (arith, size, at.king)) (omega (arith, size, at.rook)) (omega (arith, size, at.king_goal))
+    (omega (arith, size, at.rook_goal))
     at.differ in
     let white = hand-castle p.variant p.white White p.to_move p.men long in
     let black = hand-castle p.variant p.black Black p.to_move p.men long in

@@ -21,7 +21,8 @@ unfolding on_free_from
 past_held_suc i k left [] less held = absurd (omega (arith, less))
 past_held_suc zero k left (None ∷ files) less held = absurd (held refl)
 past_held_suc zero k left (Some j ∷ files) less held = refl
-past_held_suc (suc i) k left (x ∷ files) less held = ap (λ (t : Files). x ∷ t) (past_held_suc i k left files (omega (arith, less)) held)
+past_held_suc (suc i) k left (x ∷ files) less held =
+    ap (λ (t : Files). x ∷ t) (past_held_suc i k left files (omega (arith, less)) held)
 
 pub past_held : (i : ℕ) (k : Kind) (left : ℕ) (files : Files) → i < length files → get_or files i None ≢ None →
     on_free_from (i + 1) k left files ≡ on_free_from i k left files
@@ -35,7 +36,8 @@ unfolding on_free_from
 past_free_suc i k left [] less free = absurd (omega (arith, less))
 past_free_suc zero k left (None ∷ files) less free = refl
 past_free_suc zero k left (Some j ∷ files) less free = cc
-past_free_suc (suc i) k left (x ∷ files) less free = ap (λ (t : Files). x ∷ t) (past_free_suc i k left files (omega (arith, less)) free)
+past_free_suc (suc i) k left (x ∷ files) less free =
+    ap (λ (t : Files). x ∷ t) (past_free_suc i k left files (omega (arith, less)) free)
 
 pub past_free : (i : ℕ) (k : Kind) (left : ℕ) (files : Files) → i < length files → get_or files i None ≡ None →
     on_free_from (i + 1) k left files ≡ on_free_from i k (suc left) files
@@ -61,14 +63,16 @@ past_all i k left [] less = none i
 past_all zero k left (x ∷ files) less = absurd (omega (arith, less))
 past_all (suc i) k left (x ∷ files) less = ap (λ (t : Files). x ∷ t) (past_all i k left files (omega (arith, less)))
 
-pub free_at : (set files : Files) (i : ℕ) → set ≡ files → is_some (get_or set i None) ≡ false → get_or files i None ≡ None
+pub free_at : (set files : Files) (i : ℕ) → set ≡ files → is_some (get_or set i None) ≡ false
+    → get_or files i None ≡ None
 free_at set files i same e = ap (λ (t : Files). get_or t i None) (sym same) ∙ no_man (get_or set i None) e
   where
     no_man : (man : Option Kind) → is_some man ≡ false → man ≡ None
     no_man None e = refl
     no_man (Some k) e = absurd (let f : true ≡ false = e in cc)
 
-pub held_at : (set files : Files) (i : ℕ) → set ≡ files → is_some (get_or set i None) ≡ true → get_or files i None ≢ None
+pub held_at : (set files : Files) (i : ℕ) → set ≡ files → is_some (get_or set i None) ≡ true
+    → get_or files i None ≢ None
 held_at set files i same e none =
     let gone : get_or set i None ≡ None = ap (λ (t : Files). get_or t i None) same ∙ none in
     let both : false ≡ true = sym (ap (λ (man : Option Kind). is_some man) gone) ∙ e in

@@ -75,14 +75,16 @@ no_king_brought p (Castle long) c h = refl
 no_king_brought p (Drop k to) c h =
     not_king (same_colour p.to_move c) k (king_not_held (hand_of_side p p.to_move) k h.move.held)
 
-no_king_lost : (p : Position) (c : Colour) (o : Option Man) → ((x : Man) → o ≡ Some x → IsPrey p x) → king_weight c o ≡ 0
+no_king_lost : (p : Position) (c : Colour) (o : Option Man) → ((x : Man) → o ≡ Some x → IsPrey p x)
+    → king_weight c o ≡ 0
 no_king_lost p c None prey = refl
 no_king_lost p c (Some x) prey = not_king (same_colour x.colour c) x.kind (prey x refl).no_king
 
 one_king-next : (p : Position) (m : Move) → IsSound p → Allowed p m → (c : Colour) →
     count_by (is_held_as c King) (place_after p.variant p.men p.to_move m) ≡ 1
 one_king-next p m sound h c =
-    let weight : sum_by (king_weight c) (place_after p.variant p.men p.to_move m) + king_weight c (taken p.men m) ≡ sum_by (king_weight c) p.men + brought (king_weight c) p.to_move m =
+    let weight : sum_by (king_weight c) (place_after p.variant p.men p.to_move m) + king_weight c (taken p.men m)
+    ≡ sum_by (king_weight c) p.men + brought (king_weight c) p.to_move m =
     weight-after (king_weight c) (kings_steady c) p m sound h in
     let lost : king_weight c (taken p.men m) ≡ 0 = no_king_lost p c (taken p.men m) (captures_prey p m sound h) in
     let came : brought (king_weight c) p.to_move m ≡ 0 = no_king_brought p m c h in
@@ -117,10 +119,38 @@ record OnHomeRank (v : Variant) (c : Colour) (long : Bool) : Type 0 where
   rook_goal : rank_of (rook_end c long) ≡ home_rank c
 
 on_home_rank : (v : Variant) (c : Colour) (long : Bool) → OnHomeRank v c long
-on_home_rank v White true = let f = files_of v in record { king = omega (arith, f.long_rook, f.short_rook, f.most); rook = omega (arith, f.long_rook, f.short_rook, f.most); king_goal = refl; rook_goal = refl }
-on_home_rank v White false = let f = files_of v in record { king = omega (arith, f.long_rook, f.short_rook, f.most); rook = omega (arith, f.long_rook, f.short_rook, f.most); king_goal = refl; rook_goal = refl }
-on_home_rank v Black true = let f = files_of v in record { king = omega (arith, f.long_rook, f.short_rook, f.most); rook = omega (arith, f.long_rook, f.short_rook, f.most); king_goal = refl; rook_goal = refl }
-on_home_rank v Black false = let f = files_of v in record { king = omega (arith, f.long_rook, f.short_rook, f.most); rook = omega (arith, f.long_rook, f.short_rook, f.most); king_goal = refl; rook_goal = refl }
+on_home_rank v White true =
+    let f = files_of v in
+    record {
+      king = omega (arith, f.long_rook, f.short_rook, f.most);
+      rook = omega (arith, f.long_rook, f.short_rook, f.most);
+      king_goal = refl;
+      rook_goal = refl;
+    }
+on_home_rank v White false =
+    let f = files_of v in
+    record {
+      king = omega (arith, f.long_rook, f.short_rook, f.most);
+      rook = omega (arith, f.long_rook, f.short_rook, f.most);
+      king_goal = refl;
+      rook_goal = refl;
+    }
+on_home_rank v Black true =
+    let f = files_of v in
+    record {
+      king = omega (arith, f.long_rook, f.short_rook, f.most);
+      rook = omega (arith, f.long_rook, f.short_rook, f.most);
+      king_goal = refl;
+      rook_goal = refl;
+    }
+on_home_rank v Black false =
+    let f = files_of v in
+    record {
+      king = omega (arith, f.long_rook, f.short_rook, f.most);
+      rook = omega (arith, f.long_rook, f.short_rook, f.most);
+      king_goal = refl;
+      rook_goal = refl;
+    }
 
 home_ranks_differ : (c d : Colour) → (c ≡ d → ⊥) → home_rank c ≢ home_rank d
 home_ranks_differ White White h e = h refl
@@ -132,7 +162,8 @@ elsewhere : (c d : Colour) (s t : ℕ) → (c ≡ d → ⊥) → rank_of s ≡ h
 elsewhere c d s t differ e f same = home_ranks_differ c d differ (sym e ∙ ap rank_of same ∙ f)
 
 -- what stays on a home square that a half-move doesn't touch
-stays : (p : Position) (m : Move) (c : Colour) (s : ℕ) → IsSound p → Allowed p m → rank_of s ≡ home_rank c → IsPieceOn p.men s →
+stays : (p : Position) (m : Move) (c : Colour) (s : ℕ) → IsSound p → Allowed p m → rank_of s ≡ home_rank c
+    → IsPieceOn p.men s →
     touches p.variant p.to_move m s ≡ false → touches p.variant p.to_move m (king_home p.variant c) ≡ false →
     man_at (place_after p.variant p.men p.to_move m) s ≡ man_at p.men s
 stays p (Plain a b promo) c s sound h rank piece untouched king =
@@ -144,7 +175,9 @@ stays p (Plain a b promo) c s sound h rank piece untouched king =
     known.others s from to (not_taken p a b s piece to (take_of p a b promo sound h.move))
 stays p (Castle long) c s sound h rank piece untouched king =
     let own : c ≡ p.to_move → ⊥ =
-    (λ e. let hit : nat_eq (king_home p.variant p.to_move) (king_home p.variant c) ≡ true = eq-eqb (king_home p.variant p.to_move) (king_home p.variant c) (ap (king_home p.variant) (sym e)) in
+    (λ e.
+    let hit : nat_eq (king_home p.variant p.to_move) (king_home p.variant c) ≡ true =
+    eq-eqb (king_home p.variant p.to_move) (king_home p.variant c) (ap (king_home p.variant) (sym e)) in
     let f : true ≡ false = sym hit ∙ king in cc) in
     let at = on_home_rank p.variant p.to_move long in
     let known : MovesKingAndRook p.variant p.men p.to_move long (place_after p.variant p.men p.to_move (Castle long)) =
@@ -157,7 +190,8 @@ stays p (Castle long) c s sound h rank piece untouched king =
 stays p (Drop k to) c s sound h rank piece untouched king =
     (known_squares p (Drop k to) sound.squares h).others s (λ e. eqb-false to s untouched (sym e))
 
-right-next : (v : Variant) (r : Rights) (by : Colour) (m : Move) (c : Colour) (long : Bool) → right_of (next_rights v r by m) c long ≡ true →
+right-next : (v : Variant) (r : Rights) (by : Colour) (m : Move) (c : Colour) (long : Bool)
+    → right_of (next_rights v r by m) c long ≡ true →
     (right_of r c long ≡ true) × (keeps_right v c long by m ≡ true)
 right-next v r by m White false h = and_parts r.white_short (keeps_right v White false by m) h
 right-next v r by m White true h = and_parts r.white_long (keeps_right v White true by m) h
@@ -170,14 +204,18 @@ rights-next : (p : Position) (m : Move) → IsSound p → Allowed p m → (c : C
 rights-next p m sound h c long stands =
     let was = right-next p.variant p.rights p.to_move m c long stands in
     let home = sound.rights c long was.0 in
-    let kept = and_parts (not (touches p.variant p.to_move m (king_home p.variant c))) (not (touches p.variant p.to_move m (rook_home p.variant c long))) was.1 in
+    let kept =
+    and_parts (not (touches p.variant p.to_move m (king_home p.variant c)))
+    (not (touches p.variant p.to_move m (rook_home p.variant c long))) was.1 in
     let no_king : touches p.variant p.to_move m (king_home p.variant c) ≡ false = not-true _ kept.0 in
     let no_rook : touches p.variant p.to_move m (rook_home p.variant c long) ≡ false = not-true _ kept.1 in
     let at = on_home_rank p.variant c long in
-    let king : man_at (place_after p.variant p.men p.to_move m) (king_home p.variant c) ≡ man_at p.men (king_home p.variant c) =
+    let king : man_at (place_after p.variant p.men p.to_move m) (king_home p.variant c)
+    ≡ man_at p.men (king_home p.variant c) =
     stays p m c (king_home p.variant c) sound h at.king
     (record { colour = c; kind = King; piece = λ e. cc; there = home.king }) no_king no_king in
-    let rook : man_at (place_after p.variant p.men p.to_move m) (rook_home p.variant c long) ≡ man_at p.men (rook_home p.variant c long) =
+    let rook : man_at (place_after p.variant p.men p.to_move m) (rook_home p.variant c long)
+    ≡ man_at p.men (rook_home p.variant c long) =
     stays p m c (rook_home p.variant c long) sound h at.rook
     (record { colour = c; kind = Rook; piece = λ e. cc; there = home.rook }) no_rook no_king in
     record {
@@ -204,11 +242,13 @@ not_last : (c : Colour) (a b : ℕ) → IsForward c 2 a b → rank_of a ≡ seco
 not_last White a b h s l = omega (arith, h, s, l)
 not_last Black a b h s l = omega (arith, h, s, l)
 
-no_promotion : (c : Colour) (a b : ℕ) (promo : Option Kind) → IsForward c 2 a b → rank_of a ≡ second_rank c → HasPromotion c Pawn b promo → promo ≡ None
+no_promotion : (c : Colour) (a b : ℕ) (promo : Option Kind) → IsForward c 2 a b → rank_of a ≡ second_rank c
+    → HasPromotion c Pawn b promo → promo ≡ None
 no_promotion c a b promo h s (inl last) = absurd (not_last c a b h s last.0)
 no_promotion c a b promo h s (inr other) = other.1
 
-double_push : (p : Position) (a b : ℕ) (promo : Option Kind) → ranks_apart a b ≡ 2 → (m : Man) → IsMover p a b promo m → (k : Kind) → m.kind ≡ k → k ≡ Pawn →
+double_push : (p : Position) (a b : ℕ) (promo : Option Kind) → ranks_apart a b ≡ 2 → (m : Man) → IsMover p a b promo m
+    → (k : Kind) → m.kind ≡ k → k ≡ Pawn →
     Reaches p.men p.en_passant p.to_move k a b → HasPromotion p.to_move k b promo → IsDouble p a b promo
 unfolding IsStep
 double_push p a b promo apart m who Pawn e pawn (inl ahead) becomes = elim (ahead.ahead) [
@@ -222,7 +262,8 @@ double_push p a b promo apart m who Pawn e pawn (inl ahead) becomes = elim (ahea
     stays_pawn = no_promotion p.to_move a b promo far.0 far.1 becomes;
   }
 ]
-double_push p a b promo apart m who Pawn e pawn (inr takes) becomes = absurd (near_apart p.to_move a b takes.step.1 apart)
+double_push p a b promo apart m who Pawn e pawn (inr takes) becomes =
+    absurd (near_apart p.to_move a b takes.step.1 apart)
 double_push p a b promo apart m who Knight e pawn reach becomes = cc
 double_push p a b promo apart m who Bishop e pawn reach becomes = cc
 double_push p a b promo apart m who Rook e pawn reach becomes = cc
@@ -239,9 +280,24 @@ kind_is_pawn King h = cc
 
 -- the numbers of a double push
 between_is : (c : Colour) (a b : ℕ) → file_of a ≡ file_of b → IsForward c 2 a b →
-    (along a b 1 ≡ (a + b) / 2) × (behind c ((a + b) / 2) ≡ b) × (1 < distance a b) × ((a + b) / 2 ≢ a) × ((a + b) / 2 ≢ b) × (a ≢ b)
-between_is White a b f r = (omega (arith, f, r), omega (arith, f, r), omega (arith, f, r), λ e. omega (arith, f, r, e), λ e. omega (arith, f, r, e), λ e. omega (arith, f, r, e))
-between_is Black a b f r = (omega (arith, f, r), omega (arith, f, r), omega (arith, f, r), λ e. omega (arith, f, r, e), λ e. omega (arith, f, r, e), λ e. omega (arith, f, r, e))
+    (along a b 1 ≡ (a + b) / 2) × (behind c ((a + b) / 2) ≡ b) × (1 < distance a b) × ((a + b) / 2 ≢ a)
+    × ((a + b) / 2 ≢ b) × (a ≢ b)
+between_is White a b f r = (
+  omega (arith, f, r),
+  omega (arith, f, r),
+  omega (arith, f, r),
+  λ e. omega (arith, f, r, e),
+  λ e. omega (arith, f, r, e),
+  λ e. omega (arith, f, r, e),
+)
+between_is Black a b f r = (
+  omega (arith, f, r),
+  omega (arith, f, r),
+  omega (arith, f, r),
+  λ e. omega (arith, f, r, e),
+  λ e. omega (arith, f, r, e),
+  λ e. omega (arith, f, r, e),
+)
 
 not_beside : (s b : ℕ) (x y z : Bool) → z ≡ true → cond (x && (y && not z)) s b ≡ b
 not_beside s b true true true e = refl
@@ -251,10 +307,12 @@ not_beside s b x y false e = cc
 
 straight_takes_there : (p : Position) (a b : ℕ) → file_of a ≡ file_of b → taking_square p.men a b ≡ b
 straight_takes_there p a b f =
-    not_beside (square_at (file_of b) (rank_of a)) b (is_pawn (man_at p.men a)) (is_none (man_at p.men b)) (nat_eq (file_of a) (file_of b))
+    not_beside (square_at (file_of b) (rank_of a)) b (is_pawn (man_at p.men a)) (is_none (man_at p.men b))
+    (nat_eq (file_of a) (file_of b))
     (eq-eqb (file_of a) (file_of b) f)
 
-passed-double : (p : Position) (a b : ℕ) (promo : Option Kind) → IsSound p → Allowed p (Plain a b promo) → IsDouble p a b promo →
+passed-double : (p : Position) (a b : ℕ) (promo : Option Kind) → IsSound p → Allowed p (Plain a b promo)
+    → IsDouble p a b promo →
     HasPassed (place_after p.variant p.men p.to_move (Plain a b promo)) p.to_move ((a + b) / 2)
 passed-double p a b promo sound h d =
     let n = between_is p.to_move a b d.files d.forward in
@@ -267,7 +325,9 @@ passed-double p a b promo sound h d =
     known.target ∙ ap (landed (man_at p.men a)) d.stays_pawn in
     record {
       empty = known.others s n.3 n.4 (λ e. n.4 (e ∙ there)) ∙ was_empty;
-      pawn = subst (λ o. IsHeldAs p.to_move Pawn o) (sym (ap (man_at (place_after p.variant p.men p.to_move (Plain a b promo))) n.1 ∙ lands)) d.own;
+      pawn =
+          subst (λ o. IsHeldAs p.to_move Pawn o)
+          (sym (ap (man_at (place_after p.variant p.men p.to_move (Plain a b promo))) n.1 ∙ lands)) d.own;
     }
 
 if_some : (q : Bool) (t s : ℕ) → cond q (Some t) None ≡ Some s → (q ≡ true) × (t ≡ s)
@@ -283,7 +343,8 @@ passed-next p (Plain a b promo) sound h s e =
     let pawn : who.0.kind ≡ Pawn = kind_is_pawn who.0.kind (sym (ap is_pawn who.1.there) ∙ parts.0) in
     let apart : ranks_apart a b ≡ 2 = eqb-true (ranks_apart a b) 2 parts.1 in
     let d = double_push p a b promo apart who.0 who.1 who.0.kind refl pawn who.1.reaches who.1.becomes in
-    subst (λ x. HasPassed (place_after p.variant p.men p.to_move (Plain a b promo)) p.to_move x) t.1 (passed-double p a b promo sound h d)
+    subst (λ x. HasPassed (place_after p.variant p.men p.to_move (Plain a b promo)) p.to_move x) t.1
+    (passed-double p a b promo sound h d)
 passed-next p (Castle long) sound h s e = cc
 passed-next p (Drop k to) sound h s e = cc
 
@@ -318,20 +379,45 @@ bare v ms = record {
 }
 
 bare-append : (v : Variant) (ms : List Move) (m : Move) (n : ℕ) (w k : Hand) →
-    IsSound (next (record { variant = v; men = place_from v (array_of v) White ms; to_move = side_from White ms; en_passant = en_passant_after (settings v (array_of v) White ms); rights = rights_after v (settings v (array_of v) White ms); quiet = n; white = w; black = k }) m) →
+    IsSound (next (record {
+      variant = v;
+      men = place_from v (array_of v) White ms;
+      to_move = side_from White ms;
+      en_passant = en_passant_after (settings v (array_of v) White ms);
+      rights = rights_after v (settings v (array_of v) White ms);
+      quiet = n;
+      white = w;
+      black = k;
+    }) m) →
     IsSound (bare v (ms ++ m ∷ []))
 bare-append v ms m n w k s =
     let P : Placement = place_from v (array_of v) White ms in
     let c : Colour = side_from White ms in
     let H : List Ply = settings v (array_of v) White ms in
     let x : Ply = record { before = P; by = c; what = m } in
-    let grown : settings v (array_of v) White (ms ++ m ∷ []) ≡ H ++ x ∷ [] = settings-append v (array_of v) White ms m in
+    let grown : settings v (array_of v) White (ms ++ m ∷ []) ≡ H ++ x ∷ [] =
+    settings-append v (array_of v) White ms m in
     let men = place_from-append v (array_of v) White ms m in
     let to_move = side_from-append White ms m in
     let en_passant = ap en_passant_after grown ∙ en_passant_after-append H x in
     let rights = ap (rights_after v) grown ∙ rights_after-append v H x in
-    let first : IsSound (record { variant = v; men = place_after v P c m; to_move = opposite c; en_passant = passed_over P m; rights = next_rights v (rights_after v H) c m; quiet = 0; white = empty_hand; black = empty_hand }) =
-    record { squares = s.squares; one_king = s.one_king; other_safe = s.other_safe; rights = s.rights; passed = s.passed } in
+    let first : IsSound (record {
+      variant = v;
+      men = place_after v P c m;
+      to_move = opposite c;
+      en_passant = passed_over P m;
+      rights = next_rights v (rights_after v H) c m;
+      quiet = 0;
+      white = empty_hand;
+      black = empty_hand;
+    }) =
+    record {
+      squares = s.squares;
+      one_king = s.one_king;
+      other_safe = s.other_safe;
+      rights = s.rights;
+      passed = s.passed;
+    } in
     subst IsSound (λ i. record {
       variant = v;
       men = sym men i;
@@ -362,21 +448,25 @@ sound_start v = record {
 pub legal_front : (v : Variant) (done rest : List HalfMove) → IsLegal v (done ++ rest) → IsLegal v done
 legal_front v done rest legal = record {
   each = λ before after x e.
-      legal.each before (after ++ rest) x (ap (λ (hs : List HalfMove). hs ++ rest) e ∙ append_assoc before (x ∷ after) rest);
+      legal.each before (after ++ rest) x
+      (ap (λ (hs : List HalfMove). hs ++ rest) e ∙ append_assoc before (x ∷ after) rest);
 }
 
 -- a fact of the empty list that each allowed half-move keeps holds of each legal list
 legal_from : (v : Variant) (P : List HalfMove → Type 0) →
-    ((T : List HalfMove) (h : HalfMove) → IsLegal v T → Allowed (position_after v T h.board) h.what → P T → P (T ++ h ∷ [])) →
+    ((T : List HalfMove) (h : HalfMove) → IsLegal v T → Allowed (position_after v T h.board) h.what → P T
+    → P (T ++ h ∷ [])) →
     (done rest : List HalfMove) → IsLegal v (done ++ rest) → P done → P (done ++ rest)
 legal_from v P step done [] legal p = subst P (sym (append-nil done)) p
 legal_from v P step done (h ∷ rest) legal p =
     let split : (done ++ h ∷ []) ++ rest ≡ done ++ h ∷ rest = append_assoc done (h ∷ []) rest in
-    let grown : P (done ++ h ∷ []) = step done h (legal_front v done (h ∷ rest) legal) (legal.each done rest h refl) p in
+    let grown : P (done ++ h ∷ []) =
+    step done h (legal_front v done (h ∷ rest) legal) (legal.each done rest h refl) p in
     subst P split (legal_from v P step (done ++ h ∷ []) rest (subst (IsLegal v) (sym split) legal) grown)
 
 pub legal_induction : (v : Variant) (P : List HalfMove → Type 0) → P [] →
-    ((T : List HalfMove) (h : HalfMove) → IsLegal v T → Allowed (position_after v T h.board) h.what → P T → P (T ++ h ∷ [])) →
+    ((T : List HalfMove) (h : HalfMove) → IsLegal v T → Allowed (position_after v T h.board) h.what → P T
+    → P (T ++ h ∷ [])) →
     (T : List HalfMove) → IsLegal v T → P T
 legal_induction v P none step T legal = legal_from v P step [] T legal none
 
@@ -387,8 +477,16 @@ sound_step v b T h allowed s = elim (cases_eq h.board b) [
       let A : ℕ → Type 0 = λ x. Allowed (position_after v T x) h.what in
       let here : Allowed (position_after v T b) h.what = subst A same allowed in
       let p : Position = position_after v T b in
-      let sound : IsSound p = record { squares = s.squares; one_king = s.one_king; other_safe = s.other_safe; rights = s.rights; passed = s.passed } in
-      let grown : IsSound (bare v (moves_of b T ++ h.what ∷ [])) = bare-append v (moves_of b T) h.what p.quiet p.white p.black (IsSound-next p h.what sound here) in
+      let sound : IsSound p =
+      record {
+        squares = s.squares;
+        one_king = s.one_king;
+        other_safe = s.other_safe;
+        rights = s.rights;
+        passed = s.passed;
+      } in
+      let grown : IsSound (bare v (moves_of b T ++ h.what ∷ [])) =
+      bare-append v (moves_of b T) h.what p.quiet p.white p.black (IsSound-next p h.what sound here) in
       let list : moves_of b (T ++ h ∷ []) ≡ moves_of b T ++ h.what ∷ [] =
       subst (λ x. moves_of b (T ++ one x h.what) ≡ moves_of b T ++ h.what ∷ []) (sym same) (moves_of-same b T h.what) in
       subst (λ ms. IsSound (bare v ms)) (sym list) grown
@@ -398,8 +496,15 @@ sound_step v b T h allowed s = elim (cases_eq h.board b) [
 pub sound_after : (v : Variant) (T : List HalfMove) (b : ℕ) → IsLegal v T → IsSound (position_after v T b)
 sound_after v T b legal =
     let s : IsSound (bare v (moves_of b T)) =
-    legal_induction v (λ U. IsSound (bare v (moves_of b U))) (sound_start v) (λ U h front allowed s. sound_step v b U h allowed s) T legal in
-    record { squares = s.squares; one_king = s.one_king; other_safe = s.other_safe; rights = s.rights; passed = s.passed }
+    legal_induction v (λ U. IsSound (bare v (moves_of b U))) (sound_start v)
+    (λ U h front allowed s. sound_step v b U h allowed s) T legal in
+    record {
+      squares = s.squares;
+      one_king = s.one_king;
+      other_safe = s.other_safe;
+      rights = s.rights;
+      passed = s.passed;
+    }
 
 pub legal_sound : LegalPositionsAreSound
 legal_sound = record {
@@ -408,7 +513,8 @@ legal_sound = record {
   plain_moves = λ v T n a b promo legal h.
       let grown : place_after v (position_after v T n).men (position_after v T n).to_move (Plain a b promo)
       ≡ (position_after v (T ++ one n (Plain a b promo)) n).men =
-      sym (ap (place_from v (array_of v) White) (moves_of-same n T (Plain a b promo)) ∙ place_from-append v (array_of v) White (moves_of n T) (Plain a b promo)) in
+      sym (ap (place_from v (array_of v) White) (moves_of-same n T (Plain a b promo))
+      ∙ place_from-append v (array_of v) White (moves_of n T) (Plain a b promo)) in
       subst (λ Q. MovesAMan (position_after v T n) a b promo Q) grown
       (moves_a_man (position_after v T n) a b promo (sound_after v T n legal) h);
 }

@@ -25,11 +25,17 @@ pub position_after-append : (v : Variant) (T : List HalfMove) (b : ℕ) (m : Mov
     ((c : Colour) (k : Kind) → spent v T b c k ≤ gained v T b c k) →
     next (position_after v T b) m ≡ position_after v (T ++ one b m) b
 position_after-append v T b m paid =
-    let men = ap (place_from v (array_of v) White) (moves_of-same b T m) ∙ place_from-append v (array_of v) White (moves_of b T) m in
+    let men =
+    ap (place_from v (array_of v) White) (moves_of-same b T m)
+    ∙ place_from-append v (array_of v) White (moves_of b T) m in
     let to_move = ap (side_from White) (moves_of-same b T m) ∙ side_from-append White (moves_of b T) m in
-    let en_passant = ap en_passant_after (history-same v T b m) ∙ en_passant_after-append (history v T b) (last_ply v T b m) in
-    let rights = ap (rights_after v) (history-same v T b m) ∙ rights_after-append v (history v T b) (last_ply v T b m) in
-    let quiet = ap (λ (H : List Ply). min (quiet_count H) 65535) (history-same v T b m) ∙ quiet_count-append (history v T b) (last_ply v T b m) in
+    let en_passant =
+    ap en_passant_after (history-same v T b m) ∙ en_passant_after-append (history v T b) (last_ply v T b m) in
+    let rights =
+    ap (rights_after v) (history-same v T b m) ∙ rights_after-append v (history v T b) (last_ply v T b m) in
+    let quiet =
+    ap (λ (H : List Ply). min (quiet_count H) 65535) (history-same v T b m)
+    ∙ quiet_count-append (history v T b) (last_ply v T b m) in
     let white = hand_after-append v T b m White (paid White) in
     let black = hand_after-append v T b m Black (paid Black) in
     λ i. record {
@@ -89,7 +95,8 @@ drop_is_paid v T b (Drop j to) h c k d =
     let in_hand : 0 < count_in (hand_after v T b by) j =
     (let P : Hand → Type 0 = λ x. 0 < count_in x j in subst P (hand_of_side-after v T b by) held) in
     let own : spent v T b c j < gained v T b c j =
-    (let P : Colour → Type 0 = λ x. spent v T b x j < gained v T b x j in subst P (same_colour-eq by c same.0) (held_unspent v T b by j in_hand)) in
+    (let P : Colour → Type 0 = λ x.
+    spent v T b x j < gained v T b x j in subst P (same_colour-eq by c same.0) (held_unspent v T b by j in_hand)) in
     let P : Kind → Type 0 = λ x. spent v T b c x < gained v T b c x in
     subst P (same_kind-eq j k same.1) own
 
@@ -101,7 +108,8 @@ pub paid-append : (v : Variant) (T : List HalfMove) (b : ℕ) (m : Move) →
     ((c : Colour) (k : Kind) → spent v T b c k ≤ gained v T b c k) → Allowed (position_after v T b) m →
     (c : Colour) (k : Kind) → spent v (T ++ one b m) b c k ≤ gained v (T ++ one b m) b c k
 paid-append v T b m paid h c k =
-    let step = paid_step (drops c k (last_ply v T b m)) (spent v T b c k) (gained v T b c k) (gain v c k (last_ply v T b m))
+    let step =
+    paid_step (drops c k (last_ply v T b m)) (spent v T b c k) (gained v T b c k) (gain v c k (last_ply v T b m))
     (paid c k) (drop_is_paid v T b m h c k) in
     omega (arith, step, spent-append v T b m c k, gained-append v T b m c k)
 
@@ -119,7 +127,8 @@ Stands-next p T b m h stands =
 pub stands_on : (p q : Position) (moves : List Move) (m : Move)
     → ((T : List HalfMove) (b : ℕ) → Stands p T b → Stands q (T ++ record { board = b; what = m } ∷ []) b)
     → Stands p (map on_board moves) 1 → Stands q (map on_board (moves ++ m ∷ [])) 1
-stands_on p q moves m f s = subst (λ (l : List HalfMove). Stands q l 1) (sym (map-append on_board moves (m ∷ []))) (f (map on_board moves) 1 s)
+stands_on p q moves m f s =
+    subst (λ (l : List HalfMove). Stands q l 1) (sym (map-append on_board moves (m ∷ []))) (f (map on_board moves) 1 s)
 
 pub answer_allowed : (p q : Position) (word : MoveWord) (m : Move) → IsAnswer p word m → p ≡ q → Allowed q m
 answer_allowed p q word m is at = subst (λ (x : Position). Allowed x m) at is.choice.allowed

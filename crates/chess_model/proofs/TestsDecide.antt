@@ -65,7 +65,8 @@ Decides-held_as c k (Some m) =
     Decides-and (same_colour m.colour c) (same_kind m.kind k) (Decides-colour m.colour c) (Decides-kind m.kind k)
 
 -- three facts, tested from the left
-pub Decides-three : {A B C : Type 0} (x y z : Bool) → Decides x A → Decides y B → Decides z C → Decides (x && y && z) (A × B × C)
+pub Decides-three : {A B C : Type 0} (x y z : Bool) → Decides x A → Decides y B → Decides z C
+    → Decides (x && y && z) (A × B × C)
 Decides-three {A} {B} {C} x y z a b c =
     Decides-like {P = (A × B) × C} (x && y && z) (λ t. (t.0.0, t.0.1, t.1)) (λ t. ((t.0, t.1), t.2))
     (Decides-and (x && y) z (Decides-and x y a b) c)
@@ -98,11 +99,13 @@ Decides-knight a b =
 pub Decides-step : (c : Colour) (k : Kind) (a b : ℕ) → Decides (test.is_step c k a b) (IsStep c k a b)
 unfolding IsStep
 Decides-step c Pawn a b =
-    Decides-and (nat_eq (files_apart a b) 1) (test.is_forward c 1 a b) (Decides-eqb (files_apart a b) 1) (Decides-forward c 1 a b)
+    Decides-and (nat_eq (files_apart a b) 1) (test.is_forward c 1 a b) (Decides-eqb (files_apart a b) 1)
+    (Decides-forward c 1 a b)
 Decides-step c Knight a b = Decides-knight a b
 Decides-step c Bishop a b = Decides-diagonal a b
 Decides-step c Rook a b = Decides-straight a b
-Decides-step c Queen a b = Decides-or (test.is_straight a b) (test.is_diagonal a b) (Decides-straight a b) (Decides-diagonal a b)
+Decides-step c Queen a b =
+    Decides-or (test.is_straight a b) (test.is_diagonal a b) (Decides-straight a b) (Decides-diagonal a b)
 Decides-step c King a b = Decides-eqb (distance a b) 1
 
 -- 1 and the d - 1 numbers after it are those above 0 and below d
@@ -129,7 +132,8 @@ Decides-open Rook P a b = Decides-clear P a b
 Decides-open Queen P a b = Decides-clear P a b
 Decides-open King P a b = Decides-clear P a b
 
-pub Decides-strikes : (P : Placement) (c : Colour) (k : Kind) (a b : ℕ) → Decides (test.strikes P c k a b) (Strikes P c k a b)
+pub Decides-strikes : (P : Placement) (c : Colour) (k : Kind) (a b : ℕ)
+    → Decides (test.strikes P c k a b) (Strikes P c k a b)
 Decides-strikes P c k a b =
     Decides-like {P = IsStep c k a b × IsOpen k P a b} (test.strikes P c k a b)
     (λ t. record { step = t.0; open_way = t.1 }) (λ s. (s.step, s.open_way))
@@ -139,14 +143,17 @@ Decides-strikes_as : (P : Placement) (c : Colour) (a s : ℕ) (man : Option Man)
     Decides (test.strikes_as P c a s man) (StrikesAs P c a s man)
 Decides-strikes_as P c a s None = never (λ e. e)
 Decides-strikes_as P c a s (Some m) =
-    Decides-and (same_colour m.colour c) (test.strikes P c m.kind a s) (Decides-colour m.colour c) (Decides-strikes P c m.kind a s)
+    Decides-and (same_colour m.colour c) (test.strikes P c m.kind a s) (Decides-colour m.colour c)
+    (Decides-strikes P c m.kind a s)
 
 pub Decides-attacked : (P : Placement) (c : Colour) (s : ℕ) → Decides (test.is_attacked P c s) (IsAttacked P c s)
 unfolding IsAttacked test.is_attacked
 Decides-attacked P c s =
-    Decides-some_below (λ a. test.strikes_as P c a s (man_at P a)) (λ a. StrikesFrom P c a s) (λ a. Decides-strikes_as P c a s (man_at P a)) 64
+    Decides-some_below (λ a. test.strikes_as P c a s (man_at P a)) (λ a. StrikesFrom P c a s)
+    (λ a. Decides-strikes_as P c a s (man_at P a)) 64
 
-king_on_board : (P : Placement) (c : Colour) (s : ℕ) → Among s (test.kings P c) → (s < 64) × IsHeldAs c King (man_at P s)
+king_on_board : (P : Placement) (c : Colour) (s : ℕ) → Among s (test.kings P c)
+    → (s < 64) × IsHeldAs c King (man_at P s)
 king_on_board P c s a =
     let t = Among-filtered (λ s. is_held_as c King (man_at P s)) test.squares s a in
     let within = Among-ranged 0 64 s t.0 in
@@ -164,7 +171,10 @@ Decides-king_safe P c =
     λ s. Decides-not (test.is_attacked P (opposite c) s) (Decides-attacked P (opposite c) s) in (
       λ e. record {
         safe = λ s less check.
-            (free s).0 (list_all-each (λ s. not (test.is_attacked P (opposite c) s)) (test.kings P c) e s (king_among P c s less check.0)) check.1;
+            (free s).0
+            (list_all-each (λ s. not (test.is_attacked P (opposite c) s)) (test.kings P c) e s
+            (king_among P c s less check.0))
+            check.1;
       },
       λ safe. list_all-from (λ s. not (test.is_attacked P (opposite c) s)) (test.kings P c) (λ s a.
           let king = king_on_board P c s a in
@@ -177,8 +187,10 @@ Decides-that (Some t) s = Decides-like {P = t ≡ s} (nat_eq t s) (λ e. ap Some
 
 Decides-ahead : (c : Colour) (a b : ℕ) → Decides (test.is_ahead c a b) (IsAhead c a b)
 Decides-ahead c a b =
-    Decides-or (test.is_forward c 1 a b) (test.is_forward c 2 a b && nat_eq (rank_of a) (second_rank c)) (Decides-forward c 1 a b)
-    (Decides-and (test.is_forward c 2 a b) (nat_eq (rank_of a) (second_rank c)) (Decides-forward c 2 a b) (Decides-eqb (rank_of a) (second_rank c)))
+    Decides-or (test.is_forward c 1 a b) (test.is_forward c 2 a b && nat_eq (rank_of a) (second_rank c))
+    (Decides-forward c 1 a b)
+    (Decides-and (test.is_forward c 2 a b) (nat_eq (rank_of a) (second_rank c)) (Decides-forward c 2 a b)
+    (Decides-eqb (rank_of a) (second_rank c)))
 
 Decides-advances : (P : Placement) (c : Colour) (a b : ℕ) → Decides (test.advances P c a b) (Advances P c a b)
 Decides-advances P c a b =
@@ -186,17 +198,21 @@ Decides-advances P c a b =
     let ahead : Bool = test.is_ahead c a b in
     let way : Bool = test.is_clear P a b in
     let free : Bool = is_none (man_at P b) in
-    Decides-like {P = ((files_apart a b ≡ 0) × IsAhead c a b × Clear P a b) × (man_at P b ≡ None)} (file && ahead && way && free)
+    Decides-like {P = ((files_apart a b ≡ 0) × IsAhead c a b × Clear P a b) × (man_at P b ≡ None)}
+    (file && ahead && way && free)
     (λ t. record { file = t.0.0; ahead = t.0.1; way = t.0.2; free = t.1 }) (λ h. ((h.file, h.ahead, h.way), h.free))
     (Decides-and (file && ahead && way) free
-    (Decides-three file ahead way (Decides-eqb (files_apart a b) 0) (Decides-ahead c a b) (Decides-clear P a b)) (Decides-none (man_at P b)))
+    (Decides-three file ahead way (Decides-eqb (files_apart a b) 0) (Decides-ahead c a b) (Decides-clear P a b))
+    (Decides-none (man_at P b)))
 
-Decides-pawn_takes : (P : Placement) (e : Option ℕ) (c : Colour) (a b : ℕ) → Decides (test.pawn_takes P e c a b) (PawnTakes P e c a b)
+Decides-pawn_takes : (P : Placement) (e : Option ℕ) (c : Colour) (a b : ℕ)
+    → Decides (test.pawn_takes P e c a b) (PawnTakes P e c a b)
 Decides-pawn_takes P e c a b =
     let step : Bool = test.is_step c Pawn a b in
     let enemy : Bool = is_held_by (opposite c) (man_at P b) in
     let passed : Bool = test.is_that e b in
-    Decides-like {P = IsStep c Pawn a b × (IsHeldBy (opposite c) (man_at P b) ⊎ (e ≡ Some b))} (step && (enemy || passed))
+    Decides-like {P = IsStep c Pawn a b × (IsHeldBy (opposite c) (man_at P b) ⊎ (e ≡ Some b))}
+    (step && (enemy || passed))
     (λ t. record { step = t.0; enemy = t.1 }) (λ h. (h.step, h.enemy))
     (Decides-and step (enemy || passed) (Decides-step c Pawn a b)
     (Decides-or enemy passed (Decides-held_by (opposite c) (man_at P b)) (Decides-that e b)))
@@ -206,11 +222,14 @@ Decides-goes P c k a b =
     let own : Bool = is_held_by c (man_at P b) in
     Decides-like {P = Strikes P c k a b × (¬ IsHeldBy c (man_at P b))} (test.strikes P c k a b && not own)
     (λ t. record { strikes = t.0; not_own = t.1 }) (λ h. (h.strikes, h.not_own))
-    (Decides-and (test.strikes P c k a b) (not own) (Decides-strikes P c k a b) (Decides-not own (Decides-held_by c (man_at P b))))
+    (Decides-and (test.strikes P c k a b) (not own) (Decides-strikes P c k a b)
+    (Decides-not own (Decides-held_by c (man_at P b))))
 
-Decides-reaches : (P : Placement) (e : Option ℕ) (c : Colour) (k : Kind) (a b : ℕ) → Decides (test.reaches P e c k a b) (Reaches P e c k a b)
+Decides-reaches : (P : Placement) (e : Option ℕ) (c : Colour) (k : Kind) (a b : ℕ)
+    → Decides (test.reaches P e c k a b) (Reaches P e c k a b)
 Decides-reaches P e c Pawn a b =
-    Decides-or (test.advances P c a b) (test.pawn_takes P e c a b) (Decides-advances P c a b) (Decides-pawn_takes P e c a b)
+    Decides-or (test.advances P c a b) (test.pawn_takes P e c a b) (Decides-advances P c a b)
+    (Decides-pawn_takes P e c a b)
 Decides-reaches P e c Knight a b = Decides-goes P c Knight a b
 Decides-reaches P e c Bishop a b = Decides-goes P c Bishop a b
 Decides-reaches P e c Rook a b = Decides-goes P c Rook a b
@@ -226,7 +245,8 @@ Decides-may_become (Some Rook) = always tt
 Decides-may_become (Some Queen) = always tt
 Decides-may_become (Some King) = never (λ e. e)
 
-Decides-promotion : (c : Colour) (k : Kind) (b : ℕ) (promo : Option Kind) → Decides (test.has_promotion c k b promo) (HasPromotion c k b promo)
+Decides-promotion : (c : Colour) (k : Kind) (b : ℕ) (promo : Option Kind)
+    → Decides (test.has_promotion c k b promo) (HasPromotion c k b promo)
 Decides-promotion c Pawn b promo =
     let last : Bool = nat_eq (rank_of b) (last_rank c) in
     let there : Decides last (rank_of b ≡ last_rank c) = Decides-eqb (rank_of b) (last_rank c) in
@@ -246,21 +266,25 @@ Decides-goes_as p a b promo (Some m) =
     let own : Bool = same_colour m.colour p.to_move in
     let becomes : Bool = test.has_promotion p.to_move m.kind b promo in
     let there : Bool = test.reaches p.men p.en_passant p.to_move m.kind a b in
-    Decides-like {P = (m.colour ≡ p.to_move) × HasPromotion p.to_move m.kind b promo × Reaches p.men p.en_passant p.to_move m.kind a b}
+    Decides-like {P =
+    (m.colour ≡ p.to_move) × HasPromotion p.to_move m.kind b promo × Reaches p.men p.en_passant p.to_move m.kind a b}
     (own && becomes && there) (λ t. (t.0, t.2, t.1)) (λ t. (t.0, t.2, t.1))
     (Decides-three own becomes there (Decides-colour m.colour p.to_move) (Decides-promotion p.to_move m.kind b promo)
     (Decides-reaches p.men p.en_passant p.to_move m.kind a b))
 
-Decides-plain_move : (p : Position) (a b : ℕ) (promo : Option Kind) → Decides (test.is_plain_move p a b promo) (IsPlainMove p a b promo)
+Decides-plain_move : (p : Position) (a b : ℕ) (promo : Option Kind)
+    → Decides (test.is_plain_move p a b promo) (IsPlainMove p a b promo)
 Decides-plain_move p a b promo =
     Decides-like {P = (a < 64) × (b < 64) × GoesAs p a b promo (man_at p.men a)} (test.is_plain_move p a b promo)
     (λ t. record { from = t.0; to = t.1; goes = t.2 }) (λ h. (h.from, h.to, h.goes))
     (Decides-three (nat_lt a 64) (nat_lt b 64) (test.goes_as p a b promo (man_at p.men a))
     (Decides-ltb a 64) (Decides-ltb b 64) (Decides-goes_as p a b promo (man_at p.men a)))
 
-Decides-free_way : (P : Placement) (king rook a b : ℕ) → Decides (test.is_free_way P king rook a b) (IsFreeWay P king rook a b)
+Decides-free_way : (P : Placement) (king rook a b : ℕ)
+    → Decides (test.is_free_way P king rook a b) (IsFreeWay P king rook a b)
 Decides-free_way P king rook a b =
-    Decides-like {P = (k : ℕ) → 0 ≤ k → k < 0 + (distance a b + 1) → IsFreeFor P king rook (along a b k)} (test.is_free_way P king rook a b)
+    Decides-like {P = (k : ℕ) → 0 ≤ k → k < 0 + (distance a b + 1) → IsFreeFor P king rook (along a b k)}
+    (test.is_free_way P king rook a b)
     (λ f. record { free = λ k less. f k (omega arith) (omega arith) })
     (λ h k from less. h.free k (omega arith))
     (Decides-each_mapped (λ s. nat_eq s king || (nat_eq s rook || is_none (man_at P s))) (along a b)
@@ -270,9 +294,11 @@ Decides-free_way P king rook a b =
     (Decides-or (nat_eq s rook) (is_none (man_at P s)) (Decides-eqb s rook) (Decides-none (man_at P s))))
     0 (distance a b + 1))
 
-Decides-unattacked_way : (P : Placement) (by : Colour) (a b : ℕ) → Decides (test.is_unattacked_way P by a b) (IsUnattackedWay P by a b)
+Decides-unattacked_way : (P : Placement) (by : Colour) (a b : ℕ)
+    → Decides (test.is_unattacked_way P by a b) (IsUnattackedWay P by a b)
 Decides-unattacked_way P by a b =
-    Decides-like {P = (k : ℕ) → 0 ≤ k → k < 0 + (distance a b + 1) → ¬ IsAttacked P by (along a b k)} (test.is_unattacked_way P by a b)
+    Decides-like {P = (k : ℕ) → 0 ≤ k → k < 0 + (distance a b + 1) → ¬ IsAttacked P by (along a b k)}
+    (test.is_unattacked_way P by a b)
     (λ f. record { free = λ k less. f k (omega arith) (omega arith) })
     (λ h k from less. h.free k (omega arith))
     (Decides-each_mapped (λ s. not (test.is_attacked P by s)) (along a b) (λ k. ¬ IsAttacked P by (along a b k))
@@ -287,7 +313,10 @@ Decides-castle p long =
     let king_goal : ℕ = king_end c long in
     let rook_goal : ℕ = rook_end c long in
     let right : Bool = right_of p.rights c long in
-    Decides-like {P = IsTrue right × (IsFreeWay p.men king rook king king_goal × IsFreeWay p.men king rook rook rook_goal × IsUnattackedWay p.men (opposite c) king king_goal)}
+    Decides-like {P =
+    IsTrue right
+    × (IsFreeWay p.men king rook king king_goal × IsFreeWay p.men king rook rook rook_goal
+    × IsUnattackedWay p.men (opposite c) king king_goal)}
     (test.can_castle p long)
     (λ t. record { right = t.0; king_way = t.1.0; rook_way = t.1.1; walk = t.1.2 })
     (λ h. (h.right, (h.king_way, h.rook_way, h.walk)))
@@ -305,7 +334,8 @@ Decides-has_drops Bughouse = always tt
 
 pub Decides-may_drop_on : (k : Kind) (to : ℕ) → Decides (test.may_drop_on k to) (MayDropOn k to)
 Decides-may_drop_on Pawn to =
-    Decides-and (nat_lt 0 (rank_of to)) (nat_lt (rank_of to) 7) (Decides-ltb 0 (rank_of to)) (Decides-ltb (rank_of to) 7)
+    Decides-and (nat_lt 0 (rank_of to)) (nat_lt (rank_of to) 7) (Decides-ltb 0 (rank_of to))
+    (Decides-ltb (rank_of to) 7)
 Decides-may_drop_on Knight to = always tt
 Decides-may_drop_on Bishop to = always tt
 Decides-may_drop_on Rook to = always tt
@@ -318,12 +348,15 @@ Decides-drop p k to =
     let held : Bool = nat_lt 0 (count_in (hand_of_side p p.to_move) k) in
     let square : Bool = nat_lt to 64 in
     let free : Bool = is_none (man_at p.men to) in
-    Decides-like {P = (HasDrops p.variant × (0 < count_in (hand_of_side p p.to_move) k) × (to < 64)) × (man_at p.men to ≡ None) × MayDropOn k to}
+    Decides-like {P =
+    (HasDrops p.variant × (0 < count_in (hand_of_side p p.to_move) k) × (to < 64)) × (man_at p.men to ≡ None)
+    × MayDropOn k to}
     (test.can_drop p k to)
     (λ t. record { variant = t.0.0; held = t.0.1; square = t.0.2; free = t.1; rank = t.2 })
     (λ h. ((h.variant, h.held, h.square), h.free, h.rank))
     (Decides-three (variant && held && square) free (test.may_drop_on k to)
-    (Decides-three variant held square (Decides-has_drops p.variant) (Decides-ltb 0 (count_in (hand_of_side p p.to_move) k)) (Decides-ltb to 64))
+    (Decides-three variant held square (Decides-has_drops p.variant)
+    (Decides-ltb 0 (count_in (hand_of_side p p.to_move) k)) (Decides-ltb to 64))
     (Decides-none (man_at p.men to)) (Decides-may_drop_on k to))
 
 pub Decides-move : (p : Position) (m : Move) → Decides (test.is_move p m) (IsMove p m)

@@ -8,7 +8,9 @@ use Rattle.chess_model.specs.MoveTextFields.{IsPadded}
 pub IsPadded-copied : (text : List ℕ) → IsMoveText text →
     IsPadded (record { bytes = text ++ drop (length text) (replicate 12 0); len = length text })
 IsPadded-copied text h = record {
-  text = let P : List ℕ → Type 0 = λ t. IsMoveText t in subst P (sym (take-append_seam text (drop (length text) (replicate 12 0)))) h;
+  text =
+      let P : List ℕ → Type 0 = λ t. IsMoveText t in
+      subst P (sym (take-append_seam text (drop (length text) (replicate 12 0)))) h;
   whole = omega (arith, length-append text (drop (length text) (replicate 12 0)));
   rest = drop-append_seam text (drop (length text) (replicate 12 0)) ∙ drop-replicate (length text) 12 0;
 }

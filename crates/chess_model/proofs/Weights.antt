@@ -20,7 +20,8 @@ use Rattle.chess_model.proofs.Captures.{mover, Take, nothing, on_target, passing
 use Rattle.chess_model.proofs.NoMoreMen.{taking_square-lt, taking_square-differs, origin, homes}
 
 -- clearing a square
-pub empties : (P : Placement) (s x : ℕ) → s < length P → (x ≡ s) ⊎ (man_at P x ≡ None) → man_at (slice_set P s None) x ≡ None
+pub empties : (P : Placement) (s x : ℕ) → s < length P → (x ≡ s) ⊎ (man_at P x ≡ None)
+    → man_at (slice_set P s None) x ≡ None
 empties P s x h why = elim (cases_eq x s) [
   | inl e ↦ ap (man_at (slice_set P s None)) e ∙ get_or-set_same P s None None h
   | inr other ↦ get_or-set_other P s x None None other ∙ elim why [ inl e ↦ absurd (other e) | inr free ↦ free ]
@@ -30,7 +31,8 @@ module _ (f : Option Man → ℕ) (none : f None ≡ 0) where
   -- a man leaves a, what stands on t is taken, and a man comes to b, which is empty then
   pub weight-plain : (P : Placement) (t a b : ℕ) (man : Option Man) → t < length P → a < length P → b < length P →
       t ≢ a → man_at (slice_set (slice_set P t None) a None) b ≡ None →
-      sum_by f (slice_set (slice_set (slice_set P t None) a None) b man) + (f (man_at P t) + f (man_at P a)) ≡ sum_by f P + f man
+      sum_by f (slice_set (slice_set (slice_set P t None) a None) b man) + (f (man_at P t) + f (man_at P a))
+      ≡ sum_by f P + f man
   weight-plain P t a b man ht ha hb differ free =
       let lifted : Placement = slice_set P t None in
       let left : Placement = slice_set lifted a None in
@@ -45,15 +47,18 @@ module _ (f : Option Man → ℕ) (none : f None ≡ 0) where
       omega (arith, first, second, third, fa, fb, none)
 
   -- the men of a and b go to x and y, which are empty then
-  pub weight-two_moved : (P : Placement) (a b x y : ℕ) → a < length P → b < length P → x < length P → y < length P → a ≢ b → x ≢ y →
-      man_at (slice_set (slice_set P a None) b None) x ≡ None → man_at (slice_set (slice_set P a None) b None) y ≡ None →
+  pub weight-two_moved : (P : Placement) (a b x y : ℕ) → a < length P → b < length P → x < length P → y < length P
+      → a ≢ b → x ≢ y →
+      man_at (slice_set (slice_set P a None) b None) x ≡ None
+      → man_at (slice_set (slice_set P a None) b None) y ≡ None →
       sum_by f (two_moved P a b x y) ≡ sum_by f P
   weight-two_moved P a b x y ha hb hx hy differ goals_differ free_x free_y =
       let one_left : Placement = slice_set P a None in
       let both_left : Placement = slice_set one_left b None in
       let one_came : Placement = slice_set both_left x (man_at P a) in
       let still : man_at one_left b ≡ man_at P b = get_or-set_other P a b None None (λ e. differ (sym e)) in
-      let still_y : man_at one_came y ≡ man_at both_left y = get_or-set_other both_left x y (man_at P a) None (λ e. goals_differ (sym e)) in
+      let still_y : man_at one_came y ≡ man_at both_left y =
+      get_or-set_other both_left x y (man_at P a) None (λ e. goals_differ (sym e)) in
       let la : length one_left ≡ length P = length-set P a None in
       let lb : length both_left ≡ length one_left = length-set one_left b None in
       let lc : length one_came ≡ length both_left = length-set both_left x (man_at P a) in
@@ -62,7 +67,8 @@ module _ (f : Option Man → ℕ) (none : f None ≡ 0) where
       sum_by-set f one_left b None None (omega (arith, hb, la)) in
       let third : sum_by f one_came + f (man_at both_left x) ≡ sum_by f both_left + f (man_at P a) =
       sum_by-set f both_left x (man_at P a) None (omega (arith, hx, la, lb)) in
-      let fourth : sum_by f (slice_set one_came y (man_at P b)) + f (man_at one_came y) ≡ sum_by f one_came + f (man_at P b) =
+      let fourth : sum_by f (slice_set one_came y (man_at P b)) + f (man_at one_came y)
+      ≡ sum_by f one_came + f (man_at P b) =
       sum_by-set f one_came y (man_at P b) None (omega (arith, hy, la, lb, lc)) in
       let fb : f (man_at one_left b) ≡ f (man_at P b) = ap f still in
       let fx : f (man_at both_left x) ≡ f None = ap f free_x in
@@ -114,7 +120,8 @@ brought f c (Plain a b promo) = 0
 brought f c (Castle long) = 0
 brought f c (Drop k to) = f (unpromoted c k)
 
-becomes-steady : (f : Option Man → ℕ) → IsSteady f → (c : Colour) (m : Man) (b : ℕ) (promo : Option Kind) (k : Kind) → m.kind ≡ k →
+becomes-steady : (f : Option Man → ℕ) → IsSteady f → (c : Colour) (m : Man) (b : ℕ) (promo : Option Kind) (k : Kind)
+    → m.kind ≡ k →
     HasPromotion c k b promo → f (landed (Some m) promo) ≡ f (Some m)
 becomes-steady f s c m b None k e h = refl
 becomes-steady f s c m b (Some j) Pawn e (inl h) = s.steady m j e h.1
@@ -149,10 +156,13 @@ weight-after f s p (Plain a b promo) sound h =
     let differ : a ≢ b = (origin p a b promo (man_at p.men a) h.move.goes).1 in
     let who = mover p a b promo h.move in
     let free = target_free p a b ha ht (take_of p a b promo sound h.move) in
-    let board : sum_by f (slice_set (slice_set (slice_set p.men t None) a None) b man) + (f (man_at p.men t) + f (man_at p.men a)) ≡ sum_by f p.men + f man =
+    let board : sum_by f (slice_set (slice_set (slice_set p.men t None) a None) b man)
+    + (f (man_at p.men t) + f (man_at p.men a))
+    ≡ sum_by f p.men + f man =
     weight-plain f s.none p.men t a b man ht ha hb (taking_square-differs p.men a b differ) free in
     let same : f man ≡ f (man_at p.men a) =
-    ap (λ o. f (landed o promo)) who.1.there ∙ becomes-steady f s p.to_move who.0 b promo who.0.kind refl who.1.becomes ∙ ap f (sym who.1.there) in
+    ap (λ o. f (landed o promo)) who.1.there ∙ becomes-steady f s p.to_move who.0 b promo who.0.kind refl who.1.becomes
+    ∙ ap f (sym who.1.there) in
     omega (arith, board, same)
 weight-after f s p (Castle long) sound h =
     let at = homes p.variant p.to_move long in
@@ -169,7 +179,8 @@ weight-after f s p (Castle long) sound h =
     (end_free p.men king rook king x hk hr h.move.king_way) (end_free p.men king rook rook y hk hr h.move.rook_way) in
     omega (arith, board, s.none)
 weight-after f s p (Drop k to) sound h =
-    let board : sum_by f (slice_set p.men to (unpromoted p.to_move k)) + f (man_at p.men to) ≡ sum_by f p.men + f (unpromoted p.to_move k) =
+    let board : sum_by f (slice_set p.men to (unpromoted p.to_move k)) + f (man_at p.men to)
+    ≡ sum_by f p.men + f (unpromoted p.to_move k) =
     sum_by-set f p.men to (unpromoted p.to_move k) None (omega (arith, sound.squares, h.move.square)) in
     let free : f (man_at p.men to) ≡ f None = ap f h.move.free in
     omega (arith, board, free, s.none)

@@ -30,19 +30,25 @@ Decides-as_given (Some g) n = Decides-eqb n g
 
 -- the man, the file and the rank of a named man
 abbrev IsMeant : Position → Kind → Option ℕ → Option ℕ → ℕ → Type 0
-IsMeant p k file rank a = IsHeldAs p.to_move k (man_at p.men a) × IsAsGiven file (file_of a) × IsAsGiven rank (rank_of a)
+IsMeant p k file rank a =
+    IsHeldAs p.to_move k (man_at p.men a) × IsAsGiven file (file_of a) × IsAsGiven rank (rank_of a)
 
-Decides-meant : (p : Position) (k : Kind) (file rank : Option ℕ) (a : ℕ) → Decides (is_named p k file rank a) (IsMeant p k file rank a)
+Decides-meant : (p : Position) (k : Kind) (file rank : Option ℕ) (a : ℕ)
+    → Decides (is_named p k file rank a) (IsMeant p k file rank a)
 Decides-meant p k file rank a =
-    Decides-three (is_held_as p.to_move k (man_at p.men a)) (is_as_given file (file_of a)) (is_as_given rank (rank_of a))
-    (Decides-held_as p.to_move k (man_at p.men a)) (Decides-as_given file (file_of a)) (Decides-as_given rank (rank_of a))
+    Decides-three (is_held_as p.to_move k (man_at p.men a)) (is_as_given file (file_of a))
+    (is_as_given rank (rank_of a))
+    (Decides-held_as p.to_move k (man_at p.men a)) (Decides-as_given file (file_of a))
+    (Decides-as_given rank (rank_of a))
 
-named_among : (p : Position) (k : Kind) (file rank : Option ℕ) (a : ℕ) → IsNamed p k file rank a → Among a (named_squares p k file rank)
+named_among : (p : Position) (k : Kind) (file rank : Option ℕ) (a : ℕ) → IsNamed p k file rank a
+    → Among a (named_squares p k file rank)
 named_among p k file rank a h =
     Among-filter (is_named p k file rank) test.squares a (Among-range 0 64 a (omega arith) (omega (arith, h.square)))
     ((Decides-meant p k file rank a).1 (h.man, h.on_file, h.on_rank))
 
-among_named : (p : Position) (k : Kind) (file rank : Option ℕ) (a : ℕ) → Among a (named_squares p k file rank) → IsNamed p k file rank a
+among_named : (p : Position) (k : Kind) (file rank : Option ℕ) (a : ℕ) → Among a (named_squares p k file rank)
+    → IsNamed p k file rank a
 among_named p k file rank a h =
     let t = Among-filtered (is_named p k file rank) test.squares a h in
     let within = Among-ranged 0 64 a t.0 in
@@ -116,7 +122,8 @@ Decides-ambiguous p w =
     })
     (Decides-two (choices p w) (Apart-choices p w))
 
-Decides-exposed : (p : Position) (w : MoveWord) → Decides (list_any (leaves_king p) (matches p w)) ((m : Move) × LeavesKingBy p w m)
+Decides-exposed : (p : Position) (w : MoveWord)
+    → Decides (list_any (leaves_king p) (matches p w)) ((m : Move) × LeavesKingBy p w m)
 Decides-exposed p w =
     let bare : (m : Move) → Decides (leaves_king p m) (IsMove p m × (¬ IsSafeAfter p m)) =
     λ m. Decides-and (test.is_move p m) (not (test.is_safe_after p m)) (Decides-move p m)
@@ -172,7 +179,8 @@ Decides-applies p w NoDrops =
     Decides-drop_with (λ k to. not (test.has_drops p.variant)) (λ k to. ¬ HasDrops p.variant)
     (λ k to. Decides-not (test.has_drops p.variant) (Decides-has_drops p.variant)) w
 Decides-applies p w NotInHand =
-    Decides-drop_with (λ k to. nat_eq (count_in (hand_of_side p p.to_move) k) 0) (λ k to. count_in (hand_of_side p p.to_move) k ≡ 0)
+    Decides-drop_with (λ k to. nat_eq (count_in (hand_of_side p p.to_move) k) 0)
+    (λ k to. count_in (hand_of_side p p.to_move) k ≡ 0)
     (λ k to. Decides-eqb (count_in (hand_of_side p p.to_move) k) 0) w
 Decides-applies p w Occupied =
     Decides-drop_with (λ k to. not (is_none (man_at p.men to))) (λ k to. man_at p.men to ≢ None)
@@ -208,7 +216,8 @@ later : (x y : Rejection) (xs : List Rejection) → is_in_order (x ∷ xs) ≡ t
 unfolding is_in_order
 later x y xs h a =
     (Decides-ltb (place_of x) (place_of y)).0
-    (list_all-each (λ z. nat_lt (place_of x) (place_of z)) xs (and_parts (list_all (λ z. nat_lt (place_of x) (place_of z)) xs) (is_in_order xs) h).0 y a)
+    (list_all-each (λ z. nat_lt (place_of x) (place_of z)) xs
+    (and_parts (list_all (λ z. nat_lt (place_of x) (place_of z)) xs) (is_in_order xs) h).0 y a)
 
 rest_in_order : (x : Rejection) (xs : List Rejection) → is_in_order (x ∷ xs) ≡ true → is_in_order xs ≡ true
 unfolding is_in_order
@@ -219,7 +228,8 @@ pub record IsFirst (f : Rejection → Bool) (r : Rejection) : Type 0 where
   pub holds : f r ≡ true
   pub first : (q : Rejection) → place_of q < place_of r → f q ≡ false
 
-first_found : (f : Rejection → Bool) (r : Rejection) (xs : List Rejection) → is_in_order xs ≡ true → Among r xs → IsFirst f r →
+first_found : (f : Rejection → Bool) (r : Rejection) (xs : List Rejection) → is_in_order xs ≡ true → Among r xs
+    → IsFirst f r →
     first_refusal (filter f xs) ≡ r
 first_found f r [] order a h = absurd a
 first_found f r (x ∷ xs) order (inl same) h =
@@ -234,8 +244,10 @@ record IsFirstOf (f : Rejection → Bool) (xs : List Rejection) (r : Rejection) 
   holds : f r ≡ true
   first : (q : Rejection) → Among q xs → place_of q < place_of r → f q ≡ false
 
-first_step : (f : Rejection → Bool) (x : Rejection) (xs : List Rejection) (b : Bool) → f x ≡ b → is_in_order (x ∷ xs) ≡ true →
-    (b ≡ false → IsFirstOf f xs (first_refusal (filter f xs))) → IsFirstOf f (x ∷ xs) (first_refusal (cond b (x ∷ filter f xs) (filter f xs)))
+first_step : (f : Rejection → Bool) (x : Rejection) (xs : List Rejection) (b : Bool) → f x ≡ b
+    → is_in_order (x ∷ xs) ≡ true →
+    (b ≡ false → IsFirstOf f xs (first_refusal (filter f xs)))
+    → IsFirstOf f (x ∷ xs) (first_refusal (cond b (x ∷ filter f xs) (filter f xs)))
 first_step f x xs true e order rest = record {
   among = inl refl;
   holds = e;
@@ -252,7 +264,8 @@ first_step f x xs false e order rest =
       first = λ q a less. elim a [ inl same ↦ ap f same ∙ e | inr after ↦ t.first q after less ];
     }
 
-first_of : (f : Rejection → Bool) (xs : List Rejection) → is_in_order xs ≡ true → Among CannotReach xs → f CannotReach ≡ true →
+first_of : (f : Rejection → Bool) (xs : List Rejection) → is_in_order xs ≡ true → Among CannotReach xs
+    → f CannotReach ≡ true →
     IsFirstOf f xs (first_refusal (filter f xs))
 first_of f [] order a h = absurd a
 first_of f (x ∷ xs) order a h =
@@ -295,12 +308,14 @@ only_one-err [] r none = refl
 only_one-err (m ∷ []) r none = absurd (none m refl)
 only_one-err (m ∷ n ∷ ms) r none = refl
 
-pub word_answer-is : (p : Position) (w : MoveWord) (r : Result Move Rejection) → MatchResult r (IsAnswer p w) (IsRefusal p w) →
+pub word_answer-is : (p : Position) (w : MoveWord) (r : Result Move Rejection)
+    → MatchResult r (IsAnswer p w) (IsRefusal p w) →
     r ≡ word_answer p w
 unfolding word_answer
 word_answer-is p w (Ok m) h = sym (ap (λ xs. only_one xs (refusal p w)) (one_choice p w m h))
 word_answer-is p w (Err r) h =
-    ap Err (sym (refusal-is p w r h)) ∙ sym (only_one-err (choices p w) (refusal p w) (λ m e. h.unanswered m (the_answer p w m e)))
+    ap Err (sym (refusal-is p w r h))
+    ∙ sym (only_one-err (choices p w) (refusal p w) (λ m e. h.unanswered m (the_answer p w m e)))
 
 answer_among : (p : Position) (w : MoveWord) (xs : List Move) → choices p w ≡ xs →
     MatchResult (only_one xs (refusal p w)) (IsAnswer p w) (IsRefusal p w)
@@ -312,7 +327,8 @@ pub word_answer-holds : (p : Position) (w : MoveWord) → MatchResult (word_answ
 unfolding word_answer
 word_answer-holds p w = answer_among p w (choices p w) refl
 
-pub word_answer-from : (p : Position) (w : MoveWord) (r : Result Move Rejection) → IfOk r (IsAnswer p w) → IfErr r (IsRefusal p w) →
+pub word_answer-from : (p : Position) (w : MoveWord) (r : Result Move Rejection) → IfOk r (IsAnswer p w)
+    → IfErr r (IsRefusal p w) →
     r ≡ word_answer p w
 word_answer-from p w (Ok m) answered refused = word_answer-is p w (Ok m) answered
 word_answer-from p w (Err r) answered refused = word_answer-is p w (Err r) refused

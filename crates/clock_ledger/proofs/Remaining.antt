@@ -23,11 +23,13 @@ given-charged l c =
 shifted : (a b p q : ℕ) (r t : ℤ) → pos a -ℤ pos b ≡ r → pos (a + p) -ℤ pos (b + q) ≡ t → t +ℤ pos q ≡ r +ℤ pos p
 shifted a b p q r t before after = omega (arith, ints)
 
-pub remaining-charged : (l : Ledger) (c : Charge) → IsTrue (timed l) → remaining (charged l c) +ℤ pos (amount c) ≡ remaining l +ℤ pos (l.increment * 1000)
+pub remaining-charged : (l : Ledger) (c : Charge) → IsTrue (timed l)
+    → remaining (charged l c) +ℤ pos (amount c) ≡ remaining l +ℤ pos (l.increment * 1000)
 remaining-charged l c is_timed =
     let on : timed l ≡ true = search rules in
     let before = remaining_is l (given l) (spent l) on refl refl in
     let after =
-    remaining_is (charged l c) (given l + l.increment * 1000) (spent l + amount c) on (given-charged l c) (spent-charged l c)
+    remaining_is (charged l c) (given l + l.increment * 1000) (spent l + amount c) on (given-charged l c)
+    (spent-charged l c)
     in
     shifted (given l) (spent l) (l.increment * 1000) (amount c) _ _ before after

@@ -11,6 +11,7 @@ unfolding answer_line
 answer_line-no_word b line e = ap (option_map (λ word. move_made b (answer_to b word))) e
 
 -- a word
-pub answer_line-made : (b : GameState) (line : List ℕ) (word : MoveWord) → reading line ≡ Some word → answer_line b line ≡ Some (move_made b (answer_to b word))
+pub answer_line-made : (b : GameState) (line : List ℕ) (word : MoveWord) → reading line ≡ Some word
+    → answer_line b line ≡ Some (move_made b (answer_to b word))
 unfolding answer_line
 answer_line-made b line word e = ap (option_map (λ w. move_made b (answer_to b w))) e

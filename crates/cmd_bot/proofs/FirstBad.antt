@@ -23,7 +23,8 @@ module _ {S : Type 0} (command : LineCommand S) where
   front k lines t zero = None
   front k lines t (suc i) = option_map_or (λ (p : S × List ℕ). first_bad command (k + 1) p.0 (take i lines)) t (Some k)
 
-  front_is : (k : ℕ) (s : S) (line : List ℕ) (lines : List (List ℕ)) (i : ℕ) → front k lines (line_answer command s line) i ≡ first_bad command k s (take i (line ∷ lines))
+  front_is : (k : ℕ) (s : S) (line : List ℕ) (lines : List (List ℕ)) (i : ℕ)
+      → front k lines (line_answer command s line) i ≡ first_bad command k s (take i (line ∷ lines))
   unfolding front
   front_is k s line lines zero = refl
   front_is k s line lines (suc i) = refl
@@ -32,10 +33,16 @@ module _ {S : Type 0} (command : LineCommand S) where
   unfolding front
   first_place k n s [] e = absurd (let bad : None ≡ Some n = e in cc)
   first_place k n s (line ∷ lines) e =
-      let found = elim (line_answer command s line) as (λ t. option_map_or (λ (p : S × List ℕ). first_bad command (k + 1) p.0 lines) t (Some k) ≡ Some n
-      → (i : ℕ) × (n ≡ k + i) × (i < suc (length lines)) × (front k lines t i ≡ None) × (front k lines t (suc i) ≡ Some n)) [
-        | None ↦ λ f. let same : k ≡ n = (let both : Some k ≡ Some n = f in cc) in (0, omega (arith, same), omega arith, refl, f)
-        | Some p ↦ λ f. let rest = first_place (k + 1) n p.0 lines f in (suc rest.place, omega (arith, rest.number), omega (arith, rest.there), rest.before, rest.at)
+      let found =
+      elim (line_answer command s line)
+      as (λ t. option_map_or (λ (p : S × List ℕ). first_bad command (k + 1) p.0 lines) t (Some k) ≡ Some n
+      → (i : ℕ) × (n ≡ k + i) × (i < suc (length lines)) × (front k lines t i ≡ None)
+      × (front k lines t (suc i) ≡ Some n)) [
+        | None ↦ λ f.
+            let same : k ≡ n = (let both : Some k ≡ Some n = f in cc) in (0, omega (arith, same), omega arith, refl, f)
+        | Some p ↦ λ f.
+            let rest = first_place (k + 1) n p.0 lines f in
+            (suc rest.place, omega (arith, rest.number), omega (arith, rest.there), rest.before, rest.at)
       ] e in
       record {
         place = found.0;
@@ -46,13 +53,16 @@ module _ {S : Type 0} (command : LineCommand S) where
       }
 
 -- lines of a front of lines
-short_front : (lines : List (List ℕ)) (n : ℕ) → All (λ line. length line ≤ 1023) lines → All (λ line. length line ≤ 1023) (take n lines)
+short_front : (lines : List (List ℕ)) (n : ℕ) → All (λ line. length line ≤ 1023) lines
+    → All (λ line. length line ≤ 1023) (take n lines)
 short_front lines zero h = All-nil (λ line. length line ≤ 1023)
 short_front [] (suc n) h = All-nil (λ line. length line ≤ 1023)
 short_front (line ∷ lines) (suc n) h =
-    All-cons (λ l. length l ≤ 1023) line (take n lines) (h 0 line (omega arith)) (short_front lines n (λ k d within. h (suc k) d (omega (arith, within))))
+    All-cons (λ l. length l ≤ 1023) line (take n lines) (h 0 line (omega arith))
+    (short_front lines n (λ k d within. h (suc k) d (omega (arith, within))))
 
-pub IsFirstBad-told : (depth : ℕ) (lines : List (List ℕ)) (number : ℕ) → bad_in (bot_lines depth) lines ≡ Some number → IsFirstBad depth lines number
+pub IsFirstBad-told : (depth : ℕ) (lines : List (List ℕ)) (number : ℕ) → bad_in (bot_lines depth) lines ≡ Some number
+    → IsFirstBad depth lines number
 IsFirstBad-told depth lines number bad =
     let h = first_place (bot_lines depth) 1 number None lines bad in
     let last : number - 1 ≡ h.place = omega (arith, h.number) in
@@ -61,10 +71,14 @@ IsFirstBad-told depth lines number bad =
       counted = omega (arith, h.number);
       there = omega (arith, h.number, h.there);
       game = last_state (bot_lines depth) (take h.place lines);
-      before = subst (λ (i : ℕ). Give depth (filter is_written (take i lines)) (last_state (bot_lines depth) (take h.place lines))) (sym last) (Give-given depth (take h.place lines) h.before);
+      before =
+          subst
+          (λ (i : ℕ). Give depth (filter is_written (take i lines)) (last_state (bot_lines depth) (take h.place lines)))
+          (sym last) (Give-given depth (take h.place lines) h.before);
       none = λ short state given.
           let good = Give-good depth (take number lines) state (short_front lines number short) given in
-          let is : bad_in (bot_lines depth) (take number lines) ≡ Some number = subst (λ (i : ℕ). bad_in (bot_lines depth) (take i lines) ≡ Some number) all h.at in
+          let is : bad_in (bot_lines depth) (take number lines) ≡ Some number =
+          subst (λ (i : ℕ). bad_in (bot_lines depth) (take i lines) ≡ Some number) all h.at in
           let none : None ≡ Some number = sym good ∙ is in
           absurd (let clash : None ≡ Some number = none in cc);
     }

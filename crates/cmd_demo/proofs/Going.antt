@@ -15,7 +15,8 @@ use Rattle.session_core.specs.Memory.{MemoryState}
 use Rattle.cmd_demo.specs.Demo.{Comes, Connects, DemoState, Enters, Go, Goes, IsDemo, Quits, Step, Turns, demo_steps, entering, quitting, start, turn_of, turning, with_turn}
 
 -- steps, and then others
-pub go_then : (one two : List Step) (old mid new : DemoState) → Go one old mid → Go two mid new → Go (one ++ two) old new
+pub go_then : (one two : List Step) (old mid new : DemoState) → Go one old mid → Go two mid new
+    → Go (one ++ two) old new
 go_then [] two old mid new g h = subst (λ (from : DemoState). Go two from new) g h
 go_then (step ∷ one) two old mid new g h = (g.0, g.1, go_then one two g.0 mid new g.2 h)
 
@@ -32,7 +33,8 @@ pub none_entered : (at : DemoState) → Go (entering 0) at at
 unfolding entering
 none_entered at = refl
 
-pub one_enters : (count : ℕ) (old mid new : DemoState) → Go (entering count) old mid → Go (Connects (count + 1) ∷ Enters (count + 1) ∷ []) mid new → Go (entering (count + 1)) old new
+pub one_enters : (count : ℕ) (old mid new : DemoState) → Go (entering count) old mid
+    → Go (Connects (count + 1) ∷ Enters (count + 1) ∷ []) mid new → Go (entering (count + 1)) old new
 unfolding entering
 one_enters count old mid new g h =
     subst (λ (n : ℕ). Go (entering n) old new) (next_of count)
@@ -42,29 +44,36 @@ pub no_turns : (at : DemoState) → Go (turning 0) at at
 unfolding turning
 no_turns at = refl
 
-pub one_turn : (count : ℕ) (old mid new : DemoState) → Go (turning count) old mid → Goes Turns mid new → Go (turning (count + 1)) old new
+pub one_turn : (count : ℕ) (old mid new : DemoState) → Go (turning count) old mid → Goes Turns mid new
+    → Go (turning (count + 1)) old new
 unfolding turning
 one_turn count old mid new g h =
-    subst (λ (n : ℕ). Go (turning n) old new) (next_of count) (go_then (turning count) (Turns ∷ []) old mid new g (go_one Turns mid new h))
+    subst (λ (n : ℕ). Go (turning n) old new) (next_of count)
+    (go_then (turning count) (Turns ∷ []) old mid new g (go_one Turns mid new h))
 
 pub none_quits : (at : DemoState) → Go (quitting 0) at at
 unfolding quitting
 none_quits at = refl
 
-pub one_quits : (count : ℕ) (old mid new : DemoState) → Go (quitting count) old mid → Goes (Quits (count + 1)) mid new → Go (quitting (count + 1)) old new
+pub one_quits : (count : ℕ) (old mid new : DemoState) → Go (quitting count) old mid → Goes (Quits (count + 1)) mid new
+    → Go (quitting (count + 1)) old new
 unfolding quitting
 one_quits count old mid new g h =
     subst (λ (n : ℕ). Go (quitting n) old new) (next_of count)
     (go_then (quitting count) (Quits (count + 1) ∷ []) old mid new g (go_one (Quits (count + 1)) mid new h))
 
 -- the whole
-pub all_go : (old one two new : DemoState) → Go (entering 40) old one → Go (turning 4000) one two → Go (quitting 40) two new → Go demo_steps old new
+pub all_go : (old one two new : DemoState) → Go (entering 40) old one → Go (turning 4000) one two
+    → Go (quitting 40) two new → Go demo_steps old new
 unfolding demo_steps
-all_go old one two new e t q = go_then (entering 40 ++ turning 4000) (quitting 40) old two new (go_then (entering 40) (turning 4000) old one two e t) q
+all_go old one two new e t q =
+    go_then (entering 40 ++ turning 4000) (quitting 40) old two new
+    (go_then (entering 40) (turning 4000) old one two e t) q
 
 -- ---- one end
 
-same_state : (one other : DemoState) → one.server ≡ other.server → one.memories ≡ other.memories → one.number ≡ other.number → one.moment ≡ other.moment → one ≡ other
+same_state : (one other : DemoState) → one.server ≡ other.server → one.memories ≡ other.memories
+    → one.number ≡ other.number → one.moment ≡ other.moment → one ≡ other
 same_state one other server memories number moment =
     ap (λ (s : ServerState). record one { server = s }) server
     ∙ ap (λ (m : List MemoryState). record one { server = other.server; memories = m }) memories
@@ -72,17 +81,22 @@ same_state one other server memories number moment =
     ∙ ap (λ (t : ℕ). record other { moment = t }) moment
 
 -- what an event made is legal where it came
-own_legal : (session : ℕ) (what : ScriptEvent) (old new : DemoState) (c : Comes session what old new) → Legal house (parts_in old.server) c.answered.entries
+own_legal : (session : ℕ) (what : ScriptEvent) (old new : DemoState) (c : Comes session what old new)
+    → Legal house (parts_in old.server) c.answered.entries
 own_legal session what old new c =
-    legal_back house old.server.opening old.server.log c.answered.entries (subst (λ (s : ServerState). Legal house s.opening s.log) c.answered.more c.legal)
+    legal_back house old.server.opening old.server.log c.answered.entries
+    (subst (λ (s : ServerState). Legal house s.opening s.log) c.answered.more c.legal)
 
-one_coming : (session : ℕ) (what : ScriptEvent) (old new other : DemoState) → Comes session what old new → Comes session what old other → new ≡ other
+one_coming : (session : ℕ) (what : ScriptEvent) (old new other : DemoState) → Comes session what old new
+    → Comes session what old other → new ≡ other
 one_coming session what old new other c d =
     let knew : c.before ≡ d.before = same_Some c.before d.before (sym c.knew ∙ d.knew) in
     let does : Does what c.before session old.moment d.answered.entries d.bytes d.after =
-    subst (λ (m : MemoryState). Does what m session old.moment d.answered.entries d.bytes d.after) (sym knew) d.answered.does in
+    subst (λ (m : MemoryState). Does what m session old.moment d.answered.entries d.bytes d.after) (sym knew)
+    d.answered.does in
     let same =
-    one_doing what c.before session old.moment (parts_in old.server) c.answered.entries d.answered.entries c.bytes d.bytes c.after d.after c.answered.does does
+    one_doing what c.before session old.moment (parts_in old.server) c.answered.entries d.answered.entries c.bytes
+    d.bytes c.after d.after c.answered.does does
     (own_legal session what old new c) (own_legal session what old other d) in
     same_state new other
     (c.answered.more ∙ ap (λ (l : Log). record old.server { log = old.server.log ++ l }) same.0 ∙ sym d.answered.more)
@@ -92,7 +106,8 @@ one_coming session what old new other c d =
 one_step : (step : Step) (old new other : DemoState) → Goes step old new → Goes step old other → new ≡ other
 one_step (Connects session) old new other g h = one_coming session event.Connect old new other g h
 one_step (Enters session) old new other g h = one_coming session (event.Plain (codes "guest")) old new other g h
-one_step Turns old new other g h = one_coming (turn_of old).session (turn_of old).said.event (with_turn (turn_of old) old) new other g h
+one_step Turns old new other g h =
+    one_coming (turn_of old).session (turn_of old).said.event (with_turn (turn_of old) old) new other g h
 one_step (Quits session) old new other g h = one_coming session (event.Plain (codes "quit")) old new other g h
 
 one_going : (steps : List Step) (old new other : DemoState) → Go steps old new → Go steps old other → new ≡ other
@@ -104,7 +119,8 @@ one_going (step ∷ steps) old new other g h =
 -- a number makes one history
 pub one_history : (number : ℕ) (log other : Log) → IsDemo number log → IsDemo number other → log ≡ other
 one_history number log other d e =
-    d.history ∙ ap (λ (at : DemoState). at.server.log) (one_going demo_steps (start number) d.end e.end d.goes e.goes) ∙ sym e.history
+    d.history ∙ ap (λ (at : DemoState). at.server.log) (one_going demo_steps (start number) d.end e.end d.goes e.goes)
+    ∙ sym e.history
 
 -- ---- legal histories
 
@@ -113,16 +129,19 @@ record HasOpened (at : DemoState) : Type 0 where
   opening : at.server.opening ≡ opening_parts
   legal : Legal house at.server.opening at.server.log
 
-comes_opened : (session : ℕ) (what : ScriptEvent) (old new : DemoState) → Comes session what old new → old.server.opening ≡ opening_parts → HasOpened new
+comes_opened : (session : ℕ) (what : ScriptEvent) (old new : DemoState) → Comes session what old new
+    → old.server.opening ≡ opening_parts → HasOpened new
 comes_opened session what old new c opened = record {
   opening = ap (λ (s : ServerState). s.opening) c.answered.more ∙ opened;
   legal = c.legal;
 }
 
-goes_opened : (step : Step) (old new : DemoState) → Goes step old new → old.server.opening ≡ opening_parts → HasOpened new
+goes_opened : (step : Step) (old new : DemoState) → Goes step old new → old.server.opening ≡ opening_parts
+    → HasOpened new
 goes_opened (Connects session) old new g opened = comes_opened session event.Connect old new g opened
 goes_opened (Enters session) old new g opened = comes_opened session (event.Plain (codes "guest")) old new g opened
-goes_opened Turns old new g opened = comes_opened (turn_of old).session (turn_of old).said.event (with_turn (turn_of old) old) new g opened
+goes_opened Turns old new g opened =
+    comes_opened (turn_of old).session (turn_of old).said.event (with_turn (turn_of old) old) new g opened
 goes_opened (Quits session) old new g opened = comes_opened session (event.Plain (codes "quit")) old new g opened
 
 go_opened : (steps : List Step) (old new : DemoState) → Go steps old new → HasOpened old → HasOpened new
@@ -133,4 +152,5 @@ go_opened (step ∷ steps) old new g h = go_opened steps g.0 new g.2 (goes_opene
 pub legal_history : (number : ℕ) (log : Log) → IsDemo number log → Legal house opening_parts log
 legal_history number log d =
     let at = go_opened demo_steps (start number) d.end d.goes (record { opening = refl; legal = tt }) in
-    subst (λ (l : Log). Legal house opening_parts l) (sym d.history) (subst (λ (o : List Part). Legal house o d.end.server.log) at.opening at.legal)
+    subst (λ (l : Log). Legal house opening_parts l) (sym d.history)
+    (subst (λ (o : List Part). Legal house o d.end.server.log) at.opening at.legal)

@@ -19,13 +19,15 @@ printable byte h = (search (rules, tests), search (rules, tests))
 all_printable : (text : List ℕ) → list_all is_printable text ≡ true → All IsPrintable text
 all_printable text h = λ k d inside. printable _ (AllPass-from_list_all is_printable text h k d inside)
 
-between : (front middle back : List ℕ) → AreWords front → AreWords back → length middle ≤ 17 → All IsPrintable middle → IsLine (front ++ middle ++ back)
+between : (front middle back : List ℕ) → AreWords front → AreWords back → length middle ≤ 17 → All IsPrintable middle
+    → IsLine (front ++ middle ++ back)
 between front middle back f b short shown = (
   omega (arith, length-append (front ++ middle) back, length-append front middle, f.short, short, b.short),
   All-append IsPrintable (front ++ middle) back (All-append IsPrintable front middle f.shown shown) b.shown,
 )
 
-pub name_line : (front name back : List ℕ) → AreWords front → AreWords back → IsHandle name → IsLine (front ++ name ++ back)
+pub name_line : (front name back : List ℕ) → AreWords front → AreWords back → IsHandle name
+    → IsLine (front ++ name ++ back)
 name_line front name back f b h = between front name back f b h.1 (λ k d inside. IsPrintable-letter _ (h.2 k d inside))
 
 pub no_name_line : (front back : List ℕ) → AreWords front → AreWords back → IsLine (front ++ [] ++ back)
@@ -36,5 +38,7 @@ number_line front n f few =
     let fits : n < 2 ^ 64 = omega (arith, few) in (
       omega (arith, length-append front (decimal n), f.short, length-decimal-le_succ n fits, few),
       All-append IsPrintable front (decimal n) f.shown
-          (λ k d inside. subst IsPrintable (get_or_default (decimal n) k 0 d inside) (IsPrintable-digit _ (digit_at (decimal n) k (decimal_is_IsNumeral n fits).0.1 inside))),
+          (λ k d inside.
+          subst IsPrintable (get_or_default (decimal n) k 0 d inside)
+          (IsPrintable-digit _ (digit_at (decimal n) k (decimal_is_IsNumeral n fits).0.1 inside))),
     )

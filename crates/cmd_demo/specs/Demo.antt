@@ -52,7 +52,8 @@ pub record Comes (session : ℕ) (what : ScriptEvent) (old new : DemoState) : Ty
   pub number : new.number ≡ old.number
   pub moment : new.moment ≡ old.moment
 
--- what a turn draws: how much later it is, whose turn it is, and what that session wants to do; then what its line needs
+-- what a turn draws: how much later it is, whose turn it is, and what that session wants to do; then what its line
+-- needs
 pub record DemoTurn : Type 0 where
   pub moment : ℕ
   pub session : ℕ

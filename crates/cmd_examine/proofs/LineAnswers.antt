@@ -12,6 +12,7 @@ unfolding answer_line
 answer_line-none e bytes is = ap (option_map (done e)) is
 
 -- any other
-pub answer_line-some : (e : ExamState) (bytes : List ℕ) (line : ExamLine) → reading bytes ≡ Some line → answer_line e bytes ≡ Some (done e line)
+pub answer_line-some : (e : ExamState) (bytes : List ℕ) (line : ExamLine) → reading bytes ≡ Some line
+    → answer_line e bytes ≡ Some (done e line)
 unfolding answer_line
 answer_line-some e bytes line is = ap (option_map (done e)) is

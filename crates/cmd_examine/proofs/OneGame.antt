@@ -11,4 +11,5 @@ same_bytes bytes others e = cc
 pub has_one_game : HasOneGame
 has_one_game table number one other h k =
     let same : h.bytes ≡ k.bytes = same_bytes h.bytes k.bytes (sym h.there ∙ k.there) in
-    same_game one other (one_spelled (a.Game one) (a.Game other) k.bytes (subst (IsSpelled (a.Game one)) same h.spelled) k.spelled)
+    same_game one other
+    (one_spelled (a.Game one) (a.Game other) k.bytes (subst (IsSpelled (a.Game one)) same h.spelled) k.spelled)

@@ -14,7 +14,8 @@ use Rattle.cmd_job.specs.declared.options.JobOption.TheVariants.{Port, Bind, Cou
 -- ---- one option
 
 -- a word that is written with `=` is cut behind the option's name
-before_cut : (option : JobOption) (value : List ℕ) → before_first is_equals (name_of option ++ 61 ∷ value) ≡ name_of option
+before_cut : (option : JobOption) (value : List ℕ)
+    → before_first is_equals (name_of option ++ 61 ∷ value) ≡ name_of option
 before_cut Port value = refl
 before_cut Bind value = refl
 before_cut Count value = refl
@@ -28,7 +29,8 @@ after_cut Count value = refl
 after_cut Store value = refl
 after_cut Game value = refl
 
-has_cut : (option : JobOption) (value : List ℕ) → position_or_len is_equals (name_of option ++ 61 ∷ value) < length (name_of option ++ 61 ∷ value)
+has_cut : (option : JobOption) (value : List ℕ)
+    → position_or_len is_equals (name_of option ++ 61 ∷ value) < length (name_of option ++ 61 ∷ value)
 has_cut Port value = omega arith
 has_cut Bind value = omega arith
 has_cut Count value = omega arith
@@ -45,7 +47,9 @@ no_cut Game = refl
 
 -- the option that is called so, by the third byte of its name
 option_by : ℕ → JobOption
-option_by byte = if byte == 112 then Port else if byte == 98 then Bind else if byte == 99 then Count else if byte == 115 then Store else Game
+option_by byte =
+    if byte == 112 then Port else if byte == 98 then Bind else if byte == 99 then Count else if byte == 115 then Store
+    else Game
 
 option_by-name : (option : JobOption) → option_by (get_or (name_of option) 2 0) ≡ option
 unfolding option_by
@@ -57,7 +61,8 @@ option_by-name Game = refl
 
 -- a name names one option
 pub one_name : (option other : JobOption) → name_of option ≡ name_of other → option ≡ other
-one_name option other e = sym (option_by-name option) ∙ ap (λ (n : List ℕ). option_by (get_or n 2 0)) e ∙ option_by-name other
+one_name option other e =
+    sym (option_by-name option) ∙ ap (λ (n : List ℕ). option_by (get_or n 2 0)) e ∙ option_by-name other
 
 pub same_option-is : (option other : JobOption) → same_option option other ≡ true → option ≡ other
 same_option-is option other e = one_name option other ((bytes_eq-Decides (name_of option) (name_of other)).0 e)
@@ -65,12 +70,15 @@ same_option-is option other e = one_name option other ((bytes_eq-Decides (name_o
 -- a name alone isn't a word that is written with `=`
 not_both : (option other : JobOption) (value : List ℕ) → name_of option ≡ name_of other ++ 61 ∷ value → ⊥
 not_both option other value e =
-    let cut : position_or_len is_equals (name_of option) < length (name_of option) = subst (λ (w : List ℕ). position_or_len is_equals w < length w) (sym e) (has_cut other value) in
+    let cut : position_or_len is_equals (name_of option) < length (name_of option) =
+    subst (λ (w : List ℕ). position_or_len is_equals w < length w) (sym e) (has_cut other value) in
     absurd (omega (arith, cut, no_cut option))
 
 -- words begin with one option and one value
-pub one_first : (command : CommandName) (words : List (List ℕ)) (option other : JobOption) (value value' : List ℕ) (rest rest' : List (List ℕ))
-    → BeginsWith command words option value rest → BeginsWith command words other value' rest' → (option ≡ other) × (value ≡ value') × (rest ≡ rest')
+pub one_first : (command : CommandName) (words : List (List ℕ)) (option other : JobOption) (value value' : List ℕ)
+    (rest rest' : List (List ℕ))
+    → BeginsWith command words option value rest → BeginsWith command words other value' rest'
+    → (option ≡ other) × (value ≡ value') × (rest ≡ rest')
 one_first command words option other value value' rest rest' (inl e, good, taken) (inl f, good', taken') =
     let both : name_of option ∷ value ∷ rest ≡ name_of other ∷ value' ∷ rest' = sym e ∙ f in
     (one_name option other cc, cc, cc)
@@ -83,39 +91,59 @@ one_first command words option other value value' rest rest' (inr e, good, taken
 one_first command words option other value value' rest rest' (inr e, good, taken) (inr f, good', taken') =
     let both : (name_of option ++ 61 ∷ value) ∷ rest ≡ (name_of other ++ 61 ∷ value') ∷ rest' = sym e ∙ f in
     let word : name_of option ++ 61 ∷ value ≡ name_of other ++ 61 ∷ value' = cc in (
-      one_name option other (sym (before_cut option value) ∙ ap (before_first is_equals) word ∙ before_cut other value'),
+      one_name option other
+          (sym (before_cut option value) ∙ ap (before_first is_equals) word ∙ before_cut other value'),
       sym (after_cut option value) ∙ ap (after_first is_equals) word ∙ after_cut other value',
       cc,
     )
 
 -- no words don't begin with an option
-pub none_first : (command : CommandName) (option : JobOption) (value : List ℕ) (rest : List (List ℕ)) → BeginsWith command [] option value rest → ⊥
-none_first command option value rest (inl e, good, taken) = absurd (let bad : [] ≡ name_of option ∷ value ∷ rest = e in cc)
-none_first command option value rest (inr e, good, taken) = absurd (let bad : [] ≡ (name_of option ++ 61 ∷ value) ∷ rest = e in cc)
+pub none_first : (command : CommandName) (option : JobOption) (value : List ℕ) (rest : List (List ℕ))
+    → BeginsWith command [] option value rest → ⊥
+none_first command option value rest (inl e, good, taken) =
+    absurd (let bad : [] ≡ name_of option ∷ value ∷ rest = e in cc)
+none_first command option value rest (inr e, good, taken) =
+    absurd (let bad : [] ≡ (name_of option ++ 61 ∷ value) ∷ rest = e in cc)
 
 -- what is behind an option is shorter
-pub shorter : (command : CommandName) (words : List (List ℕ)) (option : JobOption) (value : List ℕ) (rest : List (List ℕ)) → BeginsWith command words option value rest → length rest < length words
-shorter command words option value rest (inl e, good, taken) = let l : length words ≡ length (name_of option ∷ value ∷ rest) = ap length e in omega (arith, l)
-shorter command words option value rest (inr e, good, taken) = let l : length words ≡ length ((name_of option ++ 61 ∷ value) ∷ rest) = ap length e in omega (arith, l)
+pub shorter : (command : CommandName) (words : List (List ℕ)) (option : JobOption) (value : List ℕ)
+    (rest : List (List ℕ))
+    → BeginsWith command words option value rest → length rest < length words
+shorter command words option value rest (inl e, good, taken) =
+    let l : length words ≡ length (name_of option ∷ value ∷ rest) = ap length e in omega (arith, l)
+shorter command words option value rest (inr e, good, taken) =
+    let l : length words ≡ length ((name_of option ++ 61 ∷ value) ∷ rest) = ap length e in omega (arith, l)
 
 -- ---- options one after the other
 
-pub one_options : (command : CommandName) (words : List (List ℕ)) (given other : List GivenValue) → AreOptions command words given → AreOptions command words other → given ≡ other
+pub one_options : (command : CommandName) (words : List (List ℕ)) (given other : List GivenValue)
+    → AreOptions command words given → AreOptions command words other → given ≡ other
 one_options command words [] [] h k = refl
-one_options command words [] (g ∷ other) h k = absurd (none_first command g.option g.value k.0 (subst (λ (w : List (List ℕ)). BeginsWith command w g.option g.value k.0) h k.1))
-one_options command words (g ∷ given) [] h k = absurd (none_first command g.option g.value h.0 (subst (λ (w : List (List ℕ)). BeginsWith command w g.option g.value h.0) k h.1))
+one_options command words [] (g ∷ other) h k =
+    absurd (none_first command g.option g.value k.0
+    (subst (λ (w : List (List ℕ)). BeginsWith command w g.option g.value k.0) h k.1))
+one_options command words (g ∷ given) [] h k =
+    absurd (none_first command g.option g.value h.0
+    (subst (λ (w : List (List ℕ)). BeginsWith command w g.option g.value h.0) k h.1))
 one_options command words (g ∷ given) (d ∷ other) h k =
     let first = one_first command words g.option d.option g.value d.value h.0 k.0 h.1 k.1 in
-    let rest = one_options command h.0 given other h.2 (subst (λ (w : List (List ℕ)). AreOptions command w other) (sym first.2) k.2) in
-    let same : g ≡ d = ap (λ (o : JobOption). record g { option = o }) first.0 ∙ ap (λ (v : List ℕ). record d { value = v }) first.1 in
+    let rest =
+    one_options command h.0 given other h.2
+    (subst (λ (w : List (List ℕ)). AreOptions command w other) (sym first.2) k.2) in
+    let same : g ≡ d =
+    ap (λ (o : JobOption). record g { option = o }) first.0 ∙ ap (λ (v : List ℕ). record d { value = v }) first.1 in
     ap (λ (x : GivenValue). x ∷ given) same ∙ ap (λ (xs : List GivenValue). d ∷ xs) rest
 
 -- ---- values
 
-values-append : (option : JobOption) (given more : List GivenValue) → values_of option (given ++ more) ≡ values_of option given ++ values_of option more
+values-append : (option : JobOption) (given more : List GivenValue)
+    → values_of option (given ++ more) ≡ values_of option given ++ values_of option more
 values-append option [] more = refl
 values-append option (g ∷ given) more =
-    elim (same_option g.option option) as (λ (t : Bool). cond t (g.value ∷ values_of option (given ++ more)) (values_of option (given ++ more)) ≡ cond t (g.value ∷ values_of option given) (values_of option given) ++ values_of option more) [
+    elim (same_option g.option option)
+    as (λ (t : Bool).
+    cond t (g.value ∷ values_of option (given ++ more)) (values_of option (given ++ more))
+    ≡ cond t (g.value ∷ values_of option given) (values_of option given) ++ values_of option more) [
       | true ↦ ap (λ (l : List (List ℕ)). g.value ∷ l) (values-append option given more)
       | false ↦ values-append option given more
     ]
@@ -141,7 +169,8 @@ with_chosen-is values Count value = refl
 with_chosen-is values Store value = refl
 with_chosen-is values Game value = refl
 
-put_is : (values : Chosen) (option : JobOption) (value : List ℕ) (other : JobOption) → chosen_of (with_chosen values option value) other ≡ put_of values option value other
+put_is : (values : Chosen) (option : JobOption) (value : List ℕ) (other : JobOption)
+    → chosen_of (with_chosen values option value) other ≡ put_of values option value other
 put_is values option value Port = ap (λ (c : Chosen). c.port) (with_chosen-is values option value)
 put_is values option value Bind = ap (λ (c : Chosen). c.bind) (with_chosen-is values option value)
 put_is values option value Count = ap (λ (c : Chosen). c.count) (with_chosen-is values option value)
@@ -149,15 +178,18 @@ put_is values option value Store = ap (λ (c : Chosen). c.store) (with_chosen-is
 put_is values option value Game = ap (λ (c : Chosen). c.game) (with_chosen-is values option value)
 
 -- one value more, by whether it is this option's
-one_more : (values : Chosen) (option other : JobOption) (value : List ℕ) (same : Bool) → same_option option other ≡ same → chosen_of values option ≡ None
-    → listed (chosen_of values other) ++ cond same (value ∷ []) [] ≡ listed (cond same (Some value) (chosen_of values other))
+one_more : (values : Chosen) (option other : JobOption) (value : List ℕ) (same : Bool) → same_option option other ≡ same
+    → chosen_of values option ≡ None
+    → listed (chosen_of values other) ++ cond same (value ∷ []) []
+    ≡ listed (cond same (Some value) (chosen_of values other))
 one_more values option other value true is none =
     let absent : chosen_of values other ≡ None = ap (chosen_of values) (sym (same_option-is option other is)) ∙ none in
     ap (λ (c : Option (List ℕ)). listed c ++ value ∷ []) absent
 one_more values option other value false is none = append-nil (listed (chosen_of values other))
 
 -- one option more that was not given before
-tells_more : (given : List GivenValue) (values : Chosen) (option : JobOption) (value : List ℕ) → Tells given values → chosen_of values option ≡ None
+tells_more : (given : List GivenValue) (values : Chosen) (option : JobOption) (value : List ℕ) → Tells given values
+    → chosen_of values option ≡ None
     → Tells (given ++ record { option = option; value = value } ∷ []) (with_chosen values option value)
 unfolding put_of
 tells_more given values option value tells none = λ other.
@@ -175,17 +207,24 @@ some_listed : (chosen : Option (List ℕ)) → chosen ≢ None → length (liste
 some_listed None some = absurd (some refl)
 some_listed (Some value) some = refl
 
-own_value : (option : JobOption) (value : List ℕ) (more : List GivenValue) → values_of option (record { option = option; value = value } ∷ more) ≡ value ∷ values_of option more
-own_value option value more = ap (λ (t : Bool). cond t (value ∷ values_of option more) (values_of option more)) (own_option option)
+own_value : (option : JobOption) (value : List ℕ) (more : List GivenValue)
+    → values_of option (record { option = option; value = value } ∷ more) ≡ value ∷ values_of option more
+own_value option value more =
+    ap (λ (t : Bool). cond t (value ∷ values_of option more) (values_of option more)) (own_option option)
 
 -- an option that was given isn't given again
-tells_twice : (given more : List GivenValue) (values other : Chosen) (option : JobOption) (value : List ℕ) → Tells given values → chosen_of values option ≢ None
+tells_twice : (given more : List GivenValue) (values other : Chosen) (option : JobOption) (value : List ℕ)
+    → Tells given values → chosen_of values option ≢ None
     → Tells (given ++ record { option = option; value = value } ∷ more) other → ⊥
 tells_twice given more values other option value tells some both =
-    let all : values_of option (given ++ record { option = option; value = value } ∷ more) ≡ values_of option given ++ (value ∷ values_of option more) =
-    values-append option given (record { option = option; value = value } ∷ more) ∙ ap (λ (l : List (List ℕ)). values_of option given ++ l) (own_value option value more) in
-    let before : length (values_of option given) ≡ 1 = ap length (tells option) ∙ some_listed (chosen_of values option) some in
-    let whole : length (values_of option given ++ (value ∷ values_of option more)) ≤ 1 = subst (λ (l : List (List ℕ)). length l ≤ 1) (sym (both option) ∙ all) (few (chosen_of other option)) in
+    let all : values_of option (given ++ record { option = option; value = value } ∷ more)
+    ≡ values_of option given ++ (value ∷ values_of option more) =
+    values-append option given (record { option = option; value = value } ∷ more)
+    ∙ ap (λ (l : List (List ℕ)). values_of option given ++ l) (own_value option value more) in
+    let before : length (values_of option given) ≡ 1 =
+    ap length (tells option) ∙ some_listed (chosen_of values option) some in
+    let whole : length (values_of option given ++ (value ∷ values_of option more)) ≤ 1 =
+    subst (λ (l : List (List ℕ)). length l ≤ 1) (sym (both option) ∙ all) (few (chosen_of other option)) in
     absurd (omega (arith, before, whole, length-append (values_of option given) (value ∷ values_of option more)))
 
 one_listed : (one other : Option (List ℕ)) → listed one ≡ listed other → one ≡ other
@@ -195,9 +234,11 @@ one_listed (Some v) None e = absurd (let bad : v ∷ [] ≡ [] = e in cc)
 one_listed (Some v) (Some w) e = ap Some (let same : v ∷ [] ≡ w ∷ [] = e in cc)
 
 -- what is given tells one choice
-pub one_choice : (given : List GivenValue) (values other : Chosen) → Tells given values → Tells given other → values ≡ other
+pub one_choice : (given : List GivenValue) (values other : Chosen) → Tells given values → Tells given other
+    → values ≡ other
 one_choice given values other h k =
-    let same : (option : JobOption) → chosen_of values option ≡ chosen_of other option = λ option. one_listed (chosen_of values option) (chosen_of other option) (sym (h option) ∙ k option) in
+    let same : (option : JobOption) → chosen_of values option ≡ chosen_of other option = λ option.
+    one_listed (chosen_of values option) (chosen_of other option) (sym (h option) ∙ k option) in
     ap (λ (p : Option (List ℕ)). record values { port = p }) (same Port)
     ∙ ap (λ (b : Option (List ℕ)). record values { port = other.port; bind = b }) (same Bind)
     ∙ ap (λ (c : Option (List ℕ)). record values { port = other.port; bind = other.bind; count = c }) (same Count)
@@ -209,7 +250,8 @@ one_choice given values other h k =
 pub record SoFar (command : CommandName) (words rest : List (List ℕ)) (values : Chosen) : Type 0 where
   pub done : List GivenValue
   pub before : (more : List GivenValue) → AreOptions command rest more → AreOptions command words (done ++ more)
-  pub only : (all : List GivenValue) → AreOptions command words all → (more : List GivenValue) × (all ≡ done ++ more) × AreOptions command rest more
+  pub only : (all : List GivenValue) → AreOptions command words all
+      → (more : List GivenValue) × (all ≡ done ++ more) × AreOptions command rest more
   pub tells : Tells done values
 
 none_told : (option : JobOption) → [] ≡ listed (chosen_of nothing_chosen option)
@@ -220,53 +262,80 @@ none_told Store = refl
 none_told Game = refl
 
 pub so_far_start : (command : CommandName) (words : List (List ℕ)) → SoFar command words words nothing_chosen
-so_far_start command words = record { done = []; before = λ more h. h; only = λ all h. (all, refl, h); tells = λ option. none_told option }
+so_far_start command words =
+    record { done = []; before = λ more h. h; only = λ all h. (all, refl, h); tells = λ option. none_told option }
 
-module _ (command : CommandName) (words rest : List (List ℕ)) (values : Chosen) (so : SoFar command words rest values) where
-  behind : (option : JobOption) (value : List ℕ) (later : List (List ℕ)) → BeginsWith command rest option value later → (all more : List GivenValue) → all ≡ so.done ++ more → AreOptions command rest more
-      → (less : List GivenValue) × (all ≡ (so.done ++ record { option = option; value = value } ∷ []) ++ less) × AreOptions command later less
-  behind option value later begins all [] is h = absurd (none_first command option value later (subst (λ (w : List (List ℕ)). BeginsWith command w option value later) h begins))
+module _ (command : CommandName) (words rest : List (List ℕ)) (values : Chosen)
+    (so : SoFar command words rest values) where
+  behind : (option : JobOption) (value : List ℕ) (later : List (List ℕ)) → BeginsWith command rest option value later
+      → (all more : List GivenValue) → all ≡ so.done ++ more → AreOptions command rest more
+      → (less : List GivenValue) × (all ≡ (so.done ++ record { option = option; value = value } ∷ []) ++ less)
+      × AreOptions command later less
+  behind option value later begins all [] is h =
+      absurd (none_first command option value later
+      (subst (λ (w : List (List ℕ)). BeginsWith command w option value later) h begins))
   behind option value later begins all (g ∷ more) is h =
       let first = one_first command rest option g.option value g.value later h.0 begins h.1 in
-      let same : record { option = option; value = value } ≡ g = ap (λ (o : JobOption). record { option = o; value = value }) first.0 ∙ ap (λ (v : List ℕ). record g { value = v }) first.1 in (
+      let same : record { option = option; value = value } ≡ g =
+      ap (λ (o : JobOption). record { option = o; value = value }) first.0
+      ∙ ap (λ (v : List ℕ). record g { value = v }) first.1 in (
         more,
-        is ∙ ap (λ (x : GivenValue). so.done ++ x ∷ more) (sym same) ∙ sym (append_assoc so.done (record { option = option; value = value } ∷ []) more),
+        is ∙ ap (λ (x : GivenValue). so.done ++ x ∷ more) (sym same)
+            ∙ sym (append_assoc so.done (record { option = option; value = value } ∷ []) more),
         subst (λ (w : List (List ℕ)). AreOptions command w more) (sym first.2) h.2,
       )
 
-  pub so_far_step : (option : JobOption) (value : List ℕ) (later : List (List ℕ)) → BeginsWith command rest option value later → chosen_of values option ≡ None → SoFar command words later (with_chosen values option value)
+  pub so_far_step : (option : JobOption) (value : List ℕ) (later : List (List ℕ))
+      → BeginsWith command rest option value later → chosen_of values option ≡ None
+      → SoFar command words later (with_chosen values option value)
   so_far_step option value later begins none = record {
     done = so.done ++ record { option = option; value = value } ∷ [];
-    before = λ more h. subst (AreOptions command words) (sym (append_assoc so.done (record { option = option; value = value } ∷ []) more)) (so.before (record { option = option; value = value } ∷ more) (later, begins, h));
+    before = λ more h.
+        subst (AreOptions command words)
+        (sym (append_assoc so.done (record { option = option; value = value } ∷ []) more))
+        (so.before (record { option = option; value = value } ∷ more) (later, begins, h));
     only = λ all h. let m = so.only all h in behind option value later begins all m.0 m.1 m.2;
     tells = tells_more so.done values option value so.tells none;
   }
 
   pub so_far_end : rest ≡ [] → Says command words values
-  so_far_end e = record { given = so.done; options = subst (AreOptions command words) (append-nil so.done) (so.before [] e); once = so.tells }
+  so_far_end e =
+      record {
+        given = so.done;
+        options = subst (AreOptions command words) (append-nil so.done) (so.before [] e);
+        once = so.tells;
+      }
 
-  stuck : rest ≢ [] → ((option : JobOption) (value : List ℕ) (later : List (List ℕ)) → BeginsWith command rest option value later → ⊥) → (more : List GivenValue) → AreOptions command rest more → ⊥
+  stuck : rest ≢ []
+      → ((option : JobOption) (value : List ℕ) (later : List (List ℕ)) → BeginsWith command rest option value later → ⊥)
+      → (more : List GivenValue) → AreOptions command rest more → ⊥
   stuck some none [] h = some h
   stuck some none (g ∷ more) h = none g.option g.value h.0 h.1
 
-  pub so_far_none : rest ≢ [] → ((option : JobOption) (value : List ℕ) (later : List (List ℕ)) → BeginsWith command rest option value later → ⊥)
+  pub so_far_none : rest ≢ []
+      → ((option : JobOption) (value : List ℕ) (later : List (List ℕ)) → BeginsWith command rest option value later → ⊥)
       → (other : Chosen) → Says command words other → ⊥
   so_far_none some none other h = let m = so.only h.given h.options in stuck some none m.0 m.2
 
-  pub so_far_twice : (option : JobOption) (value : List ℕ) (later : List (List ℕ)) → BeginsWith command rest option value later → chosen_of values option ≢ None
+  pub so_far_twice : (option : JobOption) (value : List ℕ) (later : List (List ℕ))
+      → BeginsWith command rest option value later → chosen_of values option ≢ None
       → (other : Chosen) → Says command words other → ⊥
   so_far_twice option value later begins some other h =
       let m = so.only h.given h.options in
       let b = behind option value later begins h.given m.0 m.1 m.2 in
       tells_twice so.done b.0 values other option value so.tells some
-      (subst (λ (l : List GivenValue). Tells l other) (b.1 ∙ append_assoc so.done (record { option = option; value = value } ∷ []) b.0) h.once)
+      (subst (λ (l : List GivenValue). Tells l other)
+      (b.1 ∙ append_assoc so.done (record { option = option; value = value } ∷ []) b.0) h.once)
 
 -- ---- words
 
 -- the words of a command's options tell one choice
-pub one_saying : (command : CommandName) (words : List (List ℕ)) (values other : Chosen) → Says command words values → Says command words other → values ≡ other
+pub one_saying : (command : CommandName) (words : List (List ℕ)) (values other : Chosen) → Says command words values
+    → Says command words other → values ≡ other
 one_saying command words values other h k =
-    one_choice h.given values other h.once (subst (λ (g : List GivenValue). Tells g other) (one_options command words k.given h.given k.options h.options) k.once)
+    one_choice h.given values other h.once
+    (subst (λ (g : List GivenValue). Tells g other) (one_options command words k.given h.given k.options h.options)
+    k.once)
 
 pub some_words : (words : List (String Global)) → (length words == 0) ≡ false → map string_bytes words ≢ []
 some_words [] e bad = absurd (let wrong : true ≡ false = e in cc)
@@ -274,9 +343,16 @@ some_words (word ∷ words) e bad = absurd cc
 
 pub no_words : (words : List (String Global)) → (length words == 0) ≡ true → map string_bytes words ≡ []
 no_words [] e = refl
-no_words (word ∷ words) e = let zero : length (word ∷ words) ≡ 0 = eqb-true (length (word ∷ words)) 0 e in absurd (omega (arith, zero))
+no_words (word ∷ words) e =
+    let zero : length (word ∷ words) ≡ 0 = eqb-true (length (word ∷ words)) 0 e in absurd (omega (arith, zero))
 
 -- what is behind an option is shorter, in words
-pub shorter_words : (command : CommandName) (words rest : List (String Global)) (option : JobOption) (value : List ℕ) → BeginsWith command (map string_bytes words) option value (map string_bytes rest) → length rest < length words
+pub shorter_words : (command : CommandName) (words rest : List (String Global)) (option : JobOption) (value : List ℕ)
+    → BeginsWith command (map string_bytes words) option value (map string_bytes rest) → length rest < length words
 shorter_words command words rest option value begins =
-    omega (arith, shorter command (map string_bytes words) option value (map string_bytes rest) begins, length-map words string_bytes, length-map rest string_bytes)
+    omega (
+      arith,
+      shorter command (map string_bytes words) option value (map string_bytes rest) begins,
+      length-map words string_bytes,
+      length-map rest string_bytes,
+    )

@@ -19,7 +19,8 @@ use Rattle.pgn_book.specs.Stored.{IsStoredChess, stored_text}
 use Rattle.cmd_pgn.specs.Exports.{export_as, exports, game_export}
 
 -- a game more
-pub exports_more : (games : List Shelved) (k : ℕ) (row : Shelved) → k < length games → row ≡ get_or games k row → exports (take (k + 1) games) ≡ exports (take k games) ++ game_export row.game
+pub exports_more : (games : List Shelved) (k : ℕ) (row : Shelved) → k < length games → row ≡ get_or games k row
+    → exports (take (k + 1) games) ≡ exports (take k games) ++ game_export row.game
 exports_more games k row within is =
     ap exports (take_more games k row within ∙ ap (λ (x : Shelved). take k games ++ x ∷ []) (sym is))
     ∙ flat_map-append (λ (x : Shelved). game_export x.game) (take k games) (row ∷ [])
@@ -28,18 +29,23 @@ exports_more games k row within is =
 -- a beginning and what goes on behind it
 pub exports_parted : (games : List Shelved) (k : ℕ) → exports games ≡ exports (take k games) ++ exports (drop k games)
 exports_parted games k =
-    ap exports (sym (take-append-drop k games)) ∙ flat_map-append (λ (x : Shelved). game_export x.game) (take k games) (drop k games)
+    ap exports (sym (take-append-drop k games))
+    ∙ flat_map-append (λ (x : Shelved). game_export x.game) (take k games) (drop k games)
 
 -- the games so far were written, and of the next one a beginning
-module _ (old mid new : Option (List ℕ)) (games : List Shelved) (k : ℕ) (row : Shelved) (within : k < length games) (is : row ≡ get_or games k row)
+module _ (old mid new : Option (List ℕ)) (games : List Shelved) (k : ℕ) (row : Shelved) (within : k < length games)
+    (is : row ≡ get_or games k row)
     (so_far : Appends old mid (exports (take k games))) where
   front : AppendsFront mid new (game_export row.game) → AppendsFront old new (exports games)
   front p =
-      subst (AppendsFront old new) (ap (λ (l : List ℕ). l ++ exports (drop (k + 1) games)) (sym (exports_more games k row within is)) ∙ sym (exports_parted games (k + 1)))
+      subst (AppendsFront old new)
+      (ap (λ (l : List ℕ). l ++ exports (drop (k + 1) games)) (sym (exports_more games k row within is))
+      ∙ sym (exports_parted games (k + 1)))
       (AppendsFront-longer old new (exports (take k games) ++ game_export row.game) (exports (drop (k + 1) games))
       (AppendsFront-behind old mid new (exports (take k games)) (game_export row.game) so_far p))
 
-  pub sent_part : (A B : Type 0) (end : End) → AfterSend {A = A} mid new (game_export row.game) (Err end) → AfterSend {A = B} old new (exports games) (Err end)
+  pub sent_part : (A B : Type 0) (end : End) → AfterSend {A = A} mid new (game_export row.game) (Err end)
+      → AfterSend {A = B} old new (exports games) (Err end)
   sent_part A B Done h = absurd h
   sent_part A B ReadFault h = absurd h
   sent_part A B WriteFault h = front h
@@ -48,15 +54,19 @@ module _ (old mid new : Option (List ℕ)) (games : List Shelved) (k : ℕ) (row
   sent_part A B Spent h = absurd h
 
   pub sent_next : Appends mid new (game_export row.game) → Appends old new (exports (take (k + 1) games))
-  sent_next p = subst (Appends old new) (sym (exports_more games k row within is)) (Appends-trans old mid new (exports (take k games)) (game_export row.game) so_far p)
+  sent_next p =
+      subst (Appends old new) (sym (exports_more games k row within is))
+      (Appends-trans old mid new (exports (take k games)) (game_export row.game) so_far p)
 
 -- ---- one game
 
-own_export : (game : StoredGame) (made : PgnGame) → made ≡ stored_text game → IsStoredChess game → export_text made ≡ game_export game
+own_export : (game : StoredGame) (made : PgnGame) → made ≡ stored_text game → IsStoredChess game
+    → export_text made ≡ game_export game
 own_export game made is chess = ap export_text is ∙ sym (ap (λ (v : Variant). export_as v game) chess.variant)
 
 -- what is made of a game is exported
-pub made_export : (game : StoredGame) (found : Option PgnGame) (made : PgnGame) → found ≡ Some made → IfSome found (λ g. (g ≡ stored_text game) × IsStoredChess game) →
+pub made_export : (game : StoredGame) (found : Option PgnGame) (made : PgnGame) → found ≡ Some made
+    → IfSome found (λ g. (g ≡ stored_text game) × IsStoredChess game) →
     export_text made ≡ game_export game
 made_export game found made e told =
     let own = subst (λ (r : Option PgnGame). IfSome r (λ g. (g ≡ stored_text game) × IsStoredChess game)) e told in

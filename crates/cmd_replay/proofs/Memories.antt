@@ -12,7 +12,8 @@ use Rattle.cmd_replay.specs.Evening.{AreMemories, Row, Seats, Comes, remembered,
 use Rattle.cmd_replay.specs.EveningsProof.{remembered-push}
 
 -- all sessions are new
-pub new_memories : (memories : List MemoryState) → memories ≡ replicate 64 newcomer → AreMemories memories (λ session. newcomer)
+pub new_memories : (memories : List MemoryState) → memories ≡ replicate 64 newcomer
+    → AreMemories memories (λ session. newcomer)
 new_memories memories is =
     let count : length (replicate 64 newcomer) ≡ 64 = length-replicate 64 newcomer in
     subst (λ (m : List MemoryState). AreMemories m (λ session. newcomer)) (sym is)
@@ -24,8 +25,11 @@ new_memories memories is =
     })
 
 -- what a session remembers, read out of the list in which the memory of one of them was set
-one_read : (memories : List MemoryState) (remember : ℕ → MemoryState) (one session : ℕ) (kept : MemoryState) (same : Bool) → (one == session) ≡ same → 1 ≤ one → 1 ≤ session → session ≤ 64
-    → AreMemories memories remember → get_or (slice_set memories (one - 1) kept) (session - 1) newcomer ≡ cond same kept (remember session)
+one_read : (memories : List MemoryState) (remember : ℕ → MemoryState) (one session : ℕ) (kept : MemoryState)
+    (same : Bool)
+    → (one == session) ≡ same → 1 ≤ one → 1 ≤ session → session ≤ 64
+    → AreMemories memories remember
+    → get_or (slice_set memories (one - 1) kept) (session - 1) newcomer ≡ cond same kept (remember session)
 one_read memories remember one session kept true same low first last h =
     let count = h.count in
     let is : one ≡ session = eqb-true one session same in
@@ -37,15 +41,20 @@ one_read memories remember one session kept false same low first last h =
     ∙ get_or_from_slice_get memories (session - 1) (remember session) newcomer (h.each session first last)
 
 -- what is remembered after a line more
-pub one_memory : (memories : List MemoryState) (rows : List Row) (next : ScriptLine) (made : Log) (bytes : List ℕ) (kept : MemoryState) → 1 ≤ next.session
-    → AreMemories memories (remembered rows) → AreMemories (slice_set memories (next.session - 1) kept) (remembered (rows ++ Comes next made bytes kept ∷ []))
+pub one_memory : (memories : List MemoryState) (rows : List Row) (next : ScriptLine) (made : Log) (bytes : List ℕ)
+    (kept : MemoryState)
+    → 1 ≤ next.session
+    → AreMemories memories (remembered rows)
+    → AreMemories (slice_set memories (next.session - 1) kept) (remembered (rows ++ Comes next made bytes kept ∷ []))
 one_memory memories rows next made bytes kept low h =
     let row : Row = Comes next made bytes kept in
-    let count : length (slice_set memories (next.session - 1) kept) ≡ 64 = length-set memories (next.session - 1) kept ∙ h.count in
+    let count : length (slice_set memories (next.session - 1) kept) ≡ 64 =
+    length-set memories (next.session - 1) kept ∙ h.count in
     record {
       count = count;
       each = λ session first last.
-          slice_get-get_or (slice_set memories (next.session - 1) kept) (session - 1) newcomer (omega (arith, count, first, last))
+          slice_get-get_or (slice_set memories (next.session - 1) kept) (session - 1) newcomer
+          (omega (arith, count, first, last))
           ∙ ap Some
           (one_read memories (remembered rows) next.session session kept (next.session == session) refl low first last h
           ∙ sym (remembered-push rows row session));
@@ -53,10 +62,12 @@ one_memory memories rows next made bytes kept low h =
 
 -- ---- the first sessions are seated
 
-length-seated_from : (place : ℕ) (names : List (List ℕ)) (memories : List MemoryState) → length (seated_from place names memories) ≡ length memories
+length-seated_from : (place : ℕ) (names : List (List ℕ)) (memories : List MemoryState)
+    → length (seated_from place names memories) ≡ length memories
 length-seated_from place [] memories = refl
 length-seated_from place (name ∷ names) memories =
-    length-seated_from (place + 1) names (slice_set memories place (seated name)) ∙ length-set memories place (seated name)
+    length-seated_from (place + 1) names (slice_set memories place (seated name))
+    ∙ length-set memories place (seated name)
 
 -- those before them are as they were
 before_seated : (place : ℕ) (names : List (List ℕ)) (memories : List MemoryState) (p : ℕ) → p < place
@@ -68,7 +79,8 @@ before_seated place (name ∷ names) memories p low =
 
 -- each name has its session, and those behind them are as they were
 among_seated : (place : ℕ) (names : List (List ℕ)) (memories : List MemoryState) (p : ℕ) → place + p < length memories
-    → get_or (seated_from place names memories) (place + p) newcomer ≡ option_map_or seated (slice_get names p) (get_or memories (place + p) newcomer)
+    → get_or (seated_from place names memories) (place + p) newcomer
+    ≡ option_map_or seated (slice_get names p) (get_or memories (place + p) newcomer)
 among_seated place [] memories p inside = refl
 among_seated place (name ∷ names) memories zero inside =
     let here : place + 0 ≡ place = omega arith in
@@ -87,7 +99,8 @@ among_seated place (name ∷ names) memories (suc p) inside =
     ∙ ap (option_map_or seated (slice_get names p)) (other ∙ ap (λ (k : ℕ). get_or memories k newcomer) (sym next))
 
 -- the first sessions are seated, and the others are new
-pub seated_memories : (memories : List MemoryState) (seat : SeatLine) (made : Log) → AreMemories memories (λ session. newcomer)
+pub seated_memories : (memories : List MemoryState) (seat : SeatLine) (made : Log)
+    → AreMemories memories (λ session. newcomer)
     → AreMemories (seated_from 0 seat.names memories) (remembered (Seats seat made ∷ []))
 seated_memories memories seat made h =
     let set = seated_from 0 seat.names memories in
@@ -98,7 +111,8 @@ seated_memories memories seat made h =
           let place = session - 1 in
           let whole : 0 + place ≡ place = omega arith in
           let new : get_or memories (0 + place) newcomer ≡ newcomer =
-          ap (λ (k : ℕ). get_or memories k newcomer) whole ∙ get_or_from_slice_get memories place newcomer newcomer (h.each session first last) in
+          ap (λ (k : ℕ). get_or memories k newcomer) whole
+          ∙ get_or_from_slice_get memories place newcomer newcomer (h.each session first last) in
           slice_get-get_or set place newcomer (omega (arith, count, first, last))
           ∙ ap Some
           (ap (λ (k : ℕ). get_or set k newcomer) (sym whole)

@@ -9,7 +9,9 @@ use Rattle.replay_core.proofs.Events.{one_line}
 use Rattle.cmd_replay.specs.Evening.{IsNoNext}
 
 -- it may not come here
-pub out_of_order : (progress : Attendance) (bytes : List ℕ) (found : ScriptLine) → bytes ≡ script_text found → IsScriptLine found
-    → ((seated : ℕ) (lines : List Arrival) → IsAfter progress seated lines → MayCome seated lines found → ⊥) → IsNoNext progress bytes
+pub out_of_order : (progress : Attendance) (bytes : List ℕ) (found : ScriptLine) → bytes ≡ script_text found
+    → IsScriptLine found
+    → ((seated : ℕ) (lines : List Arrival) → IsAfter progress seated lines → MayCome seated lines found → ⊥)
+    → IsNoNext progress bytes
 out_of_order progress bytes found written spelled may_not seated lines after line is text may =
     may_not seated lines after (subst (MayCome seated lines) (one_line line found is spelled (sym text ∙ written)) may)

@@ -167,7 +167,8 @@ abbrev pub fetching : ℕ → ℕ × Timed
 fetching session = (session, timed 0 (Lobby lobby_act.Fetch))
 
 -- the acts of a seat line: all enter in the order of their names; where they are four the first and the fourth become
--- partners, and the second and the third; the first challenges the second, who accepts; and all take what waits for them
+-- partners, and the second and the third; the first challenges the second, who accepts; and all take what waits for
+-- them
 abbrev pub seating_acts : List (List ℕ) → Terms → List (ℕ × Timed)
 seating_acts (one ∷ two ∷ []) terms =
     entering 1 one ∷ entering 2 two
@@ -290,7 +291,8 @@ seated_from place (name ∷ names) memories = seated_from (place + 1) names (sli
 
 -- the order of the lines behind these rows is kept
 abbrev pub KeepsOrder : Attendance → Option Attendance → Type 0
-KeepsOrder progress order = (rows : List Row) → IsOrdered order rows → IsAfter progress (seated_by rows) (arrivals_of rows)
+KeepsOrder progress order =
+    (rows : List Row) → IsOrdered order rows → IsAfter progress (seated_by rows) (arrivals_of rows)
 
 -- the line is this one of a session, and may come next
 pub record IsNext (progress : Attendance) (bytes : List ℕ) (line : ScriptLine) : Type 0 where
@@ -330,7 +332,8 @@ pub record HasTaken (asked : Input) (session moment : ℕ) (old : ServerState) (
   pub more : new ≡ record old { log = old.log ++ entries }
 
 -- a session went by its course of leaving to its end, from what it remembers, and nothing else was done
-pub record HasGone (memory : MemoryState) (session moment : ℕ) (old new : ServerState) (last : MemoryState) : Type 0 where
+pub record HasGone (memory : MemoryState) (session moment : ℕ) (old new : ServerState)
+    (last : MemoryState) : Type 0 where
   pub entries : Log
   pub follows : Follows (departing memory) session moment entries [] last
   pub more : new ≡ record old { log = old.log ++ entries }

@@ -26,9 +26,11 @@ unopened_at store.WriteFault answer p = no_failure answer p
 unopened_at store.Memory answer p = p
 
 -- a command that went on once the store was opened
-pub loads_opened : (old new : Calls) (outcome : Outcome) → OnKeeperFault outcome ⊥ → LoadsOnce old new (λ answer. answer ≡ Done) → LoadsOnce old new (EndsAt outcome)
+pub loads_opened : (old new : Calls) (outcome : Outcome) → OnKeeperFault outcome ⊥
+    → LoadsOnce old new (λ answer. answer ≡ Done) → LoadsOnce old new (EndsAt outcome)
 loads_opened old new outcome calm p = (p.0, p.1, opened_at outcome p.0 calm p.2)
 
 -- and one whose store couldn't be opened
-pub loads_unopened : (old new : Calls) (fault : StoreFault) → LoadsOnce old new (FailsAt fault) → LoadsOnce old new (EndsAt (outcome_of fault))
+pub loads_unopened : (old new : Calls) (fault : StoreFault) → LoadsOnce old new (FailsAt fault)
+    → LoadsOnce old new (EndsAt (outcome_of fault))
 loads_unopened old new fault p = (p.0, p.1, unopened_at fault p.0 p.2)

@@ -12,7 +12,8 @@ unfolding answer_line
 answer_line-none t bytes e = ap (option_map (line_done t)) e
 
 -- any other
-pub answer_line-some : (t : TourneyState) (bytes : List ℕ) (line : TourneyLine) → tourney_line bytes ≡ Some line → answer_line t bytes ≡ Some (line_done t line)
+pub answer_line-some : (t : TourneyState) (bytes : List ℕ) (line : TourneyLine) → tourney_line bytes ≡ Some line
+    → answer_line t bytes ≡ Some (line_done t line)
 unfolding answer_line
 answer_line-some t bytes line e = ap (option_map (line_done t)) e
 

@@ -56,7 +56,8 @@ line_done t (Round round) = (t, answer_text (flat_map (pair_text t.players)) (pa
 line_done t (Report white black score) = acted done_text t (reporting t (key_of white) (key_of black) score)
 line_done t Table = (t, answer_text (rows_text t.players 1) (table_told t))
 
--- what a line that isn't empty makes of the tourney, and what is written for it; nothing where it is outside the grammar
+-- what a line that isn't empty makes of the tourney, and what is written for it; nothing where it is outside the
+-- grammar
 unfoldable pub answer_line : TourneyState → List ℕ → Option (TourneyState × List ℕ)
 answer_line t line = option_map (line_done t) (tourney_line line)
 

@@ -6,7 +6,8 @@ use Rattle.std.proofs.lemmas.List.{drop_more, take_more, map-append, append_asso
 abbrev pub changed_below : {X : Type 0} → (X → X) → List X → ℕ → List X
 changed_below f xs i = map f (take i xs) ++ drop i xs
 
-pub set-changed_below : {X : Type 0} (f : X → X) (xs ys : List X) (i : ℕ) (x : X) → i < length xs → ys ≡ changed_below f xs i → x ≡ get_or ys i x → set ys i (f x) ≡ changed_below f xs (i + 1)
+pub set-changed_below : {X : Type 0} (f : X → X) (xs ys : List X) (i : ℕ) (x : X) → i < length xs
+    → ys ≡ changed_below f xs i → x ≡ get_or ys i x → set ys i (f x) ≡ changed_below f xs (i + 1)
 set-changed_below f xs ys i x within so_far read =
     let front = map f (take i xs) in
     let rest = drop (i + 1) xs in

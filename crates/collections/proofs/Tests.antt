@@ -4,7 +4,8 @@ use Rattle.std.specs.List.{filter, list_any}
 use Rattle.std.proofs.lemmas.Bool.{cond_both, or_from, or_parts}
 
 -- no item that is kept passes it either
-pub list_any-filter : {X : Type 0} (p q : X → Bool) (xs : List X) → list_any p xs ≡ false → list_any p (filter q xs) ≡ false
+pub list_any-filter : {X : Type 0} (p q : X → Bool) (xs : List X) → list_any p xs ≡ false
+    → list_any p (filter q xs) ≡ false
 list_any-filter p q [] none = refl
 list_any-filter p q (x ∷ xs) none =
     let both = or_parts (p x) (list_any p xs) none in

@@ -9,7 +9,8 @@ use Rattle.command_words.specs.Blanks.{trimmed, first_word, rest_of}
 use Rattle.command_words.specs.Aliases.{alias_of, expanded}
 use Rattle.command_words.specs.Commands.{command_after, command_in, command_made}
 
-pub read_after_is : (aliases : List Alias) (line bytes text word : List ℕ) (alias : Option Alias) (result : Result Command Fail)
+pub read_after_is : (aliases : List Alias) (line bytes text word : List ℕ) (alias : Option Alias)
+    (result : Result Command Fail)
     → bytes ≡ line → text ≡ trimmed bytes → word ≡ first_word text → alias ≡ alias_of aliases word
     → Gives (command_after alias text) result → Gives (command_in aliases line) result
 read_after_is aliases line bytes text word alias result b t w a gives =
@@ -25,4 +26,5 @@ pub made_is : (alias_text text bytes rest made slice : List ℕ) (result : Resul
 made_is alias_text text bytes rest made slice result b r m s gives =
     subst (λ (x : List ℕ). Gives (command_made (expanded x (rest_of text))) result) b
     (subst (λ (x : List ℕ). Gives (command_made (expanded bytes x)) result) r
-    (subst (λ (x : List ℕ). Gives (command_made x) result) m (subst (λ (x : List ℕ). Gives (command_made x) result) s gives)))
+    (subst (λ (x : List ℕ). Gives (command_made x) result) m
+    (subst (λ (x : List ℕ). Gives (command_made x) result) s gives)))

@@ -20,18 +20,21 @@ no_nought b e = grind (arith, nat_tests)
 is_no_nought : (b : ℕ) → b ≢ 48 → not (b == 48) ≡ true
 is_no_nought b e = grind (arith, nat_tests)
 
-decimal_spelled : (word : List ℕ) → is_decimal word ≡ true → digits_value 10 word < 2 ^ 64 → decimal (digits_value 10 word) ≡ word
+decimal_spelled : (word : List ℕ) → is_decimal word ≡ true → digits_value 10 word < 2 ^ 64
+    → decimal (digits_value 10 word) ≡ word
 decimal_spelled [] e small = absurd (let bad : false ≡ true = e in cc)
 decimal_spelled (b ∷ []) e small = decimal-digits_value own (b ∷ []) e (omega arith) (λ nought. refl) small
 decimal_spelled (b ∷ c ∷ word) e small =
     let both = and_parts (not (b == 48)) (all_ascii_digits (b ∷ c ∷ word)) e in
     decimal-digits_value own (b ∷ c ∷ word) both.1 (omega arith) (λ nought. absurd (no_nought b both.0 nought)) small
 
-is_decimal_of : (word : List ℕ) → 0 < length word → all_ascii_digits word ≡ true → (get_or word 0 0 ≡ 48 → length word ≡ 1) → is_decimal word ≡ true
+is_decimal_of : (word : List ℕ) → 0 < length word → all_ascii_digits word ≡ true
+    → (get_or word 0 0 ≡ 48 → length word ≡ 1) → is_decimal word ≡ true
 is_decimal_of [] some digits first = absurd (omega arith)
 is_decimal_of (b ∷ []) some digits first = digits
 is_decimal_of (b ∷ c ∷ word) some digits first =
-    and_from (not (b == 48)) (all_ascii_digits (b ∷ c ∷ word)) (is_no_nought b (λ nought. let one = first nought in omega arith)) digits
+    and_from (not (b == 48)) (all_ascii_digits (b ∷ c ∷ word))
+    (is_no_nought b (λ nought. let one = first nought in omega arith)) digits
 
 first_digit : (n : ℕ) → n < 2 ^ 64 → get_or (decimal n) 0 0 ≡ 48 → length (decimal n) ≡ 1
 first_digit zero small e = ap length (decimal_digit 0 (omega arith))
@@ -52,22 +55,28 @@ number_of-decimal most n within small =
     ap (λ (t : Bool). cond t (Some (digits_value 10 (decimal n))) None) yes ∙ ap (λ (m : ℕ). Some m) value
 
 -- what is read as a number is its decimal, within the limit
-pub number_of-spelled : (most : ℕ) (word : List ℕ) (n : ℕ) → most < 2 ^ 64 → number_of most word ≡ Some n → IsDecimal most word n
+pub number_of-spelled : (most : ℕ) (word : List ℕ) (n : ℕ) → most < 2 ^ 64 → number_of most word ≡ Some n
+    → IsDecimal most word n
 unfolding number_of
 number_of-spelled most word n small e =
-    elim (is_decimal word && nat_le (digits_value 10 word) most) as (λ t. (is_decimal word && nat_le (digits_value 10 word) most) ≡ t → cond t (Some (digits_value 10 word)) None ≡ Some n → IsDecimal most word n) [
+    elim (is_decimal word && nat_le (digits_value 10 word) most)
+    as (λ t.
+    (is_decimal word && nat_le (digits_value 10 word) most) ≡ t → cond t (Some (digits_value 10 word)) None ≡ Some n
+    → IsDecimal most word n) [
       | true ↦ λ is e.
           let both = and_parts (is_decimal word) (nat_le (digits_value 10 word) most) is in
           let within : digits_value 10 word ≤ most = at_least _ most both.1 in
           let same : digits_value 10 word ≡ n = cc in
-          subst (λ (m : ℕ). (word ≡ decimal m) × (m ≤ most)) same (sym (decimal_spelled word both.0 (omega arith)), within)
+          subst (λ (m : ℕ). (word ≡ decimal m) × (m ≤ most)) same
+          (sym (decimal_spelled word both.0 (omega arith)), within)
       | false ↦ λ is e. absurd (let bad : None ≡ Some n = e in cc)
     ] refl e
 
 pub read_is : (most : ℕ) (word : List ℕ) (n : ℕ) → most < 2 ^ 64 → IsDecimal most word n → Some n ≡ number_of most word
 read_is most word n small is = sym (ap (number_of most) is.0 ∙ number_of-decimal most n is.1 small)
 
-pub unread_is : (most : ℕ) (word : List ℕ) → most < 2 ^ 64 → ((n : ℕ) → n ≤ most → word ≢ decimal n) → None ≡ number_of most word
+pub unread_is : (most : ℕ) (word : List ℕ) → most < 2 ^ 64 → ((n : ℕ) → n ≤ most → word ≢ decimal n)
+    → None ≡ number_of most word
 unread_is most word small none =
     elim (number_of most word) as (λ o. number_of most word ≡ o → None ≡ o) [
       | None ↦ λ e. refl

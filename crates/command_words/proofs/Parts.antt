@@ -37,20 +37,30 @@ StartsWord (b ∷ text) = is_blank b ≡ false
 
 words_of-blank : (b : ℕ) (text : List ℕ) → is_blank b ≡ true → words_of (b ∷ text) ≡ words_of text
 unfolding words_of
-words_of-blank b text e = ap (λ (t : Bool). filter is_word (cond t ([] ∷ slice_split is_blank text) (onto_first b (slice_split is_blank text)))) e
+words_of-blank b text e =
+    ap
+    (λ (t : Bool). filter is_word (cond t ([] ∷ slice_split is_blank text) (onto_first b (slice_split is_blank text))))
+    e
 
-skipped : (text : List ℕ) → (words_of (drop (prefix_len Blank text) text) ≡ words_of text) × StartsWord (drop (prefix_len Blank text) text)
+skipped : (text : List ℕ)
+    → (words_of (drop (prefix_len Blank text) text) ≡ words_of text) × StartsWord (drop (prefix_len Blank text) text)
 skipped [] = (refl, tt)
 skipped (b ∷ text) =
-    elim (is_blank b) as (λ t. is_blank b ≡ t → (words_of (drop (prefix_len Blank (b ∷ text)) (b ∷ text)) ≡ words_of (b ∷ text)) × StartsWord (drop (prefix_len Blank (b ∷ text)) (b ∷ text))) [
+    elim (is_blank b)
+    as (λ t.
+    is_blank b ≡ t
+    → (words_of (drop (prefix_len Blank (b ∷ text)) (b ∷ text)) ≡ words_of (b ∷ text))
+    × StartsWord (drop (prefix_len Blank (b ∷ text)) (b ∷ text))) [
       | true ↦ λ is.
           let further = skipped text in
           let one = prefix_yes Blank b text (not-not (is_blank b) ∙ is) in
-          subst (λ (n : ℕ). (words_of (drop n (b ∷ text)) ≡ words_of (b ∷ text)) × StartsWord (drop n (b ∷ text))) (sym one)
+          subst (λ (n : ℕ). (words_of (drop n (b ∷ text)) ≡ words_of (b ∷ text)) × StartsWord (drop n (b ∷ text)))
+          (sym one)
           (further.0 ∙ sym (words_of-blank b text is), further.1)
       | false ↦ λ is.
           let none = prefix_no Blank b text (not-not (is_blank b) ∙ is) in
-          subst (λ (n : ℕ). (words_of (drop n (b ∷ text)) ≡ words_of (b ∷ text)) × StartsWord (drop n (b ∷ text))) (sym none) (refl, is)
+          subst (λ (n : ℕ). (words_of (drop n (b ∷ text)) ≡ words_of (b ∷ text)) × StartsWord (drop n (b ∷ text)))
+          (sym none) (refl, is)
     ] refl
 
 behind_is : (text : List ℕ) → behind_blanks text ≡ drop (prefix_len Blank text) text
@@ -82,9 +92,14 @@ parted (b ∷ text) =
           let none = prefix_no Letter b text (ap not is) in
           record {
             others = slice_split is_blank text;
-            parts = subst (λ (n : ℕ). slice_split is_blank (b ∷ text) ≡ take n (b ∷ text) ∷ slice_split is_blank text) (sym none)
-                (ap (λ (t : Bool). cond t ([] ∷ slice_split is_blank text) (onto_first b (slice_split is_blank text))) is);
-            words = subst (λ (n : ℕ). filter is_word (slice_split is_blank text) ≡ words_of (drop n (b ∷ text))) (sym none) (sym (words_of-blank b text is));
+            parts =
+                subst (λ (n : ℕ). slice_split is_blank (b ∷ text) ≡ take n (b ∷ text) ∷ slice_split is_blank text)
+                (sym none)
+                (ap (λ (t : Bool). cond t ([] ∷ slice_split is_blank text) (onto_first b (slice_split is_blank text)))
+                is);
+            words =
+                subst (λ (n : ℕ). filter is_word (slice_split is_blank text) ≡ words_of (drop n (b ∷ text))) (sym none)
+                (sym (words_of-blank b text is));
           }
       | false ↦ λ is.
           let further = parted text in
@@ -92,8 +107,11 @@ parted (b ∷ text) =
           record {
             others = further.others;
             parts = subst (λ (n : ℕ). slice_split is_blank (b ∷ text) ≡ take n (b ∷ text) ∷ further.others) (sym one)
-                (ap (λ (t : Bool). cond t ([] ∷ slice_split is_blank text) (onto_first b (slice_split is_blank text))) is ∙ ap (onto_first b) further.parts);
-            words = subst (λ (n : ℕ). filter is_word further.others ≡ words_of (drop n (b ∷ text))) (sym one) further.words;
+                (ap (λ (t : Bool). cond t ([] ∷ slice_split is_blank text) (onto_first b (slice_split is_blank text)))
+                is
+                ∙ ap (onto_first b) further.parts);
+            words =
+                subst (λ (n : ℕ). filter is_word further.others ≡ words_of (drop n (b ∷ text))) (sym one) further.words;
           }
     ] refl
 
@@ -101,18 +119,25 @@ word_length-is : (text : List ℕ) → word_length text ≡ prefix_len Letter te
 word_length-is text = place_or_length is_blank text
 
 -- a text that begins with a word has that word, and then the words of the rest
-pub words_of-first : (text : List ℕ) → StartsWord text → 0 < length text → words_of text ≡ first_word text ∷ words_of (rest_of text)
+pub words_of-first : (text : List ℕ) → StartsWord text → 0 < length text
+    → words_of text ≡ first_word text ∷ words_of (rest_of text)
 unfolding words_of
 words_of-first [] starts some = absurd (omega arith)
 words_of-first (b ∷ text) starts some =
     let split = parted (b ∷ text) in
     let one = prefix_yes Letter b text (ap not starts) in
     let rest : words_of (rest_of (b ∷ text)) ≡ words_of (drop (prefix_len Letter (b ∷ text)) (b ∷ text)) =
-    words_of-behind_blanks (drop (word_length (b ∷ text)) (b ∷ text)) ∙ ap (λ (n : ℕ). words_of (drop n (b ∷ text))) (word_length-is (b ∷ text)) in
-    let word : first_word (b ∷ text) ≡ take (prefix_len Letter (b ∷ text)) (b ∷ text) = ap (λ (n : ℕ). take n (b ∷ text)) (word_length-is (b ∷ text)) in
-    let kept : filter is_word (take (prefix_len Letter (b ∷ text)) (b ∷ text) ∷ split.others) ≡ take (prefix_len Letter (b ∷ text)) (b ∷ text) ∷ filter is_word split.others =
-    subst (λ (n : ℕ). filter is_word (take n (b ∷ text) ∷ split.others) ≡ take n (b ∷ text) ∷ filter is_word split.others) (sym one) refl in
-    ap (filter is_word) split.parts ∙ kept ∙ ap (λ (w : List ℕ). w ∷ filter is_word split.others) (sym word) ∙ ap (λ (ws : Words). first_word (b ∷ text) ∷ ws) (split.words ∙ sym rest)
+    words_of-behind_blanks (drop (word_length (b ∷ text)) (b ∷ text))
+    ∙ ap (λ (n : ℕ). words_of (drop n (b ∷ text))) (word_length-is (b ∷ text)) in
+    let word : first_word (b ∷ text) ≡ take (prefix_len Letter (b ∷ text)) (b ∷ text) =
+    ap (λ (n : ℕ). take n (b ∷ text)) (word_length-is (b ∷ text)) in
+    let kept : filter is_word (take (prefix_len Letter (b ∷ text)) (b ∷ text) ∷ split.others)
+    ≡ take (prefix_len Letter (b ∷ text)) (b ∷ text) ∷ filter is_word split.others =
+    subst
+    (λ (n : ℕ). filter is_word (take n (b ∷ text) ∷ split.others) ≡ take n (b ∷ text) ∷ filter is_word split.others)
+    (sym one) refl in
+    ap (filter is_word) split.parts ∙ kept ∙ ap (λ (w : List ℕ). w ∷ filter is_word split.others) (sym word)
+    ∙ ap (λ (ws : Words). first_word (b ∷ text) ∷ ws) (split.words ∙ sym rest)
 
 is_empty : (text : List ℕ) → length text == 0 ≡ true → words_of text ≡ []
 unfolding words_of
@@ -124,7 +149,8 @@ is_long [] e = absurd (let bad : true ≡ false = e in cc)
 is_long (b ∷ text) e = omega arith
 
 pub none_is : (text behind : List ℕ) → behind ≡ behind_blanks text → length behind == 0 ≡ true → words_of text ≡ []
-none_is text behind b e = sym (words_of-behind_blanks text) ∙ is_empty (behind_blanks text) (subst (λ (x : List ℕ). length x == 0 ≡ true) b e)
+none_is text behind b e =
+    sym (words_of-behind_blanks text) ∙ is_empty (behind_blanks text) (subst (λ (x : List ℕ). length x == 0 ≡ true) b e)
 
 pub cut_is : (text behind word rest : List ℕ) → behind ≡ behind_blanks text → length behind == 0 ≡ false
     → word ≡ first_word behind → rest ≡ rest_of behind → words_of text ≡ word ∷ words_of rest

@@ -15,31 +15,37 @@ All-at P (y ∷ ys) (suc k) x h e = All-at P ys k x (All-drop P 1 (y ∷ ys) h) 
 -- nobody is thinking from a later moment than the latest
 pub begin-latest : (boards : List Board) (k : ℕ) (b : Board) → slice_get boards k ≡ Some b → b.begin ≤ latest boards
 begin-latest [] k b e = absurd cc
-begin-latest (c ∷ boards) zero b e = let same : c ≡ b = cc in let begin : c.begin ≡ b.begin = ap (λ (x : Board). x.begin) same in omega arith
+begin-latest (c ∷ boards) zero b e =
+    let same : c ≡ b = cc in let begin : c.begin ≡ b.begin = ap (λ (x : Board). x.begin) same in omega arith
 begin-latest (c ∷ boards) (suc k) b e = let later = begin-latest boards k b e in omega arith
 
-set_board-cons : (b : Board) (boards : List Board) (k : ℕ) (o : Option Board) → set_board (b ∷ boards) (suc k) o ≡ b ∷ set_board boards k o
+set_board-cons : (b : Board) (boards : List Board) (k : ℕ) (o : Option Board)
+    → set_board (b ∷ boards) (suc k) o ≡ b ∷ set_board boards k o
 set_board-cons b boards k None = refl
 set_board-cons b boards k (Some c) = refl
 
-changed_at-cons : (b : Board) (boards : List Board) (k : ℕ) (change : Board → Board) → changed_at (b ∷ boards) (suc k) change ≡ b ∷ changed_at boards k change
+changed_at-cons : (b : Board) (boards : List Board) (k : ℕ) (change : Board → Board)
+    → changed_at (b ∷ boards) (suc k) change ≡ b ∷ changed_at boards k change
 changed_at-cons b boards k change = set_board-cons b boards k (option_map change (slice_get boards k))
 
 -- nobody is thinking from a later moment, where the change leaves none
-pub latest-changed_at : (boards : List Board) (k moment : ℕ) (change : Board → Board) → ((b : Board) → b.begin ≤ moment → (change b).begin ≤ moment) →
+pub latest-changed_at : (boards : List Board) (k moment : ℕ) (change : Board → Board)
+    → ((b : Board) → b.begin ≤ moment → (change b).begin ≤ moment) →
     latest boards ≤ moment → latest (changed_at boards k change) ≤ moment
 latest-changed_at [] k moment change early h = h
 latest-changed_at (b ∷ boards) zero moment change early h =
     let changed : (change b).begin ≤ moment = early b (omega arith) in
     omega arith
 latest-changed_at (b ∷ boards) (suc k) moment change early h =
-    let rest : latest (changed_at boards k change) ≤ moment = latest-changed_at boards k moment change early (omega arith) in
+    let rest : latest (changed_at boards k change) ≤ moment =
+    latest-changed_at boards k moment change early (omega arith) in
     let same : latest (changed_at (b ∷ boards) (suc k) change) ≡ max b.begin (latest (changed_at boards k change)) =
     ap latest (changed_at-cons b boards k change) in
     omega arith
 
 -- the boards have what the change keeps of each, as their numbers
-pub map-changed_at : {X : Type 0} (of : Board → X) (boards : List Board) (k : ℕ) (change : Board → Board) → ((b : Board) → of (change b) ≡ of b) →
+pub map-changed_at : {X : Type 0} (of : Board → X) (boards : List Board) (k : ℕ) (change : Board → Board)
+    → ((b : Board) → of (change b) ≡ of b) →
     map of (changed_at boards k change) ≡ map of boards
 map-changed_at of [] k change same = refl
 map-changed_at of (b ∷ boards) zero change same = ap (λ x. x ∷ map of boards) (same b)
@@ -55,10 +61,12 @@ All-changed_at P (b ∷ boards) zero change step h =
     All-cons P (change b) boards (step b refl (h 0 b (omega arith))) (All-drop P 1 (b ∷ boards) h)
 All-changed_at P (b ∷ boards) (suc k) change step h =
     subst (All P) (sym (changed_at-cons b boards k change))
-    (All-cons P b (changed_at boards k change) (h 0 b (omega arith)) (All-changed_at P boards k change step (All-drop P 1 (b ∷ boards) h)))
+    (All-cons P b (changed_at boards k change) (h 0 b (omega arith))
+    (All-changed_at P boards k change step (All-drop P 1 (b ∷ boards) h)))
 
 -- and all of them where the change changes nothing
 pub nothing-changed_at : (boards : List Board) (k : ℕ) → changed_at boards k (λ b. b) ≡ boards
 nothing-changed_at [] k = refl
 nothing-changed_at (b ∷ boards) zero = refl
-nothing-changed_at (b ∷ boards) (suc k) = changed_at-cons b boards k (λ c. c) ∙ ap (λ (bs : List Board). b ∷ bs) (nothing-changed_at boards k)
+nothing-changed_at (b ∷ boards) (suc k) =
+    changed_at-cons b boards k (λ c. c) ∙ ap (λ (bs : List Board). b ∷ bs) (nothing-changed_at boards k)

@@ -44,7 +44,8 @@ abbrev with_hands : Position → Hand → Hand → Position
 with_hands p white black = record p { white = white; black = black }
 
 -- what is allowed on the board itself is allowed with other hands
-allowed_still : (p : Position) (white black : Hand) (m : Move) → IsOnBoard m → Allowed p m → Allowed (with_hands p white black) m
+allowed_still : (p : Position) (white black : Hand) (m : Move) → IsOnBoard m → Allowed p m
+    → Allowed (with_hands p white black) m
 allowed_still p white black (Plain a b promo) on h = record {
   move = record { from = h.move.from; to = h.move.to; goes = goes (man_at p.men a) h.move.goes };
   safe = h.safe;
@@ -59,13 +60,15 @@ allowed_still p white black (Castle long) on h = record {
 }
 allowed_still p white black (Drop k to) on h = absurd on
 
-answer_still : (v : Variant) (p : Position) (white black : Hand) → v ≡ Bughouse → HasAnswer v p → HasAnswer v (with_hands p white black)
+answer_still : (v : Variant) (p : Position) (white black : Hand) → v ≡ Bughouse → HasAnswer v p
+    → HasAnswer v (with_hands p white black)
 answer_still Chess p white black pair h = absurd (let no : Chess ≡ Bughouse = pair in cc)
 answer_still Crazyhouse p white black pair h = absurd (let no : Crazyhouse ≡ Bughouse = pair in cc)
 answer_still (Fischer number) p white black pair h = absurd (let no : Fischer number ≡ Bughouse = pair in cc)
 answer_still Bughouse p white black pair h = elim h [
   | inl moves ↦ inl (moves.0, moves.1, allowed_still p white black moves.0 moves.1 moves.2)
-  | inr shields ↦ inr (shields.0, record { square = shields.1.square; free = shields.1.free; shielded = shields.1.shielded })
+  | inr shields ↦
+      inr (shields.0, record { square = shields.1.square; free = shields.1.free; shielded = shields.1.shielded })
 ]
 
 -- so no hand ends a game of bughouse
@@ -81,16 +84,23 @@ end_still p white black pair s is goes Stalemate now = absurd (now.2 pair)
 
 goes_still : (p : Position) (white black : Hand) → p.variant ≡ Bughouse → GoesOn p → GoesOn (with_hands p white black)
 goes_still p white black pair goes =
-    end_still p white black pair (result p) (state_told p) goes (result (with_hands p white black)) (state_told (with_hands p white black))
+    end_still p white black pair (result p) (state_told p) goes (result (with_hands p white black))
+    (state_told (with_hands p white black))
 
 -- ---- what is learnt
 
-pub learnt_goes : (b : Board) (m : Move) → b.terms.variant ≡ Bughouse → GoesOn (position_of b) → GoesOn (position_of (learnt b m))
+pub learnt_goes : (b : Board) (m : Move) → b.terms.variant ≡ Bughouse → GoesOn (position_of b)
+    → GoesOn (position_of (learnt b m))
 unfolding position_of
 learnt_goes b m pair goes =
     let p : Position = position_after b.terms.variant b.all b.number in
-    let q : Position = position_after b.terms.variant (b.all ++ record { board = other_board b.number; what = m } ∷ []) b.number in
-    let same = other_board_stays b.terms.variant b.all (record { board = other_board b.number; what = m }) b.number (boards_differ b.number) in
+    let q : Position =
+    position_after b.terms.variant (b.all ++ record { board = other_board b.number; what = m } ∷ []) b.number in
+    let same =
+    other_board_stays b.terms.variant b.all (record {
+      board = other_board b.number;
+      what = m;
+    }) b.number (boards_differ b.number) in
     let is : q ≡ with_hands p q.white q.black = (λ i. record {
       variant = b.terms.variant;
       men = same.men i;
@@ -107,19 +117,22 @@ learnt_goes b m pair goes =
 
 pub go_start : (t : Terms) (moment : ℕ) → GoOn (new_boards t moment)
 unfolding position_of
-go_start t moment = All-from (λ (b : Board). GoesOn (position_of b)) (board_numbers t.variant) t moment (λ n. start_goes t.variant n)
+go_start t moment =
+    All-from (λ (b : Board). GoesOn (position_of b)) (board_numbers t.variant) t moment (λ n. start_goes t.variant n)
 
 acked_position : (b : Board) (c : Colour) (stamp : ℕ) → position_of (acknowledged b c stamp) ≡ position_of b
 unfolding position_of
 acked_position b c stamp = same_acknowledged (λ (x : Board). position_of x) b c stamp refl
 
-pub go_acked : (boards : List Board) (board : BoardNumber) (c : Colour) (stamp : ℕ) → GoOn boards → GoOn (boards_acked boards board c stamp)
+pub go_acked : (boards : List Board) (board : BoardNumber) (c : Colour) (stamp : ℕ) → GoOn boards
+    → GoOn (boards_acked boards board c stamp)
 go_acked boards board c stamp goes =
     All-changed_at (λ (b : Board). GoesOn (position_of b)) boards (place board) (λ b. acknowledged b c stamp)
     (λ b there h. subst GoesOn (sym (acked_position b c stamp)) h) goes
 
 -- a pair is played by the terms of bughouse
-pair_terms : (t : Terms) (b c : Board) → AreSoundBoards t (b ∷ c ∷ []) → (b.terms.variant ≡ Bughouse) × (c.terms.variant ≡ Bughouse)
+pair_terms : (t : Terms) (b c : Board) → AreSoundBoards t (b ∷ c ∷ [])
+    → (b.terms.variant ≡ Bughouse) × (c.terms.variant ≡ Bughouse)
 pair_terms t b c s =
     let pair : t.variant ≡ Bughouse = (numbers_of_two t.variant b c s.numbers).0 in
     let first = All-at (λ (x : Board). x.terms ≡ t) (b ∷ c ∷ []) 0 b s.terms refl in
@@ -130,8 +143,10 @@ pair_terms t b c s =
 abbrev Goes : Board → Type 0
 Goes b = GoesOn (position_of b)
 
-go_made : (t : Terms) (boards : List Board) (board : BoardNumber) (own : Board) (change : Board → Board) (m : Move) → AreSoundBoards t boards → GoOn boards →
-    slice_get boards (place board) ≡ Some own → IfSome (slice_get (stepped boards board change m) (place board)) (λ b. GoesOn (position_of b)) →
+go_made : (t : Terms) (boards : List Board) (board : BoardNumber) (own : Board) (change : Board → Board) (m : Move)
+    → AreSoundBoards t boards → GoOn boards →
+    slice_get boards (place board) ≡ Some own
+    → IfSome (slice_get (stepped boards board change m) (place board)) (λ b. GoesOn (position_of b)) →
     GoOn (stepped boards board change m)
 go_made t [] First own change m s goes here there = absurd cc
 go_made t [] Second own change m s goes here there = absurd cc
@@ -139,23 +154,35 @@ go_made t (b ∷ []) First own change m s goes here there = All-cons Goes (chang
 go_made t (b ∷ []) Second own change m s goes here there = absurd cc
 go_made t (b ∷ c ∷ []) First own change m s goes here there =
     All-cons Goes (change b) (learnt c m ∷ []) there
-    (All-cons Goes (learnt c m) [] (learnt_goes c m (pair_terms t b c s).1 (All-at Goes (b ∷ c ∷ []) 1 c goes refl)) (All-nil Goes))
+    (All-cons Goes (learnt c m) [] (learnt_goes c m (pair_terms t b c s).1 (All-at Goes (b ∷ c ∷ []) 1 c goes refl))
+    (All-nil Goes))
 go_made t (b ∷ c ∷ []) Second own change m s goes here there =
-    All-cons Goes (learnt b m) (change c ∷ []) (learnt_goes b m (pair_terms t b c s).0 (All-at Goes (b ∷ c ∷ []) 0 b goes refl))
+    All-cons Goes (learnt b m) (change c ∷ [])
+    (learnt_goes b m (pair_terms t b c s).0 (All-at Goes (b ∷ c ∷ []) 0 b goes refl))
     (All-cons Goes (change c) [] there (All-nil Goes))
 go_made t (b ∷ c ∷ d ∷ more) board own change m s goes here there = absurd (never_three t.variant b c d more s.numbers)
 
-go_answered : (t : Terms) (boards : List Board) (board : BoardNumber) (moment : ℕ) (c : Colour) (word : MoveWord) (stamp : Option ℕ) → AreSoundBoards t boards → GoOn boards →
+go_answered : (t : Terms) (boards : List Board) (board : BoardNumber) (moment : ℕ) (c : Colour) (word : MoveWord)
+    (stamp : Option ℕ)
+    → AreSoundBoards t boards → GoOn boards →
     (answer : Result Move Refusal) → word_at (slice_get boards (place board)) c word ≡ answer →
-    IfSome (slice_get (boards_after boards board moment stamp answer) (place board)) (λ b. GoesOn (position_of b)) → GoOn (boards_after boards board moment stamp answer)
+    IfSome (slice_get (boards_after boards board moment stamp answer) (place board)) (λ b. GoesOn (position_of b))
+    → GoOn (boards_after boards board moment stamp answer)
 go_answered t boards board moment c word stamp s goes (Err cause) e there =
-    subst GoOn (sym (nothing-changed_at (changed_at boards (place board) (λ b. b)) (place (other_number board)) ∙ nothing-changed_at boards (place board))) goes
+    subst GoOn
+    (sym (nothing-changed_at (changed_at boards (place board) (λ b. b)) (place (other_number board))
+    ∙ nothing-changed_at boards (place board)))
+    goes
 go_answered t boards board moment c word stamp s goes (Ok m) e there =
     let found = played_there (slice_get boards (place board)) c word m e in
     go_made t boards board found.0 (λ b. with_half_move b m moment stamp) m s goes found.1 there
 
-pub go_played : (t : Terms) (boards : List Board) (board : BoardNumber) (moment : ℕ) (c : Colour) (word : MoveWord) (stamp : Option ℕ) → AreSoundBoards t boards → GoOn boards →
-    IfSome (slice_get (boards_after boards board moment stamp (word_at (slice_get boards (place board)) c word)) (place board)) (λ b. GoesOn (position_of b)) →
+pub go_played : (t : Terms) (boards : List Board) (board : BoardNumber) (moment : ℕ) (c : Colour) (word : MoveWord)
+    (stamp : Option ℕ)
+    → AreSoundBoards t boards → GoOn boards →
+    IfSome
+    (slice_get (boards_after boards board moment stamp (word_at (slice_get boards (place board)) c word)) (place board))
+    (λ b. GoesOn (position_of b)) →
     GoOn (boards_after boards board moment stamp (word_at (slice_get boards (place board)) c word))
 go_played t boards board moment c word stamp s goes there =
     go_answered t boards board moment c word stamp s goes (word_at (slice_get boards (place board)) c word) refl there

@@ -22,14 +22,16 @@ position_there own other h =
     λ i. position_after (terms i).variant (all i) (number i)
 
 -- so what is allowed here is allowed there, and captures the same man
-pub learn_allowed : (own other : Board) (m : Move) → AreLinked own other → Allowed (position_of own) m → Allowed (partner_position other) m
+pub learn_allowed : (own other : Board) (m : Move) → AreLinked own other → Allowed (position_of own) m
+    → Allowed (partner_position other) m
 learn_allowed own other m h allowed = subst (λ (p : Position). Allowed p m) (position_there own other h) allowed
 
 pub learn_captured : (own other : Board) (m : Move) → AreLinked own other → captured own m ≡ captured_there other m
 learn_captured own other m h = ap (λ (p : Position). taken p.men m) (position_there own other h)
 
 -- and there is room for it there
-pub learn_room : (own other : Board) → AreLinked own other → length own.list < 1200 → length other.all < length other.list + 1200
+pub learn_room : (own other : Board) → AreLinked own other → length own.list < 1200
+    → length other.all < length other.list + 1200
 learn_room own other h short =
     let all : length other.all ≡ length own.all = ap length h.together in
     omega (arith, h.each, all, short)
@@ -51,10 +53,12 @@ pub linked-learnt : (own other after told : Board) (m : Move) (moment : ℕ) (st
     after ≡ with_half_move own m moment stamp → told ≡ learnt other m → AreLinked after told
 linked-learnt own other after told m moment stamp h played learns =
     subst (λ (b : Board). AreLinked b told) (sym played)
-    (subst (λ (b : Board). AreLinked (with_half_move own m moment stamp) b) (sym learns) (linked-played own other m moment stamp h))
+    (subst (λ (b : Board). AreLinked (with_half_move own m moment stamp) b) (sym learns)
+    (linked-played own other m moment stamp h))
 
 -- and so where the half-move came with its charge
-linked-with_put : (own other : Board) (p : Played) → AreLinked own other → AreLinked (with_put own p) (learnt other p.what)
+linked-with_put : (own other : Board) (p : Played) → AreLinked own other
+    → AreLinked (with_put own p) (learnt other p.what)
 linked-with_put own other p h =
     let number : other_board other.number ≡ own.number = omega (arith, h.numbers) in
     record {
@@ -65,7 +69,8 @@ linked-with_put own other p h =
       each = grind (arith, length-append, h.each);
     }
 
-pub linked-put : (own other after told : Board) (p : Played) → AreLinked own other → after ≡ with_put own p → told ≡ learnt other p.what → AreLinked after told
+pub linked-put : (own other after told : Board) (p : Played) → AreLinked own other → after ≡ with_put own p
+    → told ≡ learnt other p.what → AreLinked after told
 linked-put own other after told p h put learns =
     subst (λ (b : Board). AreLinked b told) (sym put)
     (subst (λ (b : Board). AreLinked (with_put own p) b) (sym learns) (linked-with_put own other p h))

@@ -96,19 +96,23 @@ pub timed_is : (t : Terms) → IsTrue (is_timed t) ↔ AreTimed t
 timed_is t = ((Decides-ltb 0 (t.minutes + t.increment)).0, (Decides-ltb 0 (t.minutes + t.increment)).1)
 
 -- its charge stands where one belongs
-stands_where : (t : Terms) (own new : Board) (p : Played) → own.terms ≡ t → IsOneMore own p new → IsSome p.charge ↔ (AreTimed t × (2 ≤ length own.list))
+stands_where : (t : Terms) (own new : Board) (p : Played) → own.terms ≡ t → IsOneMore own p new
+    → IsSome p.charge ↔ (AreTimed t × (2 ≤ length own.list))
 stands_where t own new p terms more =
-    let there : slice_get new.list (length own.list) ≡ Some p = ap (λ (l : List Played). slice_get l (length own.list)) more.list ∙ slice_get-append_end own.list p in
+    let there : slice_get new.list (length own.list) ≡ Some p =
+    ap (λ (l : List Played). slice_get l (length own.list)) more.list ∙ slice_get-append_end own.list p in
     let stands = (more.score.charged (length own.list) p there).stands in
     let same : new.terms ≡ t = more.terms ∙ terms in (
       λ h. let s = stands.0 h in ((timed_is t).0 (subst (λ (x : Terms). IsTrue (is_timed x)) same s.0), s.1),
       λ h. stands.1 (subst (λ (x : Terms). IsTrue (is_timed x)) (sym same) ((timed_is t).1 h.0), h.1),
     )
 
-may_follow : (t : Terms) (own new : Board) (p : Played) (at : Position) (made number : ℕ) → own.terms ≡ t → at ≡ position_of own → made ≡ length own.list → IsOneMore own p new →
+may_follow : (t : Terms) (own new : Board) (p : Played) (at : Position) (made number : ℕ) → own.terms ≡ t
+    → at ≡ position_of own → made ≡ length own.list → IsOneMore own p new →
     MayFollow at t made (half_on number p)
 may_follow t own new p at made number terms here count more =
-    let charged = subst (λ (k : ℕ). IsSome p.charge ↔ (AreTimed t × (2 ≤ k))) (sym count) (stands_where t own new p terms more) in
+    let charged =
+    subst (λ (k : ℕ). IsSome p.charge ↔ (AreTimed t × (2 ≤ k))) (sym count) (stands_where t own new p terms more) in
     record {
       going = subst GoesOn (sym here) more.going;
       room =
@@ -121,11 +125,13 @@ may_follow t own new p at made number terms here count more =
 -- ---- it may come after the half-moves of all boards
 
 -- the position of a board is that of the half-moves on its number
-pub position_is : (t : Terms) (halves : List Half) (b : Board) → b.terms ≡ t → half_moves halves ≡ b.all → position_on t.variant halves b.number ≡ position_of b
+pub position_is : (t : Terms) (halves : List Half) (b : Board) → b.terms ≡ t → half_moves halves ≡ b.all
+    → position_on t.variant halves b.number ≡ position_of b
 unfolding position_of
 position_is t halves b terms all = λ i. position_after (sym terms i).variant (all i) b.number
 
-pub made_is : (halves : List Half) (b : Board) → IsTrueScore b → half_moves halves ≡ b.all → made_on halves b.number ≡ length b.list
+pub made_is : (halves : List Half) (b : Board) → IsTrueScore b → half_moves halves ≡ b.all
+    → made_on halves b.number ≡ length b.list
 made_is halves b score all =
     ap (λ (T : List HalfMove). length (moves_of b.number T)) all ∙ ap length score.own ∙ length-map b.list (λ p. p.what)
 
@@ -136,29 +142,39 @@ other_none (Fischer number) halves n single = tt
 other_none Bughouse halves n single = absurd (single refl)
 
 -- the other board of a pair, where it is at no end
-other_of_two : (t : Terms) (halves : List Half) (n : ℕ) (c : Board) → t.variant ≡ Bughouse → 3 - n ≡ c.number → c.terms ≡ t → half_moves halves ≡ c.all → GoesOn (position_of c) →
+other_of_two : (t : Terms) (halves : List Half) (n : ℕ) (c : Board) → t.variant ≡ Bughouse → 3 - n ≡ c.number
+    → c.terms ≡ t → half_moves halves ≡ c.all → GoesOn (position_of c) →
     OtherGoesOn t.variant halves n
 other_of_two t halves n c pair number terms all goes =
     let there : position_on t.variant halves c.number ≡ position_of c = position_is t halves c terms all in
-    let here : GoesOn (position_on t.variant halves (3 - n)) = subst (λ (k : ℕ). GoesOn (position_on t.variant halves k)) (sym number) (subst GoesOn (sym there) goes) in
-    subst (λ (v : Variant). OtherGoesOn v halves n) (sym pair) (subst (λ (v : Variant). GoesOn (position_on v halves (3 - n))) pair here)
+    let here : GoesOn (position_on t.variant halves (3 - n)) =
+    subst (λ (k : ℕ). GoesOn (position_on t.variant halves k)) (sym number) (subst GoesOn (sym there) goes) in
+    subst (λ (v : Variant). OtherGoesOn v halves n) (sym pair)
+    (subst (λ (v : Variant). GoesOn (position_on v halves (3 - n))) pair here)
 
-pub other_goes : (t : Terms) (boards : List Board) (board : BoardNumber) (own : Board) → AreSoundBoards t boards → slice_get boards (place board) ≡ Some own →
-    ((other : Board) → slice_get boards (place (other_number board)) ≡ Some other → GoesOn (position_of other)) → OtherGoesOn t.variant (halves_of boards) own.number
+pub other_goes : (t : Terms) (boards : List Board) (board : BoardNumber) (own : Board) → AreSoundBoards t boards
+    → slice_get boards (place board) ≡ Some own →
+    ((other : Board) → slice_get boards (place (other_number board)) ≡ Some other → GoesOn (position_of other))
+    → OtherGoesOn t.variant (halves_of boards) own.number
 other_goes t [] board own s there goes = absurd (never_none t.variant s.numbers)
-other_goes t (b ∷ []) board own s there goes = other_none t.variant (halves_of (b ∷ [])) own.number (number_of_one t.variant b s.numbers).0
+other_goes t (b ∷ []) board own s there goes =
+    other_none t.variant (halves_of (b ∷ [])) own.number (number_of_one t.variant b s.numbers).0
 other_goes t (b ∷ c ∷ []) First own s there goes =
     let two = numbers_of_two t.variant b c s.numbers in
     let same : b.number ≡ own.number = ap (λ (x : Board). x.number) (same_Some b own there) in
     other_of_two t (halves_of (b ∷ c ∷ [])) own.number c two.0 (omega (arith, two.1, two.2, same))
     (All-head (λ (x : Board). x.terms ≡ t) c [] (All-tail (λ (x : Board). x.terms ≡ t) b (c ∷ []) s.terms))
-    (All-at (λ (x : Board). half_moves (halves_of (b ∷ c ∷ [])) ≡ x.all) (b ∷ c ∷ []) 1 c (all_of t (b ∷ c ∷ []) s) refl) (goes c refl)
+    (All-at (λ (x : Board). half_moves (halves_of (b ∷ c ∷ [])) ≡ x.all) (b ∷ c ∷ []) 1 c (all_of t (b ∷ c ∷ []) s)
+    refl)
+    (goes c refl)
 other_goes t (b ∷ c ∷ []) Second own s there goes =
     let two = numbers_of_two t.variant b c s.numbers in
     let same : c.number ≡ own.number = ap (λ (x : Board). x.number) (same_Some c own there) in
     other_of_two t (halves_of (b ∷ c ∷ [])) own.number b two.0 (omega (arith, two.1, two.2, same))
     (All-head (λ (x : Board). x.terms ≡ t) b (c ∷ []) s.terms)
-    (All-at (λ (x : Board). half_moves (halves_of (b ∷ c ∷ [])) ≡ x.all) (b ∷ c ∷ []) 0 b (all_of t (b ∷ c ∷ []) s) refl) (goes b refl)
+    (All-at (λ (x : Board). half_moves (halves_of (b ∷ c ∷ [])) ≡ x.all) (b ∷ c ∷ []) 0 b (all_of t (b ∷ c ∷ []) s)
+    refl)
+    (goes b refl)
 other_goes t (b ∷ c ∷ d ∷ more) board own s there goes = absurd (never_three t.variant b c d more s.numbers)
 
 -- the number of a board is one of its variant's
@@ -178,17 +194,21 @@ pub record MayGrow (t : Terms) (halves : List Half) (h : Half) : Type 0 where
   pub each : AllByRecursion (IsHalf t.variant) (halves ++ h ∷ [])
   pub played : CanBePlayed t (halves ++ h ∷ [])
 
-pub may_grow : (t : Terms) (boards : List Board) (board : BoardNumber) (own new : Board) (p : Played) → AreSoundBoards t boards → slice_get boards (place board) ≡ Some own → IsOneMore own p new →
-    ((other : Board) → slice_get boards (place (other_number board)) ≡ Some other → GoesOn (position_of other)) → MayGrow t (halves_of boards) (half_on own.number p)
+pub may_grow : (t : Terms) (boards : List Board) (board : BoardNumber) (own new : Board) (p : Played)
+    → AreSoundBoards t boards → slice_get boards (place board) ≡ Some own → IsOneMore own p new →
+    ((other : Board) → slice_get boards (place (other_number board)) ≡ Some other → GoesOn (position_of other))
+    → MayGrow t (halves_of boards) (half_on own.number p)
 may_grow t boards board own new p s there more goes =
     let k : ℕ = place board in
     let halves : List Half = halves_of boards in
     let terms : own.terms ≡ t = All-at (λ (x : Board). x.terms ≡ t) boards k own s.terms there in
-    let all : half_moves halves ≡ own.all = All-at (λ (x : Board). half_moves halves ≡ x.all) boards k own (all_of t boards s) there in
+    let all : half_moves halves ≡ own.all =
+    All-at (λ (x : Board). half_moves halves ≡ x.all) boards k own (all_of t boards s) there in
     let range = number_in t.variant k own.number (number_at t.variant boards k own s.numbers there) in
     let score : IsTrueScore own = All-at IsTrueScore boards k own s.scores there in
     let comes : MayCome t halves (half_on own.number p) = record {
-      follows = may_follow t own new p (position_on t.variant halves own.number) (made_on halves own.number) own.number terms
+      follows =
+          may_follow t own new p (position_on t.variant halves own.number) (made_on halves own.number) own.number terms
           (position_is t halves own terms all) (made_is halves own score all) more;
       other = other_goes t boards board own s there goes;
     } in

@@ -75,7 +75,8 @@ others_go (Some b) e other there =
     let same : b ≡ other = cc in
     subst (λ (x : Board). GoesOn (position_of x)) same (going_is (position_of b) e)
 
-put_more : (own : Board) (p : Played) → IsTrueScore own → IsTrue (takes_played own p) → IsCharge p.charge → IsOneMore own p (with_put own p)
+put_more : (own : Board) (p : Played) → IsTrueScore own → IsTrue (takes_played own p) → IsCharge p.charge
+    → IsOneMore own p (with_put own p)
 put_more own p score takes charge =
     let parts = takes_played-parts own p takes in
     record {
@@ -107,20 +108,28 @@ record AreAt (t : Terms) (moment : ℕ) (halves : List Half) (boards : List Boar
   fresh : All (IsFresh moment) boards
 
 -- what a board keeps where the other one learns
-fresh_learnt : (moment : ℕ) (boards : List Board) (board : BoardNumber) (p : Played) → All (IsFresh moment) boards → All (IsFresh moment) (boards_put boards board p)
+fresh_learnt : (moment : ℕ) (boards : List Board) (board : BoardNumber) (p : Played) → All (IsFresh moment) boards
+    → All (IsFresh moment) (boards_put boards board p)
 fresh_learnt moment boards board p f =
-    All-changed_at (IsFresh moment) (changed_at boards (place board) (λ b. with_put b p)) (place (other_number board)) (λ b. learnt b p.what)
+    All-changed_at (IsFresh moment) (changed_at boards (place board) (λ b. with_put b p)) (place (other_number board))
+    (λ b. learnt b p.what)
     (λ b there h. record { begin = h.begin; kept = h.kept; played = h.played; resumed = h.resumed })
     (All-changed_at (IsFresh moment) boards (place board) (λ b. with_put b p) (λ b there h. fresh_put moment b p h) f)
 
-step_at : (t : Terms) (moment : ℕ) (boards : List Board) (before : List Half) (board : BoardNumber) (n : ℕ) (own : Board) (p : Played) → AreAt t moment before boards →
+step_at : (t : Terms) (moment : ℕ) (boards : List Board) (before : List Half) (board : BoardNumber) (n : ℕ)
+    (own : Board) (p : Played)
+    → AreAt t moment before boards →
     slice_get boards (place board) ≡ Some own → number_of board ≡ n → IsTrue (takes_played own p) → IsCharge p.charge →
-    other_goes_on (slice_get boards (place (other_number board))) ≡ true → AreAt t moment (before ++ half_on n p ∷ []) (boards_put boards board p)
+    other_goes_on (slice_get boards (place (other_number board))) ≡ true
+    → AreAt t moment (before ++ half_on n p ∷ []) (boards_put boards board p)
 step_at t moment boards before board n own p at there number takes charge others =
     let s : AreSoundBoards t boards = at.known.sound in
-    let is : own.number ≡ n = number_is t.variant board own.number (number_at t.variant boards (place board) own s.numbers there) ∙ number in
+    let is : own.number ≡ n =
+    number_is t.variant board own.number (number_at t.variant boards (place board) own s.numbers there) ∙ number in
     let more = put_more own p (All-at IsTrueScore boards (place board) own s.scores there) takes charge in
-    let step = sound_step t boards board own p (λ b. with_put b p) s there more (others_go (slice_get boards (place (other_number board))) others) in
+    let step =
+    sound_step t boards board own p (λ b. with_put b p) s there more
+    (others_go (slice_get boards (place (other_number board))) others) in
     let halves : halves_of boards ++ half_on own.number p ∷ [] ≡ before ++ half_on n p ∷ [] =
     (λ i. at.known.made i ++ half_on (is i) p ∷ []) in
     record {
@@ -129,39 +138,54 @@ step_at t moment boards before board n own p at there number takes charge others
     }
 
 -- a half-move that the boards take comes behind the others
-step_taken : (t : Terms) (moment : ℕ) (boards : List Board) (before : List Half) (n : ℕ) (board : BoardNumber) (p : Played) → AreAt t moment before boards → IsCharge p.charge →
-    numbered n ≡ Some board → takes_half boards board p ≡ true → AreAt t moment (before ++ half_on n p ∷ []) (boards_put boards board p)
+step_taken : (t : Terms) (moment : ℕ) (boards : List Board) (before : List Half) (n : ℕ) (board : BoardNumber)
+    (p : Played)
+    → AreAt t moment before boards → IsCharge p.charge →
+    numbered n ≡ Some board → takes_half boards board p ≡ true
+    → AreAt t moment (before ++ half_on n p ∷ []) (boards_put boards board p)
 step_taken t moment boards before n board p at charge is e =
-    on_board (slice_get boards (place board)) refl (and_parts (own_takes (slice_get boards (place board)) p) (other_goes_on (slice_get boards (place (other_number board)))) e)
+    on_board (slice_get boards (place board)) refl
+    (and_parts (own_takes (slice_get boards (place board)) p)
+    (other_goes_on (slice_get boards (place (other_number board)))) e)
   where
     on_board : (o : Option Board) → slice_get boards (place board) ≡ o →
-        (own_takes (slice_get boards (place board)) p ≡ true) × (other_goes_on (slice_get boards (place (other_number board))) ≡ true) →
+        (own_takes (slice_get boards (place board)) p ≡ true)
+        × (other_goes_on (slice_get boards (place (other_number board))) ≡ true) →
         AreAt t moment (before ++ half_on n p ∷ []) (boards_put boards board p)
-    on_board None there h = absurd (let none : own_takes None p ≡ true = ap (λ (o : Option Board). own_takes o p) (sym there) ∙ h.0 in cc)
+    on_board None there h =
+        absurd (let none : own_takes None p ≡ true = ap (λ (o : Option Board). own_takes o p) (sym there) ∙ h.0 in cc)
     on_board (Some own) there h =
-        step_at t moment boards before board n own p at there (number_of-numbered n board is) (ap (λ (o : Option Board). own_takes o p) (sym there) ∙ h.0) charge h.1
+        step_at t moment boards before board n own p at there (number_of-numbered n board is)
+        (ap (λ (o : Option Board). own_takes o p) (sym there) ∙ h.0) charge h.1
 
 -- ---- the whole list
 
 -- the boards after the half-moves of a record from one on whose board has this number, if one has it
 abbrev from_one : List Board → Half → List Half → Option BoardNumber → Option (List Board)
-from_one boards h halves board = option_and_then (λ after. played_on after halves) (option_and_then (boards_with boards (played_of h)) board)
+from_one boards h halves board =
+    option_and_then (λ after. played_on after halves) (option_and_then (boards_with boards (played_of h)) board)
 
 -- and if it takes it
 abbrev from_taken : List Board → Half → List Half → BoardNumber → Bool → Option (List Board)
 from_taken boards h halves board takes =
-    option_and_then (λ after. played_on after halves) (if takes then Some (boards_put boards board (played_of h)) else None)
+    option_and_then (λ after. played_on after halves)
+    (if takes then Some (boards_put boards board (played_of h)) else None)
 
-run : (t : Terms) (moment : ℕ) (before halves : List Half) (boards after : List Board) → AreAt t moment before boards → AllByRecursion (IsHalf t.variant) halves →
+run : (t : Terms) (moment : ℕ) (before halves : List Half) (boards after : List Board) → AreAt t moment before boards
+    → AllByRecursion (IsHalf t.variant) halves →
     played_on boards halves ≡ Some after → AreAt t moment (before ++ halves) after
 run t moment before [] boards after at each e =
     let same : boards ≡ after = cc in
-    subst (λ (bs : List Board). AreAt t moment (before ++ []) bs) same (subst (λ (hs : List Half). AreAt t moment hs boards) (sym (append-nil before)) at)
+    subst (λ (bs : List Board). AreAt t moment (before ++ []) bs) same
+    (subst (λ (hs : List Half). AreAt t moment hs boards) (sym (append-nil before)) at)
 run t moment before (h ∷ halves) boards after at each e =
-    elim (numbered h.board) as (λ o. numbered h.board ≡ o → from_one boards h halves o ≡ Some after → AreAt t moment (before ++ h ∷ halves) after) [
+    elim (numbered h.board)
+    as (λ o.
+    numbered h.board ≡ o → from_one boards h halves o ≡ Some after → AreAt t moment (before ++ h ∷ halves) after) [
       | None ↦ λ is f. absurd cc
       | Some board ↦ λ is f.
-          elim (takes_half boards board (played_of h)) as (λ b. takes_half boards board (played_of h) ≡ b → from_taken boards h halves board b ≡ Some after →
+          elim (takes_half boards board (played_of h))
+          as (λ b. takes_half boards board (played_of h) ≡ b → from_taken boards h halves board b ≡ Some after →
           AreAt t moment (before ++ h ∷ halves) after) [
             | true ↦ λ takes g.
                 subst (λ (hs : List Half). AreAt t moment hs after) (append_assoc before (h ∷ []) halves)
@@ -174,20 +198,27 @@ run t moment before (h ∷ halves) boards after at each e =
 begun : (t : Terms) (moment : ℕ) → AreAt t moment [] (new_boards t moment)
 begun t moment = record {
   known = record { sound = sound_start t moment; made = halves_of-from (board_numbers t.variant) t moment };
-  fresh = All-from (IsFresh moment) (board_numbers t.variant) t moment (λ n. record { begin = refl; kept = refl; played = refl; resumed = refl });
+  fresh =
+      All-from (IsFresh moment) (board_numbers t.variant) t moment
+      (λ n. record { begin = refl; kept = refl; played = refl; resumed = refl });
 }
 
-pub replayed_at : (t : Terms) (halves : List Half) (moment : ℕ) (boards : List Board) → AllByRecursion (IsHalf t.variant) halves → replayed t halves moment ≡ Some boards →
+pub replayed_at : (t : Terms) (halves : List Half) (moment : ℕ) (boards : List Board)
+    → AllByRecursion (IsHalf t.variant) halves → replayed t halves moment ≡ Some boards →
     AreSoundWith t halves boards
-replayed_at t halves moment boards each e = (run t moment [] halves (new_boards t moment) boards (begun t moment) each e).known
+replayed_at t halves moment boards each e =
+    (run t moment [] halves (new_boards t moment) boards (begun t moment) each e).known
 
-pub replayed_fresh : (t : Terms) (halves : List Half) (moment : ℕ) (boards : List Board) → AllByRecursion (IsHalf t.variant) halves → replayed t halves moment ≡ Some boards →
+pub replayed_fresh : (t : Terms) (halves : List Half) (moment : ℕ) (boards : List Board)
+    → AllByRecursion (IsHalf t.variant) halves → replayed t halves moment ≡ Some boards →
     All (IsFresh moment) boards
-replayed_fresh t halves moment boards each e = (run t moment [] halves (new_boards t moment) boards (begun t moment) each e).fresh
+replayed_fresh t halves moment boards each e =
+    (run t moment [] halves (new_boards t moment) boards (begun t moment) each e).fresh
 
 -- ---- what can be played is taken
 
-charge_stands : (some timed moved : Bool) (long : Type 0) (clocks : Type 0) → (IsTrue some ↔ (clocks × long)) → (IsTrue timed ↔ clocks) → (IsTrue moved ↔ long) → beq some (timed && moved) ≡ true
+charge_stands : (some timed moved : Bool) (long : Type 0) (clocks : Type 0) → (IsTrue some ↔ (clocks × long))
+    → (IsTrue timed ↔ clocks) → (IsTrue moved ↔ long) → beq some (timed && moved) ≡ true
 charge_stands true true true long clocks h i j = refl
 charge_stands true true false long clocks h i j = absurd (false≢true (j.1 (h.0 refl).1))
 charge_stands true false moved long clocks h i j = absurd (false≢true (i.1 (h.0 refl).0))
@@ -195,61 +226,80 @@ charge_stands false true true long clocks h i j = absurd (false≢true (h.1 (i.0
 charge_stands false true false long clocks h i j = refl
 charge_stands false false moved long clocks h i j = refl
 
-own_may : (t : Terms) (own : Board) (before : List Half) (h : Half) → IsTrueScore own → own.played ≡ length own.list → own.terms ≡ t → half_moves before ≡ own.all → own.number ≡ h.board →
+own_may : (t : Terms) (own : Board) (before : List Half) (h : Half) → IsTrueScore own → own.played ≡ length own.list
+    → own.terms ≡ t → half_moves before ≡ own.all → own.number ≡ h.board →
     MayCome t before h → takes_played own (played_of h) ≡ true
 unfolding takes_played
 own_may t own before h score played terms all number comes =
     let there : position_on t.variant before h.board ≡ position_of own =
     ap (position_on t.variant before) (sym number) ∙ position_is t before own terms all in
-    let made : made_on before h.board ≡ length own.list = ap (made_on before) (sym number) ∙ made_is before own score all in
+    let made : made_on before h.board ≡ length own.list =
+    ap (made_on before) (sym number) ∙ made_is before own score all in
     let follows = comes.follows in
     let room : own.played < 1200 = let few = follows.room in omega (arith, few, made, played) in
-    let timed : IsTrue (is_timed own.terms) ↔ AreTimed t = subst (λ (x : Terms). IsTrue (is_timed x) ↔ AreTimed t) (sym terms) (timed_is t) in
-    let charged : IsSome h.charge ↔ (AreTimed t × (2 ≤ length own.list)) = subst (λ (k : ℕ). IsSome h.charge ↔ (AreTimed t × (2 ≤ k))) made follows.charged in
-    four_true (not (is_end (result (position_of own)))) (nat_lt own.played 1200) (is_allowed (position_of own) h.what) (beq (is_some h.charge) (is_next_charged own))
+    let timed : IsTrue (is_timed own.terms) ↔ AreTimed t =
+    subst (λ (x : Terms). IsTrue (is_timed x) ↔ AreTimed t) (sym terms) (timed_is t) in
+    let charged : IsSome h.charge ↔ (AreTimed t × (2 ≤ length own.list)) =
+    subst (λ (k : ℕ). IsSome h.charge ↔ (AreTimed t × (2 ≤ k))) made follows.charged in
+    four_true (not (is_end (result (position_of own)))) (nat_lt own.played 1200) (is_allowed (position_of own) h.what)
+    (beq (is_some h.charge) (is_next_charged own))
     (going_says (position_of own) (subst GoesOn there follows.going))
     ((Decides-ltb own.played 1200).1 room)
     ((Decides-allowed (position_of own) h.what).1 (subst (λ (q : Position). Allowed q h.what) there follows.allowed))
-    (charge_stands (is_some h.charge) (is_timed own.terms) (has_moved (to_move own) own.list) (2 ≤ length own.list) (AreTimed t) charged timed (has_moved-mover own.list))
+    (charge_stands (is_some h.charge) (is_timed own.terms) (has_moved (to_move own) own.list) (2 ≤ length own.list)
+    (AreTimed t) charged timed (has_moved-mover own.list))
 
-other_pair : (t : Terms) (before : List Half) (n : ℕ) (c : Board) → t.variant ≡ Bughouse → 3 - n ≡ c.number → c.terms ≡ t → half_moves before ≡ c.all →
+other_pair : (t : Terms) (before : List Half) (n : ℕ) (c : Board) → t.variant ≡ Bughouse → 3 - n ≡ c.number
+    → c.terms ≡ t → half_moves before ≡ c.all →
     OtherGoesOn t.variant before n → goes_on c ≡ true
 other_pair t before n c pair number terms all goes =
     let there : position_on t.variant before c.number ≡ position_of c = position_is t before c terms all in
-    let here : GoesOn (position_on Bughouse before (3 - n)) = subst (λ (v : Variant). OtherGoesOn v before n) pair goes in
+    let here : GoesOn (position_on Bughouse before (3 - n)) =
+    subst (λ (v : Variant). OtherGoesOn v before n) pair goes in
     let at : position_on Bughouse before (3 - n) ≡ position_of c =
     (λ i. position_on (sym pair i) before (number i)) ∙ there in
     going_says (position_of c) (subst GoesOn at here)
 
 -- a half-move that may come is taken
-may_take : (t : Terms) (moment : ℕ) (boards : List Board) (before : List Half) (h : Half) → AreAt t moment before boards → IsHalf t.variant h → MayCome t before h →
+may_take : (t : Terms) (moment : ℕ) (boards : List Board) (before : List Half) (h : Half) → AreAt t moment before boards
+    → IsHalf t.variant h → MayCome t before h →
     (board : BoardNumber) × (numbered h.board ≡ Some board) × (takes_half boards board (played_of h) ≡ true)
 may_take t moment [] before h at half comes = absurd (never_none t.variant at.known.sound.numbers)
 may_take t moment (b ∷ []) before h at half comes =
     let s = at.known.sound in
     let one = number_of_one t.variant b s.numbers in
-    let number : h.board ≡ 1 = let first = half.first in let last = half.last in let boards = one.2 in omega (arith, first, last, boards) in
+    let number : h.board ≡ 1 =
+    let first = half.first in let last = half.last in let boards = one.2 in omega (arith, first, last, boards) in
     let P : Board → Type 0 = λ x. half_moves (halves_of (b ∷ [])) ≡ x.all in
-    let all : half_moves before ≡ b.all = ap half_moves (sym at.known.made) ∙ All-at P (b ∷ []) 0 b (all_of t (b ∷ []) s) refl in
+    let all : half_moves before ≡ b.all =
+    ap half_moves (sym at.known.made) ∙ All-at P (b ∷ []) 0 b (all_of t (b ∷ []) s) refl in
     let fresh = All-at (IsFresh moment) (b ∷ []) 0 b at.fresh refl in
-    let own = own_may t b before h (All-at IsTrueScore (b ∷ []) 0 b s.scores refl) fresh.played (All-at (λ (x : Board). x.terms ≡ t) (b ∷ []) 0 b s.terms refl) all (one.1 ∙ sym number) comes in
+    let own =
+    own_may t b before h (All-at IsTrueScore (b ∷ []) 0 b s.scores refl) fresh.played
+    (All-at (λ (x : Board). x.terms ≡ t) (b ∷ []) 0 b s.terms refl) all (one.1 ∙ sym number) comes in
     (First, ap numbered number, ap (λ (t : Bool). t && true) own)
 may_take t moment (b ∷ c ∷ []) before h at half comes =
     let s = at.known.sound in
     let two = numbers_of_two t.variant b c s.numbers in
     let many : bounds.boards t.variant ≡ 2 = ap bounds.boards two.0 in
     let P : Board → Type 0 = λ x. half_moves (halves_of (b ∷ c ∷ [])) ≡ x.all in
-    let all_b : half_moves before ≡ b.all = ap half_moves (sym at.known.made) ∙ All-at P (b ∷ c ∷ []) 0 b (all_of t (b ∷ c ∷ []) s) refl in
-    let all_c : half_moves before ≡ c.all = ap half_moves (sym at.known.made) ∙ All-at P (b ∷ c ∷ []) 1 c (all_of t (b ∷ c ∷ []) s) refl in
+    let all_b : half_moves before ≡ b.all =
+    ap half_moves (sym at.known.made) ∙ All-at P (b ∷ c ∷ []) 0 b (all_of t (b ∷ c ∷ []) s) refl in
+    let all_c : half_moves before ≡ c.all =
+    ap half_moves (sym at.known.made) ∙ All-at P (b ∷ c ∷ []) 1 c (all_of t (b ∷ c ∷ []) s) refl in
     let terms_b = All-at (λ (x : Board). x.terms ≡ t) (b ∷ c ∷ []) 0 b s.terms refl in
     let terms_c = All-at (λ (x : Board). x.terms ≡ t) (b ∷ c ∷ []) 1 c s.terms refl in
     elim (of_two h.board half.first (let last = half.last in omega (arith, last, many))) [
       | inl first ↦
-          let own = own_may t b before h (All-at IsTrueScore (b ∷ c ∷ []) 0 b s.scores refl) (All-at (IsFresh moment) (b ∷ c ∷ []) 0 b at.fresh refl).played terms_b all_b (two.1 ∙ sym first) comes in
+          let own =
+          own_may t b before h (All-at IsTrueScore (b ∷ c ∷ []) 0 b s.scores refl)
+          (All-at (IsFresh moment) (b ∷ c ∷ []) 0 b at.fresh refl).played terms_b all_b (two.1 ∙ sym first) comes in
           let other = other_pair t before h.board c two.0 (omega (arith, first, two.2)) terms_c all_c comes.other in
           (First, ap numbered first, λ i. own i && other i)
       | inr second ↦
-          let own = own_may t c before h (All-at IsTrueScore (b ∷ c ∷ []) 1 c s.scores refl) (All-at (IsFresh moment) (b ∷ c ∷ []) 1 c at.fresh refl).played terms_c all_c (two.2 ∙ sym second) comes in
+          let own =
+          own_may t c before h (All-at IsTrueScore (b ∷ c ∷ []) 1 c s.scores refl)
+          (All-at (IsFresh moment) (b ∷ c ∷ []) 1 c at.fresh refl).played terms_c all_c (two.2 ∙ sym second) comes in
           let other = other_pair t before h.board b two.0 (omega (arith, second, two.1)) terms_b all_b comes.other in
           (Second, ap numbered second, λ i. own i && other i)
     ]
@@ -259,9 +309,11 @@ may_take t moment (b ∷ c ∷ []) before h at half comes =
     of_two (suc zero) low high = inl refl
     of_two (suc (suc zero)) low high = inr refl
     of_two (suc (suc (suc n))) low high = absurd (omega (arith, high))
-may_take t moment (b ∷ c ∷ d ∷ more) before h at half comes = absurd (never_three t.variant b c d more at.known.sound.numbers)
+may_take t moment (b ∷ c ∷ d ∷ more) before h at half comes =
+    absurd (never_three t.variant b c d more at.known.sound.numbers)
 
-takes_each : (t : Terms) (moment : ℕ) (before halves : List Half) (boards : List Board) → AreAt t moment before boards → AllByRecursion (IsHalf t.variant) halves → CanBePlayed t (before ++ halves) →
+takes_each : (t : Terms) (moment : ℕ) (before halves : List Half) (boards : List Board) → AreAt t moment before boards
+    → AllByRecursion (IsHalf t.variant) halves → CanBePlayed t (before ++ halves) →
     IsSome (played_on boards halves)
 takes_each t moment before [] boards at each played = refl
 takes_each t moment before (h ∷ halves) boards at each played =
@@ -278,7 +330,8 @@ pub some_is : {X : Type 0} (o : Option X) → IsSome o → (x : X) × (o ≡ Som
 some_is None e = absurd cc
 some_is (Some x) e = (x, refl)
 
-pub replayed_exactly : (t : Terms) (halves : List Half) (moment : ℕ) → AllByRecursion (IsHalf t.variant) halves → IsSome (replayed t halves moment) ↔ CanBePlayed t halves
+pub replayed_exactly : (t : Terms) (halves : List Half) (moment : ℕ) → AllByRecursion (IsHalf t.variant) halves
+    → IsSome (replayed t halves moment) ↔ CanBePlayed t halves
 replayed_exactly t halves moment each = (
   λ some.
       let found = some_is (replayed t halves moment) some in

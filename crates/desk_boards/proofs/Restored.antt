@@ -17,7 +17,8 @@ use Rattle.desk_boards.proofs.Replayed.{replayed_at, replayed_exactly, replayed_
 use Rattle.desk_boards.proofs.SoundHalves.{all_of, each_of}
 use Rattle.std.proofs.lemmas.Option.{same_Some}
 
-pub replayed_boards : (t : Terms) (halves : List Half) (moment : ℕ) → AllByRecursion (IsHalf t.variant) halves → IfSome (replayed t halves moment) (AreOf t halves moment)
+pub replayed_boards : (t : Terms) (halves : List Half) (moment : ℕ) → AllByRecursion (IsHalf t.variant) halves
+    → IfSome (replayed t halves moment) (AreOf t halves moment)
 replayed_boards t halves moment each = found (replayed t halves moment) refl
   where
     found : (o : Option (List Board)) → replayed t halves moment ≡ o → IfSome o (AreOf t halves moment)
@@ -27,7 +28,8 @@ replayed_boards t halves moment each = found (replayed t halves moment) refl
         record { sound = at.sound; made = at.made; fresh = replayed_fresh t halves moment boards each e }
 
 -- lists that are as long, where each item of one is what the function makes of that of the other
-pointwise : (change : Board → Board) (new old : List Board) → map (λ (b : Board). b.number) new ≡ map (λ (b : Board). b.number) old →
+pointwise : (change : Board → Board) (new old : List Board)
+    → map (λ (b : Board). b.number) new ≡ map (λ (b : Board). b.number) old →
     ((k : ℕ) (c b : Board) → slice_get new k ≡ Some c → slice_get old k ≡ Some b → c ≡ change b) → new ≡ map change old
 pointwise change [] [] e h = refl
 pointwise change [] (b ∷ old) e h = absurd cc
@@ -37,11 +39,16 @@ pointwise change (c ∷ new) (b ∷ old) e h =
     let rest : new ≡ map change old = pointwise change new old (cc) (λ k x y f g. h (suc k) x y f g) in
     λ i. first i ∷ rest i
 
-same_at : (t : Terms) (moment : ℕ) (new old : List Board) → AreOf t (halves_of old) moment new → AreSoundBoards t old → (k : ℕ) (c b : Board) →
+same_at : (t : Terms) (moment : ℕ) (new old : List Board) → AreOf t (halves_of old) moment new → AreSoundBoards t old
+    → (k : ℕ) (c b : Board) →
     slice_get new k ≡ Some c → slice_get old k ≡ Some b → c ≡ resumed_at moment b
 same_at t moment new old of s k c b here there =
-    let numbers : c.number ≡ b.number = same_Some c.number b.number (sym (number_at t.variant new k c of.sound.numbers here) ∙ number_at t.variant old k b s.numbers there) in
-    let terms : c.terms ≡ b.terms = All-at (λ (x : Board). x.terms ≡ t) new k c of.sound.terms here ∙ sym (All-at (λ (x : Board). x.terms ≡ t) old k b s.terms there) in
+    let numbers : c.number ≡ b.number =
+    same_Some c.number b.number
+    (sym (number_at t.variant new k c of.sound.numbers here) ∙ number_at t.variant old k b s.numbers there) in
+    let terms : c.terms ≡ b.terms =
+    All-at (λ (x : Board). x.terms ≡ t) new k c of.sound.terms here
+    ∙ sym (All-at (λ (x : Board). x.terms ≡ t) old k b s.terms there) in
     let list : c.list ≡ b.list =
     sym (All-at (λ (x : Board). list_on x.number (halves_of new) ≡ x.list) new k c (each_of t new of.sound) here)
     ∙ (λ i. list_on (numbers i) (of.made i))
@@ -64,12 +71,22 @@ same_at t moment new old of s k c b here there =
       all = all i;
     }
 
-pub restored_is : (t : Terms) (boards : List Board) (moment : ℕ) → AreSoundBoards t boards → replayed t (halves_of boards) moment ≡ Some (map (resumed_at moment) boards)
+pub restored_is : (t : Terms) (boards : List Board) (moment : ℕ) → AreSoundBoards t boards
+    → replayed t (halves_of boards) moment ≡ Some (map (resumed_at moment) boards)
 restored_is t boards moment s =
-    let found = some_is (replayed t (halves_of boards) moment) ((replayed_exactly t (halves_of boards) moment s.halves).1 s.played) in
+    let found =
+    some_is (replayed t (halves_of boards) moment)
+    ((replayed_exactly t (halves_of boards) moment s.halves).1 s.played) in
     let at = replayed_at t (halves_of boards) moment found.0 s.halves found.1 in
     let of : AreOf t (halves_of boards) moment found.0 =
-    record { sound = at.sound; made = at.made; fresh = replayed_fresh t (halves_of boards) moment found.0 s.halves found.1 } in
-    found.1 ∙ ap Some (pointwise (resumed_at moment) found.0 boards (at.sound.numbers ∙ sym s.numbers) (same_at t moment found.0 boards of s))
+    record {
+      sound = at.sound;
+      made = at.made;
+      fresh = replayed_fresh t (halves_of boards) moment found.0 s.halves found.1;
+    } in
+    found.1
+    ∙ ap Some
+    (pointwise (resumed_at moment) found.0 boards (at.sound.numbers ∙ sym s.numbers)
+    (same_at t moment found.0 boards of s))
 
 pub ruleset boards_replayed = (replayed_exactly, replayed_boards, restored_is)

@@ -42,7 +42,8 @@ at_most_two (Fischer number) = omega arith
 at_most_two Bughouse = omega arith
 
 -- what a record can have is on board 1 or 2
-pub on_two : (v : Variant) (one two : List Played) (T : List HalfMove) → AllByRecursion (IsHalf v) (halves_from one two T) → AreOnTwo T
+pub on_two : (v : Variant) (one two : List Played) (T : List HalfMove)
+    → AllByRecursion (IsHalf v) (halves_from one two T) → AreOnTwo T
 on_two v one two [] each = tt
 on_two v one two (h ∷ T) each =
     by_choice (λ halves. AllByRecursion (IsHalf v) halves → AreOnTwo (h ∷ T)) (nat_eq h.board 1)
@@ -55,7 +56,8 @@ on_two v one two (h ∷ T) each =
 pub own_at : (n : ℕ) (b : Board) → IsTrueScore b → b.number ≡ n → moves_of n b.all ≡ map (λ p. p.what) b.list
 own_at n b score number = ap (λ (k : ℕ). moves_of k b.all) (sym number) ∙ score.own
 
-pub all_of : (t : Terms) (boards : List Board) → AreSoundBoards t boards → All (λ b. half_moves (halves_of boards) ≡ b.all) boards
+pub all_of : (t : Terms) (boards : List Board) → AreSoundBoards t boards
+    → All (λ b. half_moves (halves_of boards) ≡ b.all) boards
 all_of t [] s = All-nil (λ (b : Board). half_moves (halves_of []) ≡ b.all)
 all_of t (b ∷ []) s =
     let P : Board → Type 0 = λ x. half_moves (halves_of (b ∷ [])) ≡ x.all in
@@ -67,13 +69,15 @@ all_of t (b ∷ c ∷ []) s =
     (All-cons P c [] (half_moves-from b.list c.list b.all ∙ sym same) (All-nil P))
 all_of t (b ∷ c ∷ d ∷ more) s = absurd (never_three t.variant b c d more s.numbers)
 
-pub each_of : (t : Terms) (boards : List Board) → AreSoundBoards t boards → All (λ b. list_on b.number (halves_of boards) ≡ b.list) boards
+pub each_of : (t : Terms) (boards : List Board) → AreSoundBoards t boards
+    → All (λ b. list_on b.number (halves_of boards) ≡ b.list) boards
 each_of t [] s = All-nil (λ (b : Board). list_on b.number (halves_of []) ≡ b.list)
 each_of t (b ∷ []) s =
     let P : Board → Type 0 = λ x. list_on x.number (halves_of (b ∷ [])) ≡ x.list in
     let one = (number_of_one t.variant b s.numbers).1 in
     All-cons P b []
-    (ap (λ (n : ℕ). list_on n (halves_from b.list [] b.all)) one ∙ list_on-one b.list [] b.all (own_at 1 b (All-head IsTrueScore b [] s.scores) one))
+    (ap (λ (n : ℕ). list_on n (halves_from b.list [] b.all)) one
+    ∙ list_on-one b.list [] b.all (own_at 1 b (All-head IsTrueScore b [] s.scores) one))
     (All-nil P)
 each_of t (b ∷ c ∷ []) s =
     let P : Board → Type 0 = λ x. list_on x.number (halves_of (b ∷ c ∷ [])) ≡ x.list in
@@ -97,22 +101,29 @@ half_move_of h = record { board = h.board; what = h.what }
 -- counts of half-moves
 pub count_on-list : (n : ℕ) (halves : List Half) → count_on n halves ≡ length (list_on n halves)
 count_on-list n halves =
-    sym (length-filter (λ (h : Half). nat_eq h.board n) halves) ∙ sym (length-map (filter (λ (h : Half). nat_eq h.board n) halves) played_of)
+    sym (length-filter (λ (h : Half). nat_eq h.board n) halves)
+    ∙ sym (length-map (filter (λ (h : Half). nat_eq h.board n) halves) played_of)
 
-on_each : (v : Variant) (halves : List Half) → AllByRecursion (IsHalf v) halves → length halves ≡ length (list_on 1 halves) + length (list_on 2 halves)
+on_each : (v : Variant) (halves : List Half) → AllByRecursion (IsHalf v) halves
+    → length halves ≡ length (list_on 1 halves) + length (list_on 2 halves)
 on_each v [] each = refl
-on_each v (h ∷ halves) each = elim (nat_eq h.board 1) as (λ t. nat_eq h.board 1 ≡ t → suc (length halves) ≡ length (list_on 1 (h ∷ halves)) + length (list_on 2 (h ∷ halves))) [
-  | true ↦ λ own.
-      let one = ap length (list_on-own 1 h halves own) in
-      let two = ap length (list_on-else 2 h halves (not_second h.board own)) in
-      let rest = on_each v halves each.1 in
-      omega (arith, one, two, rest)
-  | false ↦ λ other.
-      let one = ap length (list_on-else 1 h halves other) in
-      let two = ap length (list_on-own 2 h halves (second h.board (each.0.first, omega (arith, each.0.last, at_most_two v)) other)) in
-      let rest = on_each v halves each.1 in
-      omega (arith, one, two, rest)
-] refl
+on_each v (h ∷ halves) each =
+    elim (nat_eq h.board 1)
+    as (λ t.
+    nat_eq h.board 1 ≡ t → suc (length halves) ≡ length (list_on 1 (h ∷ halves)) + length (list_on 2 (h ∷ halves))) [
+      | true ↦ λ own.
+          let one = ap length (list_on-own 1 h halves own) in
+          let two = ap length (list_on-else 2 h halves (not_second h.board own)) in
+          let rest = on_each v halves each.1 in
+          omega (arith, one, two, rest)
+      | false ↦ λ other.
+          let one = ap length (list_on-else 1 h halves other) in
+          let two =
+          ap length
+          (list_on-own 2 h halves (second h.board (each.0.first, omega (arith, each.0.last, at_most_two v)) other)) in
+          let rest = on_each v halves each.1 in
+          omega (arith, one, two, rest)
+    ] refl
 
 -- no list is longer than may be played
 short_at : (b : Board) → IsTrueScore b → b.played ≤ 1200 → length b.list ≤ 1200
@@ -147,9 +158,13 @@ bounds_of t (b ∷ c ∷ []) s =
     let scores = All-tail IsTrueScore b (c ∷ []) s.scores in
     let few = All-tail (λ (x : Board). x.played ≤ 1200) b (c ∷ []) s.few in
     let halves = halves_from b.list c.list b.all in
-    let short_one = short_at b (All-head IsTrueScore b (c ∷ []) s.scores) (All-head (λ (x : Board). x.played ≤ 1200) b (c ∷ []) s.few) in
-    let short_two = short_at c (All-head IsTrueScore c [] scores) (All-head (λ (x : Board). x.played ≤ 1200) c [] few) in
-    let one_is = ap length (list_on-one b.list c.list b.all (own_at 1 b (All-head IsTrueScore b (c ∷ []) s.scores) two.1)) in
+    let short_one =
+    short_at b (All-head IsTrueScore b (c ∷ []) s.scores)
+    (All-head (λ (x : Board). x.played ≤ 1200) b (c ∷ []) s.few) in
+    let short_two =
+    short_at c (All-head IsTrueScore c [] scores) (All-head (λ (x : Board). x.played ≤ 1200) c [] few) in
+    let one_is =
+    ap length (list_on-one b.list c.list b.all (own_at 1 b (All-head IsTrueScore b (c ∷ []) s.scores) two.1)) in
     let two_is = ap length (list_on-two b.list c.list b.all (on_two t.variant b.list c.list b.all s.halves)
     (ap (moves_of 2) (sym same) ∙ own_at 2 c (All-head IsTrueScore c [] scores) two.2)) in
     let sum = on_each t.variant halves s.halves in

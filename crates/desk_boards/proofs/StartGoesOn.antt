@@ -79,7 +79,8 @@ are_placed rank size =
     let t = tested rank size in
     record {
       white_king = λ s less held.
-          ltb-true s 8 (or_not-true (nat_lt s 8) (is_held_as White King (man_at P s)) (at_square (king_test P) t.0 s less)
+          ltb-true s 8
+          (or_not-true (nat_lt s 8) (is_held_as White King (man_at P s)) (at_square (king_test P) t.0 s less)
           ((Decides-held_as White King (man_at P s)).1 held));
       black = λ s less held.
           leb-true 48 s (or_not-true (nat_le 48 s) (is_held_by Black (man_at P s)) (at_square (black_test P) t.1 s less)
@@ -102,7 +103,8 @@ blocked : (P : Placement) → ArePlaced P → (a s : ℕ) → 56 ≤ a → a < 6
 blocked P placed a s h l m clear =
     let far : 1 < distance a s = omega (arith, seven_apart a s h l m) in
     let free : man_at P (along a s 1) ≡ None = clear.empty 1 (omega arith) far in
-    let pawn : man_at P (48 + toward (file_of a) (file_of s) 1) ≡ unpromoted Black Pawn = placed.pawns (toward (file_of a) (file_of s) 1) (next_file a s m) in
+    let pawn : man_at P (48 + toward (file_of a) (file_of s) 1) ≡ unpromoted Black Pawn =
+    placed.pawns (toward (file_of a) (file_of s) 1) (next_file a s m) in
     let both : None ≡ unpromoted Black Pawn = sym free ∙ ap (man_at P) (next_square a s h l m) ∙ pawn in
     cc
 
@@ -127,7 +129,8 @@ pawn_on P placed a h l =
     let behind : 48 + (a - 48) ≡ a = omega arith in
     ap (man_at P) (sym behind) ∙ placed.pawns (a - 48) (omega arith)
 
-struck_by : (P : Placement) → ArePlaced P → (a s : ℕ) → 56 ≤ a → a < 64 → s < 8 → (man : Option Man) → ¬ StrikesAs P Black a s man
+struck_by : (P : Placement) → ArePlaced P → (a s : ℕ) → 56 ≤ a → a < 64 → s < 8 → (man : Option Man)
+    → ¬ StrikesAs P Black a s man
 struck_by P placed a s h l m None strikes = strikes
 struck_by P placed a s h l m (Some x) strikes = from_home P placed x.kind a s h l m strikes.1
 
@@ -135,7 +138,8 @@ no_attack : (P : Placement) → ArePlaced P → (a s : ℕ) → a < 64 → s < 8
 no_attack P placed a s h m strikes = elim (cases_lt a 56) [
   | inl ahead ↦
       let low : 48 ≤ a = placed.black a h (strikes-held P Black a s (man_at P a) strikes) in
-      let pawn : StrikesAs P Black a s (unpromoted Black Pawn) = subst (StrikesAs P Black a s) (pawn_on P placed a low ahead) strikes in
+      let pawn : StrikesAs P Black a s (unpromoted Black Pawn) =
+      subst (StrikesAs P Black a s) (pawn_on P placed a low ahead) strikes in
       from_pawns P a s low ahead m pawn.1
   | inr home ↦ struck_by P placed a s home h m (man_at P a) strikes
 ]
@@ -172,7 +176,12 @@ push_allowed v n =
       inr ((λ e. omega (arith, e)), refl),
     ) in
     record {
-      move = record { from = omega arith; to = omega arith; goes = subst (GoesAs p 8 16 None) (sym (pawn_home (back_rank v) size)) goes };
+      move =
+          record {
+            from = omega arith;
+            to = omega arith;
+            goes = subst (GoesAs p 8 16 None) (sym (pawn_home (back_rank v) size)) goes;
+          };
       safe = safe_pushed (back_rank v) size;
     }
 

@@ -44,20 +44,26 @@ use Rattle.desk_boards.proofs.Stepped.{sound_step}
 abbrev pub boards_from : List ℕ → Terms → ℕ → List Board
 boards_from numbers t moment = map (λ number. new_board number t moment) numbers
 
-pub numbers_from : (numbers : List ℕ) (t : Terms) (moment : ℕ) → map (λ (b : Board). b.number) (boards_from numbers t moment) ≡ numbers
+pub numbers_from : (numbers : List ℕ) (t : Terms) (moment : ℕ)
+    → map (λ (b : Board). b.number) (boards_from numbers t moment) ≡ numbers
 numbers_from [] t moment = refl
 numbers_from (n ∷ ns) t moment = ap (λ ms. n ∷ ms) (numbers_from ns t moment)
 
-pub All-from : (P : Board → Type 0) (numbers : List ℕ) (t : Terms) (moment : ℕ) → ((n : ℕ) → P (new_board n t moment)) → All P (boards_from numbers t moment)
+pub All-from : (P : Board → Type 0) (numbers : List ℕ) (t : Terms) (moment : ℕ) → ((n : ℕ) → P (new_board n t moment))
+    → All P (boards_from numbers t moment)
 All-from P [] t moment h = All-nil P
-All-from P (n ∷ ns) t moment h = All-cons P (new_board n t moment) (boards_from ns t moment) (h n) (All-from P ns t moment h)
+All-from P (n ∷ ns) t moment h =
+    All-cons P (new_board n t moment) (boards_from ns t moment) (h n) (All-from P ns t moment h)
 
-nothing_from : (numbers : List ℕ) (t : Terms) (moment : ℕ) → All (λ (T : List HalfMove). T ≡ []) (map (λ (b : Board). b.all) (boards_from numbers t moment))
+nothing_from : (numbers : List ℕ) (t : Terms) (moment : ℕ)
+    → All (λ (T : List HalfMove). T ≡ []) (map (λ (b : Board). b.all) (boards_from numbers t moment))
 nothing_from [] t moment = All-nil (λ (T : List HalfMove). T ≡ [])
 nothing_from (n ∷ ns) t moment =
-    All-cons (λ (T : List HalfMove). T ≡ []) [] (map (λ (b : Board). b.all) (boards_from ns t moment)) refl (nothing_from ns t moment)
+    All-cons (λ (T : List HalfMove). T ≡ []) [] (map (λ (b : Board). b.all) (boards_from ns t moment)) refl
+    (nothing_from ns t moment)
 
-together_from : (numbers : List ℕ) (t : Terms) (moment : ℕ) → AreSame (map (λ (b : Board). b.all) (boards_from numbers t moment))
+together_from : (numbers : List ℕ) (t : Terms) (moment : ℕ)
+    → AreSame (map (λ (b : Board). b.all) (boards_from numbers t moment))
 together_from [] t moment = tt
 together_from (n ∷ ns) t moment = nothing_from ns t moment
 
@@ -93,13 +99,17 @@ room_unless true full answer m e = absurd cc
 room_unless false true answer m e = absurd cc
 room_unless false false answer m e = refl
 
-room_by_answer : (b : Board) (c : Colour) (word : MoveWord) (m : Move) → b.played ≤ 1200 → move_answer b c word ≡ Ok m → b.played < 1200
+room_by_answer : (b : Board) (c : Colour) (word : MoveWord) (m : Move) → b.played ≤ 1200 → move_answer b c word ≡ Ok m
+    → b.played < 1200
 unfolding move_answer
 room_by_answer b c word m few e =
-    let room : (b.played == 1200) ≡ false = room_unless (not (same_colour c (to_move b))) (b.played == 1200) (in_words (word_answer (position_of b) word)) m e in
+    let room : (b.played == 1200) ≡ false =
+    room_unless (not (same_colour c (to_move b))) (b.played == 1200) (in_words (word_answer (position_of b) word)) m
+    e in
     grind (arith, nat_tests, room, few)
 
-one_more_played : (own : Board) (c : Colour) (word : MoveWord) (m : Move) (moment : ℕ) (stamp : Option ℕ) → IsTrueScore own → own.played ≤ 1200 → GoesOn (position_of own) →
+one_more_played : (own : Board) (c : Colour) (word : MoveWord) (m : Move) (moment : ℕ) (stamp : Option ℕ)
+    → IsTrueScore own → own.played ≤ 1200 → GoesOn (position_of own) →
     own.begin ≤ moment → moment ≤ 2 ^ 48 → IfSome stamp IsStamp → move_answer own c word ≡ Ok m →
     IsOneMore own (record { what = m; charge = next_charge own moment stamp }) (with_half_move own m moment stamp)
 one_more_played own c word m moment stamp score few goes order timely stamped e =
@@ -113,47 +123,69 @@ one_more_played own c word m moment stamp score few goes order timely stamped e 
       few = let room = room_by_answer own c word m few e in omega (arith, room);
       going = goes;
       allowed = allowed;
-      charge = charge_is (next_charge own moment stamp) (IsChargeable-next own moment stamp order timely score.kept stamped);
+      charge =
+          charge_is (next_charge own moment stamp) (IsChargeable-next own moment stamp order timely score.kept stamped);
     }
 
 -- a word that is played has its board
-pub played_there : (o : Option Board) (c : Colour) (word : MoveWord) (m : Move) → word_at o c word ≡ Ok m → (own : Board) × (o ≡ Some own) × (move_answer own c word ≡ Ok m)
+pub played_there : (o : Option Board) (c : Colour) (word : MoveWord) (m : Move) → word_at o c word ≡ Ok m
+    → (own : Board) × (o ≡ Some own) × (move_answer own c word ≡ Ok m)
 played_there None c word m e = absurd cc
 played_there (Some own) c word m e = (own, refl, e)
 
-sound_answered : (t : Terms) (boards : List Board) (board : BoardNumber) (moment : ℕ) (c : Colour) (word : MoveWord) (stamp : Option ℕ) → AreSoundBoards t boards → GoOn boards →
-    latest boards ≤ moment → moment ≤ 2 ^ 48 → IfSome stamp IsStamp → (answer : Result Move Refusal) → word_at (slice_get boards (place board)) c word ≡ answer →
+sound_answered : (t : Terms) (boards : List Board) (board : BoardNumber) (moment : ℕ) (c : Colour) (word : MoveWord)
+    (stamp : Option ℕ)
+    → AreSoundBoards t boards → GoOn boards →
+    latest boards ≤ moment → moment ≤ 2 ^ 48 → IfSome stamp IsStamp → (answer : Result Move Refusal)
+    → word_at (slice_get boards (place board)) c word ≡ answer →
     AreSoundBoards t (boards_after boards board moment stamp answer)
 sound_answered t boards board moment c word stamp s goes order timely stamped (Err cause) e =
-    subst (AreSoundBoards t) (sym (nothing-changed_at (changed_at boards (place board) (λ b. b)) (place (other_number board)) ∙ nothing-changed_at boards (place board))) s
+    subst (AreSoundBoards t)
+    (sym (nothing-changed_at (changed_at boards (place board) (λ b. b)) (place (other_number board))
+    ∙ nothing-changed_at boards (place board)))
+    s
 sound_answered t boards board moment c word stamp s goes order timely stamped (Ok m) e =
     let k : ℕ = place board in
     let found = played_there (slice_get boards k) c word m e in
     let own : Board = found.0 in
     let here : slice_get boards k ≡ Some own = found.1 in
     let before : own.begin ≤ latest boards = begin-latest boards k own here in
-    let more = one_more_played own c word m moment stamp (All-at IsTrueScore boards k own s.scores here) (All-at (λ (b : Board). b.played ≤ 1200) boards k own s.few here)
-    (All-at (λ (b : Board). GoesOn (position_of b)) boards k own goes here) (omega (arith, before, order)) timely stamped found.2 in
-    (sound_step t boards board own (record { what = m; charge = next_charge own moment stamp }) (λ b. with_half_move b m moment stamp) s here more
-    (λ other there. All-at (λ (b : Board). GoesOn (position_of b)) boards (place (other_number board)) other goes there)).sound
+    let more =
+    one_more_played own c word m moment stamp (All-at IsTrueScore boards k own s.scores here)
+    (All-at (λ (b : Board). b.played ≤ 1200) boards k own s.few here)
+    (All-at (λ (b : Board). GoesOn (position_of b)) boards k own goes here) (omega (arith, before, order)) timely
+    stamped found.2 in
+    (sound_step t boards board own (record {
+      what = m;
+      charge = next_charge own moment stamp;
+    }) (λ b. with_half_move b m moment stamp) s here more
+    (λ other there.
+    All-at (λ (b : Board). GoesOn (position_of b)) boards (place (other_number board)) other goes there)).sound
 
-pub sound_play : (t : Terms) (boards : List Board) (board : BoardNumber) (moment : ℕ) (c : Colour) (word : MoveWord) (stamp : Option ℕ) → AreSoundBoards t boards → GoOn boards →
-    latest boards ≤ moment → moment ≤ 2 ^ 48 → IfSome stamp IsStamp → AreSoundBoards t (boards_after boards board moment stamp (word_at (slice_get boards (place board)) c word))
+pub sound_play : (t : Terms) (boards : List Board) (board : BoardNumber) (moment : ℕ) (c : Colour) (word : MoveWord)
+    (stamp : Option ℕ)
+    → AreSoundBoards t boards → GoOn boards →
+    latest boards ≤ moment → moment ≤ 2 ^ 48 → IfSome stamp IsStamp
+    → AreSoundBoards t (boards_after boards board moment stamp (word_at (slice_get boards (place board)) c word))
 sound_play t boards board moment c word stamp s goes order timely stamped =
-    sound_answered t boards board moment c word stamp s goes order timely stamped (word_at (slice_get boards (place board)) c word) refl
+    sound_answered t boards board moment c word stamp s goes order timely stamped
+    (word_at (slice_get boards (place board)) c word) refl
 
 -- ---- an acknowledgement
 
-pub alike : {X : Type 0} (of : Board → X) (own : Bool) (b new : Board) → of new ≡ of b → of (if own then new else b) ≡ of b
+pub alike : {X : Type 0} (of : Board → X) (own : Bool) (b new : Board) → of new ≡ of b
+    → of (if own then new else b) ≡ of b
 alike of true b new e = e
 alike of false b new e = refl
 
 -- what a board and the board with a stamp kept have alike, the acknowledged board has
-pub same_acknowledged : {X : Type 0} (of : Board → X) (b : Board) (c : Colour) (stamp : ℕ) → of (record b { kept = Some stamp }) ≡ of b →
+pub same_acknowledged : {X : Type 0} (of : Board → X) (b : Board) (c : Colour) (stamp : ℕ)
+    → of (record b { kept = Some stamp }) ≡ of b →
     of (acknowledged b c stamp) ≡ of b
 same_acknowledged of b c stamp e = alike of (same_colour c (to_move b)) b (record b { kept = Some stamp }) e
 
-halves_of-changed_at : (t : Terms) (boards : List Board) (k : ℕ) (change : Board → Board) → AreSoundBoards t boards → ((b : Board) → (change b).list ≡ b.list) → ((b : Board) → (change b).all ≡ b.all) →
+halves_of-changed_at : (t : Terms) (boards : List Board) (k : ℕ) (change : Board → Board) → AreSoundBoards t boards
+    → ((b : Board) → (change b).list ≡ b.list) → ((b : Board) → (change b).all ≡ b.all) →
     halves_of (changed_at boards k change) ≡ halves_of boards
 halves_of-changed_at t [] k change s lists all = refl
 halves_of-changed_at t (b ∷ []) zero change s lists all = λ i. halves_from (lists b i) [] (all b i)
@@ -163,19 +195,35 @@ halves_of-changed_at t (b ∷ c ∷ []) (suc zero) change s lists all = λ i. ha
 halves_of-changed_at t (b ∷ c ∷ []) (suc (suc k)) change s lists all = refl
 halves_of-changed_at t (b ∷ c ∷ d ∷ more) k change s lists all = absurd (never_three t.variant b c d more s.numbers)
 
-pub sound_acked : (t : Terms) (boards : List Board) (board : BoardNumber) (c : Colour) (stamp : ℕ) → AreSoundBoards t boards → IsStamp stamp → AreSoundBoards t (boards_acked boards board c stamp)
+pub sound_acked : (t : Terms) (boards : List Board) (board : BoardNumber) (c : Colour) (stamp : ℕ)
+    → AreSoundBoards t boards → IsStamp stamp → AreSoundBoards t (boards_acked boards board c stamp)
 sound_acked t boards board c stamp s stamped =
     let k : ℕ = place board in
     let after : Board → Board = λ b. acknowledged b c stamp in
     let halves : halves_of (boards_acked boards board c stamp) ≡ halves_of boards =
-    halves_of-changed_at t boards k after s (λ b. same_acknowledged (λ x. x.list) b c stamp refl) (λ b. same_acknowledged (λ x. x.all) b c stamp refl) in
+    halves_of-changed_at t boards k after s (λ b. same_acknowledged (λ x. x.list) b c stamp refl)
+    (λ b. same_acknowledged (λ x. x.all) b c stamp refl) in
     record {
-      numbers = map-changed_at (λ (b : Board). b.number) boards k after (λ b. same_acknowledged (λ x. x.number) b c stamp refl) ∙ s.numbers;
-      terms = All-changed_at (λ (b : Board). b.terms ≡ t) boards k after (λ b there same. same_acknowledged (λ x. x.terms) b c stamp refl ∙ same) s.terms;
-      scores = All-changed_at IsTrueScore boards k after (λ b there score. IsTrueScore-acknowledged b c stamp score stamped) s.scores;
+      numbers =
+          map-changed_at (λ (b : Board). b.number) boards k after
+          (λ b. same_acknowledged (λ x. x.number) b c stamp refl)
+          ∙ s.numbers;
+      terms =
+          All-changed_at (λ (b : Board). b.terms ≡ t) boards k after
+          (λ b there same. same_acknowledged (λ x. x.terms) b c stamp refl ∙ same) s.terms;
+      scores =
+          All-changed_at IsTrueScore boards k after (λ b there score. IsTrueScore-acknowledged b c stamp score stamped)
+          s.scores;
       few = All-changed_at (λ (b : Board). b.played ≤ 1200) boards k after
-          (λ b there h. let same : (acknowledged b c stamp).played ≡ b.played = same_acknowledged (λ x. x.played) b c stamp refl in omega (arith, same, h)) s.few;
-      together = subst AreSame (sym (map-changed_at (λ (b : Board). b.all) boards k after (λ b. same_acknowledged (λ x. x.all) b c stamp refl))) s.together;
+          (λ b there h.
+          let same : (acknowledged b c stamp).played ≡ b.played = same_acknowledged (λ x. x.played) b c stamp refl in
+          omega (arith, same, h))
+          s.few;
+      together =
+          subst AreSame
+          (sym
+          (map-changed_at (λ (b : Board). b.all) boards k after (λ b. same_acknowledged (λ x. x.all) b c stamp refl)))
+          s.together;
       halves = subst (AllByRecursion (IsHalf t.variant)) (sym halves) s.halves;
       played = subst (CanBePlayed t) (sym halves) s.played;
     }

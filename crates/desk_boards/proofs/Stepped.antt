@@ -30,7 +30,8 @@ use Rattle.std.proofs.lemmas.Option.{same_Some}
 
 -- the boards with a change of one of them, of which the other one learns that it was this half-move
 abbrev pub stepped : List Board → BoardNumber → (Board → Board) → Move → List Board
-stepped boards board change m = changed_at (changed_at boards (place board) change) (place (other_number board)) (λ b. learnt b m)
+stepped boards board change m =
+    changed_at (changed_at boards (place board) change) (place (other_number board)) (λ b. learnt b m)
 
 -- sound boards that have these half-moves
 pub record AreSoundWith (t : Terms) (halves : List Half) (boards : List Board) : Type 0 where
@@ -38,8 +39,10 @@ pub record AreSoundWith (t : Terms) (halves : List Half) (boards : List Board) :
   pub made : halves_of boards ≡ halves
 
 -- what is on the boards may be said of the half-moves that they have
-with_halves : (t : Terms) (halves : List Half) (boards : List Board) → map (λ (b : Board). b.number) boards ≡ board_numbers t.variant → All (λ (b : Board). b.terms ≡ t) boards →
-    All IsTrueScore boards → All (λ (b : Board). b.played ≤ 1200) boards → AreSame (map (λ (b : Board). b.all) boards) → halves_of boards ≡ halves →
+with_halves : (t : Terms) (halves : List Half) (boards : List Board)
+    → map (λ (b : Board). b.number) boards ≡ board_numbers t.variant → All (λ (b : Board). b.terms ≡ t) boards →
+    All IsTrueScore boards → All (λ (b : Board). b.played ≤ 1200) boards → AreSame (map (λ (b : Board). b.all) boards)
+    → halves_of boards ≡ halves →
     AllByRecursion (IsHalf t.variant) halves → CanBePlayed t halves → AreSoundWith t halves boards
 with_halves t halves boards numbers terms scores few together same each played = record {
   sound = record {
@@ -54,11 +57,13 @@ with_halves t halves boards numbers terms scores few together same each played =
   made = same;
 }
 
-one_alone : (b c : Board) → c.number ≡ b.number → map (λ (x : Board). x.number) (c ∷ []) ≡ map (λ (x : Board). x.number) (b ∷ [])
+one_alone : (b c : Board) → c.number ≡ b.number
+    → map (λ (x : Board). x.number) (c ∷ []) ≡ map (λ (x : Board). x.number) (b ∷ [])
 one_alone b c e = ap (λ n. n ∷ []) e
 
 -- the one board of a game
-step_alone : (t : Terms) (b new : Board) (p : Played) → AreSoundBoards t (b ∷ []) → IsOneMore b p new → MayGrow t (halves_of (b ∷ [])) (half_on b.number p) →
+step_alone : (t : Terms) (b new : Board) (p : Played) → AreSoundBoards t (b ∷ []) → IsOneMore b p new
+    → MayGrow t (halves_of (b ∷ [])) (half_on b.number p) →
     AreSoundWith t (halves_of (b ∷ []) ++ half_on b.number p ∷ []) (new ∷ [])
 step_alone t b new p s more grows =
     let one = (number_of_one t.variant b s.numbers).1 in
@@ -80,19 +85,22 @@ both : (P : Board → Type 0) (b c : Board) → P b → P c → All P (b ∷ c �
 both P b c x y = All-cons P b (c ∷ []) x (All-cons P c [] y (All-nil P))
 
 -- what the other board learns was allowed where it was made
-told_score : (t : Terms) (own other : Board) (m : Move) → t.variant ≡ Bughouse → own.terms ≡ t → other.terms ≡ t → own.all ≡ other.all → own.number ≡ other_board other.number →
+told_score : (t : Terms) (own other : Board) (m : Move) → t.variant ≡ Bughouse → own.terms ≡ t → other.terms ≡ t
+    → own.all ≡ other.all → own.number ≡ other_board other.number →
     Allowed (position_of own) m → IsTrueScore other → IsTrueScore (learnt other m)
 told_score t own other m pair here there all number allowed score =
     IsTrueScore-learnt other m (ap (λ (x : Terms). x.variant) there ∙ pair) score
     (allowed_there own other m (here ∙ sym there) all number allowed)
 
 -- the first board of a pair
-step_first : (t : Terms) (b c new : Board) (p : Played) → AreSoundBoards t (b ∷ c ∷ []) → IsOneMore b p new → MayGrow t (halves_of (b ∷ c ∷ [])) (half_on b.number p) →
+step_first : (t : Terms) (b c new : Board) (p : Played) → AreSoundBoards t (b ∷ c ∷ []) → IsOneMore b p new
+    → MayGrow t (halves_of (b ∷ c ∷ [])) (half_on b.number p) →
     AreSoundWith t (halves_of (b ∷ c ∷ []) ++ half_on b.number p ∷ []) (new ∷ learnt c p.what ∷ [])
 step_first t b c new p s more grows =
     let two = numbers_of_two t.variant b c s.numbers in
     let first = All-head (λ (x : Board). x.terms ≡ t) b (c ∷ []) s.terms in
-    let second = All-head (λ (x : Board). x.terms ≡ t) c [] (All-tail (λ (x : Board). x.terms ≡ t) b (c ∷ []) s.terms) in
+    let second =
+    All-head (λ (x : Board). x.terms ≡ t) c [] (All-tail (λ (x : Board). x.terms ≡ t) b (c ∷ []) s.terms) in
     let same : c.all ≡ b.all = All-head (λ (T : List HalfMove). T ≡ b.all) c.all [] s.together in
     let own = own_at 1 b (All-head IsTrueScore b (c ∷ []) s.scores) two.1 in
     let halves : halves_of (new ∷ learnt c p.what ∷ []) ≡ halves_of (b ∷ c ∷ []) ++ half_on b.number p ∷ [] =
@@ -101,44 +109,60 @@ step_first t b c new p s more grows =
     ∙ halves_from-one b.list c.list b.all p own
     ∙ (λ i. halves_from b.list c.list b.all ++ half_on (sym two.1 i) p ∷ []) in
     let number : other_board c.number ≡ b.number = omega (arith, two.1, two.2) in
-    let together : AreSame ((b.all ++ on b.number p.what ∷ []) ∷ (c.all ++ on (other_board c.number) p.what ∷ []) ∷ []) =
+    let together : AreSame
+    ((b.all ++ on b.number p.what ∷ []) ∷ (c.all ++ on (other_board c.number) p.what ∷ []) ∷ []) =
     same_two b.all c.all p.what b.number (other_board c.number) s.together number in
-    with_halves t (halves_of (b ∷ c ∷ []) ++ half_on b.number p ∷ []) (new ∷ learnt c p.what ∷ []) (ap (λ n. n ∷ c.number ∷ []) more.number ∙ s.numbers)
+    with_halves t (halves_of (b ∷ c ∷ []) ++ half_on b.number p ∷ []) (new ∷ learnt c p.what ∷ [])
+    (ap (λ n. n ∷ c.number ∷ []) more.number ∙ s.numbers)
     (both (λ (x : Board). x.terms ≡ t) new (learnt c p.what) (more.terms ∙ first) second)
     (both IsTrueScore new (learnt c p.what) more.score
-    (told_score t b c p.what two.0 first second (sym same) (sym number) more.allowed (All-head IsTrueScore c [] (All-tail IsTrueScore b (c ∷ []) s.scores))))
-    (both (λ (x : Board). x.played ≤ 1200) new (learnt c p.what) more.few (All-head (λ (x : Board). x.played ≤ 1200) c [] (All-tail (λ (x : Board). x.played ≤ 1200) b (c ∷ []) s.few)))
-    (subst (λ (T : List HalfMove). AreSame (T ∷ (c.all ++ on (other_board c.number) p.what ∷ []) ∷ [])) (sym more.all) together)
+    (told_score t b c p.what two.0 first second (sym same) (sym number) more.allowed
+    (All-head IsTrueScore c [] (All-tail IsTrueScore b (c ∷ []) s.scores))))
+    (both (λ (x : Board). x.played ≤ 1200) new (learnt c p.what) more.few
+    (All-head (λ (x : Board). x.played ≤ 1200) c [] (All-tail (λ (x : Board). x.played ≤ 1200) b (c ∷ []) s.few)))
+    (subst (λ (T : List HalfMove). AreSame (T ∷ (c.all ++ on (other_board c.number) p.what ∷ []) ∷ [])) (sym more.all)
+    together)
     halves grows.each grows.played
 
 -- and the second one
-step_second : (t : Terms) (b c new : Board) (p : Played) → AreSoundBoards t (b ∷ c ∷ []) → IsOneMore c p new → MayGrow t (halves_of (b ∷ c ∷ [])) (half_on c.number p) →
+step_second : (t : Terms) (b c new : Board) (p : Played) → AreSoundBoards t (b ∷ c ∷ []) → IsOneMore c p new
+    → MayGrow t (halves_of (b ∷ c ∷ [])) (half_on c.number p) →
     AreSoundWith t (halves_of (b ∷ c ∷ []) ++ half_on c.number p ∷ []) (learnt b p.what ∷ new ∷ [])
 step_second t b c new p s more grows =
     let two = numbers_of_two t.variant b c s.numbers in
     let first = All-head (λ (x : Board). x.terms ≡ t) b (c ∷ []) s.terms in
-    let second = All-head (λ (x : Board). x.terms ≡ t) c [] (All-tail (λ (x : Board). x.terms ≡ t) b (c ∷ []) s.terms) in
+    let second =
+    All-head (λ (x : Board). x.terms ≡ t) c [] (All-tail (λ (x : Board). x.terms ≡ t) b (c ∷ []) s.terms) in
     let same : c.all ≡ b.all = All-head (λ (T : List HalfMove). T ≡ b.all) c.all [] s.together in
     let own : moves_of 2 b.all ≡ map (λ (q : Played). q.what) c.list =
-    ap (moves_of 2) (sym same) ∙ own_at 2 c (All-head IsTrueScore c [] (All-tail IsTrueScore b (c ∷ []) s.scores)) two.2 in
+    ap (moves_of 2) (sym same)
+    ∙ own_at 2 c (All-head IsTrueScore c [] (All-tail IsTrueScore b (c ∷ []) s.scores)) two.2 in
     let number : other_board b.number ≡ c.number = omega (arith, two.1, two.2) in
     let two_is : other_board b.number ≡ 2 = omega (arith, two.1) in
     let halves : halves_of (learnt b p.what ∷ new ∷ []) ≡ halves_of (b ∷ c ∷ []) ++ half_on c.number p ∷ [] =
     (λ i. halves_from b.list (more.list i) (b.all ++ on (two_is i) p.what ∷ []))
     ∙ halves_from-two b.list c.list b.all p (on_two t.variant b.list c.list b.all s.halves) own
     ∙ (λ i. halves_from b.list c.list b.all ++ half_on (sym two.2 i) p ∷ []) in
-    let together : AreSame ((b.all ++ on (other_board b.number) p.what ∷ []) ∷ (c.all ++ on c.number p.what ∷ []) ∷ []) =
+    let together : AreSame
+    ((b.all ++ on (other_board b.number) p.what ∷ []) ∷ (c.all ++ on c.number p.what ∷ []) ∷ []) =
     same_two b.all c.all p.what (other_board b.number) c.number s.together (sym number) in
-    with_halves t (halves_of (b ∷ c ∷ []) ++ half_on c.number p ∷ []) (learnt b p.what ∷ new ∷ []) (ap (λ n. b.number ∷ n ∷ []) more.number ∙ s.numbers)
+    with_halves t (halves_of (b ∷ c ∷ []) ++ half_on c.number p ∷ []) (learnt b p.what ∷ new ∷ [])
+    (ap (λ n. b.number ∷ n ∷ []) more.number ∙ s.numbers)
     (both (λ (x : Board). x.terms ≡ t) (learnt b p.what) new first (more.terms ∙ second))
     (both IsTrueScore (learnt b p.what) new
-    (told_score t c b p.what two.0 second first same (sym number) more.allowed (All-head IsTrueScore b (c ∷ []) s.scores)) more.score)
-    (both (λ (x : Board). x.played ≤ 1200) (learnt b p.what) new (All-head (λ (x : Board). x.played ≤ 1200) b (c ∷ []) s.few) more.few)
-    (subst (λ (T : List HalfMove). AreSame ((b.all ++ on (other_board b.number) p.what ∷ []) ∷ T ∷ [])) (sym more.all) together)
+    (told_score t c b p.what two.0 second first same (sym number) more.allowed
+    (All-head IsTrueScore b (c ∷ []) s.scores))
+    more.score)
+    (both (λ (x : Board). x.played ≤ 1200) (learnt b p.what) new
+    (All-head (λ (x : Board). x.played ≤ 1200) b (c ∷ []) s.few) more.few)
+    (subst (λ (T : List HalfMove). AreSame ((b.all ++ on (other_board b.number) p.what ∷ []) ∷ T ∷ [])) (sym more.all)
+    together)
     halves grows.each grows.played
 
 -- sound boards stay sound by one half-move more, and have it behind the others
-pub sound_step : (t : Terms) (boards : List Board) (board : BoardNumber) (own : Board) (p : Played) (change : Board → Board) → AreSoundBoards t boards →
+pub sound_step : (t : Terms) (boards : List Board) (board : BoardNumber) (own : Board) (p : Played)
+    (change : Board → Board)
+    → AreSoundBoards t boards →
     slice_get boards (place board) ≡ Some own → IsOneMore own p (change own) →
     ((other : Board) → slice_get boards (place (other_number board)) ≡ Some other → GoesOn (position_of other)) →
     AreSoundWith t (halves_of boards ++ half_on own.number p ∷ []) (stepped boards board change p.what)
@@ -159,4 +183,5 @@ sound_step t (b ∷ c ∷ []) Second own p change s there more goes =
     let P : Board → Type 0 = λ x. IsOneMore x p (change x) → MayGrow t (halves_of (b ∷ c ∷ [])) (half_on x.number p) →
     AreSoundWith t (halves_of (b ∷ c ∷ []) ++ half_on x.number p ∷ []) (learnt b p.what ∷ change c ∷ []) in
     subst P (same_Some c own there) (λ m g. step_second t b c (change c) p s m g) more grows
-sound_step t (b ∷ c ∷ d ∷ more) board own p change s there new goes = absurd (never_three t.variant b c d more s.numbers)
+sound_step t (b ∷ c ∷ d ∷ more) board own p change s there new goes =
+    absurd (never_three t.variant b c d more s.numbers)

@@ -11,7 +11,8 @@ pub if_ok : {X E : Type 0} (P Q : X → Type 0) (r : Result X E) → ((x : X) �
 if_ok P Q (Ok x) step h = step x h
 if_ok P Q (Err e) step h = tt
 
-pub replays_where : (g : StoredGame) (moment : ℕ) → IsGame g → AreFour g.terms.variant g.names → IsSome (replayed g.terms g.halves moment) ↔ Replays g
+pub replays_where : (g : StoredGame) (moment : ℕ) → IsGame g → AreFour g.terms.variant g.names
+    → IsSome (replayed g.terms g.halves moment) ↔ Replays g
 replays_where g moment spelled four =
     let exactly = replayed_exactly g.terms g.halves moment spelled.halves.each in (
       λ some. record { spelled = spelled; players = four; played = exactly.0 some },

@@ -46,7 +46,8 @@ pub record AreReplayed : Type 0 where
       IsSome (replayed t halves moment) ↔ CanBePlayed t halves
   pub boards : (t : Terms) (halves : List Half) (moment : ℕ) → AllByRecursion (IsHalf t.variant) halves →
       IfSome (replayed t halves moment) (AreOf t halves moment)
-  -- so the boards of a game that is resumed are those with which it was left, but for the time since which their players
+  -- so the boards of a game that is resumed are those with which it was left, but for the time since which their
+  -- players
   -- think
   pub restores : (t : Terms) (boards : List Board) (moment : ℕ) → AreSoundBoards t boards →
       replayed t (halves_of boards) moment ≡ Some (map (resumed_at moment) boards)
@@ -64,7 +65,8 @@ pub record BoardsStaySound : Type 0 where
   pub take_back : (t : Terms) (boards : List Board) (n moment : ℕ) → AreSoundBoards t boards → latest boards ≤ moment →
       AreSoundBoards t (boards_taken_back boards n moment)
 
--- new boards go on, and so do those from which half-moves were taken back; a word ends at most the board at which it was
+-- new boards go on, and so do those from which half-moves were taken back; a word ends at most the board at which it
+-- was
 -- said, since what comes into a hand mates nobody; and what clients acknowledge ends nothing
 pub record EndsComeByMoves : Type 0 where
   pub start : (t : Terms) (moment : ℕ) → GoOn (new_boards t moment)

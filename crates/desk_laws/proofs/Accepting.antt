@@ -48,11 +48,13 @@ reply_done (Ok answer) e = cc
 reply_done (Err cause) e = absurd cc
 
 -- a position to which legal half-moves led has for each allowed one a text
-reads : (b : Board) (m : Move) → IsLegal b.terms.variant b.all → Allowed (position_of b) m → IsReadAs (position_of b) (pretty_in (position_of b) m) m
+reads : (b : Board) (m : Move) → IsLegal b.terms.variant b.all → Allowed (position_of b) m
+    → IsReadAs (position_of b) (pretty_in (position_of b) m) m
 unfolding position_of
 reads b m legal allowed = reads_back b.terms.variant b.all b.number m legal allowed
 
-module _ (parts : List Part) (whole : IsWhole parts) (number : ℕ) (desk : DeskState) (game : GameState) (stands : slice_get parts number ≡ Some (ADesk desk)) (plays : desk.game ≡ Some game) where
+module _ (parts : List Part) (whole : IsWhole parts) (number : ℕ) (desk : DeskState) (game : GameState)
+    (stands : slice_get parts number ≡ Some (ADesk desk)) (plays : desk.game ≡ Some game) where
   sound : IsSound game
   sound = subst (λ (o : Option GameState). IfSome o IsSound) plays (whole.places number (ADesk desk) stands).1.sound
 
@@ -72,27 +74,38 @@ module _ (parts : List Part) (whole : IsWhole parts) (number : ℕ) (desk : Desk
     no_other : other_of house parts session timed ≡ None
     no_other = ap (part_at house parts) no_second
 
-    reply_is : reply house parts session timed ≡ Some (desk_reply (said (seat_of game session) game.ended (word_by game (seat_of game session) word)))
+    reply_is : reply house parts session timed
+        ≡ Some (desk_reply (said (seat_of game session) game.ended (word_by game (seat_of game session) word)))
     reply_is =
         (λ i. option_map (λ (p : Part). house.answer p (no_other i) session timed) (stands i))
-        ∙ ap (λ (r : Result DeskReply Refusal). Some (desk_reply r)) (desk_said desk game session moment word stamp plays)
+        ∙ ap (λ (r : Result DeskReply Refusal). Some (desk_reply r))
+        (desk_said desk game session moment word stamp plays)
 
-    first_is : new_first house parts session timed ≡ Some (ADesk (desk_after desk session moment game.serial (act.Move word stamp)))
+    first_is : new_first house parts session timed
+        ≡ Some (ADesk (desk_after desk session moment game.serial (act.Move word stamp)))
     first_is = λ i. option_map (λ (p : Part). house.one p (no_other i) session timed) (stands i)
 
-    later_desk : slice_get (after house parts session timed) number ≡ Some (ADesk (desk_after desk session moment game.serial (act.Move word stamp)))
+    later_desk : slice_get (after house parts session timed) number
+        ≡ Some (ADesk (desk_after desk session moment game.serial (act.Move word stamp)))
     unfolding after
     later_desk =
-        (λ i. slice_get (put house (put house parts (Some number) (first_is i)) (no_second i) (new_second house parts session timed)) number)
-        ∙ get_set_same parts number (ADesk (desk_after desk session moment game.serial (act.Move word stamp))) (slice_get_within parts number (ADesk desk) stands)
+        (λ i.
+        slice_get
+        (put house (put house parts (Some number) (first_is i)) (no_second i) (new_second house parts session timed))
+        number)
+        ∙ get_set_same parts number (ADesk (desk_after desk session moment game.serial (act.Move word stamp)))
+        (slice_get_within parts number (ADesk desk) stands)
 
     -- the word of a seat of the running game stands for a half-move of its board
-    module _ (seat : ℕ) (sits : seat_of game session ≡ Some seat) (runs : game.ended ≡ None) (m : Move) (is : seat_word game seat word ≡ Ok m) where
+    module _ (seat : ℕ) (sits : seat_of game session ≡ Some seat) (runs : game.ended ≡ None) (m : Move)
+        (is : seat_word game seat word ≡ Ok m) where
       by_seat : word_by game (seat_of game session) word ≡ Ok m
       by_seat = ap (λ (o : Option ℕ). word_by game o word) sits ∙ is
 
       none : refusing (seat_of game session) game.ended (word_by game (seat_of game session) word) ≡ None
-      none = nothing_refuses seat m (seat_of game session) game.ended (word_by game (seat_of game session) word) sits runs by_seat
+      none =
+          nothing_refuses seat m (seat_of game session) game.ended (word_by game (seat_of game session) word) sits runs
+          by_seat
 
       accepted_reply : reply house parts session timed ≡ Some (reply.Desk Done)
       accepted_reply = reply_is ∙ (λ i. Some (desk_reply (said (sits i) (runs i) (by_seat i))))
@@ -103,9 +116,11 @@ module _ (parts : List Part) (whole : IsWhole parts) (number : ℕ) (desk : Desk
       desk_is : desk_after desk session moment game.serial (act.Move word stamp) ≡ record desk { game = Some game_then }
       desk_is =
           desk_then desk game session moment word stamp plays
-          ∙ (λ i. unless (none i) desk (record desk { game = Some (moved_by desk.number game moment (sits i) word stamp) }))
+          ∙ (λ i.
+          unless (none i) desk (record desk { game = Some (moved_by desk.number game moment (sits i) word stamp) }))
 
-      played_at : (b : Board) → slice_get game.boards (place (board_of seat)) ≡ Some b → IsPlayed (after house parts session timed) number seat (moment_at game moment) b m
+      played_at : (b : Board) → slice_get game.boards (place (board_of seat)) ≡ Some b
+          → IsPlayed (after house parts session timed) number seat (moment_at game moment) b m
       played_at b there = record {
         desk = record desk { game = Some game_then };
         stands = later_desk ∙ ap (λ (d : DeskState). Some (ADesk d)) desk_is;
@@ -113,8 +128,11 @@ module _ (parts : List Part) (whole : IsWhole parts) (number : ℕ) (desk : Desk
         plays = refl;
         board = with_half_move b m (moment_at game moment) stamp;
         there =
-            ap (λ (boards : List Board). slice_get boards (place (board_of seat))) (boards_moved desk.number (with_cleared seat game) moment (board_of seat) stamp (seat_word game seat word))
-            ∙ (λ i. slice_get (boards_after game.boards (board_of seat) (moment_at game moment) stamp (is i)) (place (board_of seat)))
+            ap (λ (boards : List Board). slice_get boards (place (board_of seat)))
+            (boards_moved desk.number (with_cleared seat game) moment (board_of seat) stamp (seat_word game seat word))
+            ∙ (λ i.
+            slice_get (boards_after game.boards (board_of seat) (moment_at game moment) stamp (is i))
+            (place (board_of seat)))
             ∙ board_after game.boards (board_of seat) (moment_at game moment) stamp b m there;
         last = record { what = m; charge = next_charge b (moment_at game moment) stamp };
         half_moves = refl;
@@ -122,7 +140,9 @@ module _ (parts : List Part) (whole : IsWhole parts) (number : ℕ) (desk : Desk
         charged = charged_so b (moment_at game moment) stamp;
       }
 
-    accepted_at : (seat : ℕ) (sits : seat_of game session ≡ Some seat) (runs : game.ended ≡ None) (m : Move) → word_by game (seat_of game session) word ≡ Ok m → IsLegalMove parts (after house parts session timed) number session moment game word
+    accepted_at : (seat : ℕ) (sits : seat_of game session ≡ Some seat) (runs : game.ended ≡ None) (m : Move)
+        → word_by game (seat_of game session) word ≡ Ok m
+        → IsLegalMove parts (after house parts session timed) number session moment game word
     accepted_at seat sits runs m e =
         let is : seat_word game seat word ≡ Ok m = sym (ap (λ (o : Option ℕ). word_by game o word) sits) ∙ e in
         let at = played_there (slice_get game.boards (place (board_of seat))) (colour_at seat) word m is in
@@ -135,21 +155,28 @@ module _ (parts : List Part) (whole : IsWhole parts) (number : ℕ) (desk : Desk
           played = played_at seat sits runs m is at.0 at.1;
         }
 
-    accepted : reply house parts session timed ≡ Some (reply.Desk Done) → IsLegalMove parts (after house parts session timed) number session moment game word
+    accepted : reply house parts session timed ≡ Some (reply.Desk Done)
+        → IsLegalMove parts (after house parts session timed) number session moment game word
     accepted e =
-        let by = accepted_by (seat_of game session) game.ended (word_by game (seat_of game session) word) (reply_done (said (seat_of game session) game.ended (word_by game (seat_of game session) word)) (sym reply_is ∙ e)) in
+        let by =
+        accepted_by (seat_of game session) game.ended (word_by game (seat_of game session) word)
+        (reply_done (said (seat_of game session) game.ended (word_by game (seat_of game session) word))
+        (sym reply_is ∙ e)) in
         accepted_at by.0 by.1 by.2 by.3 by.4
 
-    taken : (b : Board) (m : Move) → IsToMove game session b → IsAnswer (position_of b) word m → reply house parts session timed ≡ Some (reply.Desk Done)
+    taken : (b : Board) (m : Move) → IsToMove game session b → IsAnswer (position_of b) word m
+        → reply house parts session timed ≡ Some (reply.Desk Done)
     taken b m to answer =
         let is : seat_word game to.seat word ≡ Ok m =
-        ap (λ (o : Option Board). word_at o (colour_at to.seat) word) to.board ∙ takes_word b (colour_at to.seat) word m to.turn to.room (is_answer (position_of b) word m answer) in
+        ap (λ (o : Option Board). word_at o (colour_at to.seat) word) to.board
+        ∙ takes_word b (colour_at to.seat) word m to.turn to.room (is_answer (position_of b) word m answer) in
         accepted_reply to.seat to.sits to.runs m is
 
   legal_there : (session : ℕ) (b : Board) → IsToMove game session b → IsLegal b.terms.variant b.all
   legal_there session b to = (score (place (board_of to.seat)) b to.board).legal
 
-  each_text : (session : ℕ) (b : Board) (m : Move) → IsToMove game session b → Allowed (position_of b) m → (word : MoveWord) × (reading (pretty_in (position_of b) m) ≡ Some word) × IsAnswer (position_of b) word m
+  each_text : (session : ℕ) (b : Board) (m : Move) → IsToMove game session b → Allowed (position_of b) m
+      → (word : MoveWord) × (reading (pretty_in (position_of b) m) ≡ Some word) × IsAnswer (position_of b) word m
   each_text session b m to allowed =
       let read = reads b m (legal_there session b to) allowed in
       (read.word, read.read, answer_is (position_of b) read.word m read.answered)
@@ -158,4 +185,5 @@ module _ (parts : List Part) (whole : IsWhole parts) (number : ℕ) (desk : Desk
   takes_legal_moves = record { accepted = accepted; taken = taken; each = each_text; legal = legal_there }
 
 pub accepts_legal_moves : HoldsInEachState AcceptsLegalMoves
-accepts_legal_moves opening log whole legal number desk game stands plays = takes_legal_moves _ (stays_whole house house_lawful opening log whole legal) number desk game stands plays
+accepts_legal_moves opening log whole legal number desk game stands plays =
+    takes_legal_moves _ (stays_whole house house_lawful opening log whole legal) number desk game stands plays

@@ -33,13 +33,17 @@ same_with_item : (g : GameState) (x : Option Item) → (with_item g x).boards �
 same_with_item g None = refl
 same_with_item g (Some x) = refl
 
-same_with_end : (desk : ℕ) (g : GameState) (moment : ℕ) (end : Option Ended) → (with_end desk g moment end).boards ≡ g.boards
+same_with_end : (desk : ℕ) (g : GameState) (moment : ℕ) (end : Option Ended)
+    → (with_end desk g moment end).boards ≡ g.boards
 same_with_end desk g moment None = refl
 same_with_end desk g moment (Some e) = refl
 
-pub boards_moved : (desk : ℕ) (g : GameState) (moment : ℕ) (board : BoardNumber) (stamp : Option ℕ) (answer : Result Move Refusal) → (moved desk g moment board stamp answer).boards ≡ boards_after g.boards board (moment_at g moment) stamp answer
+pub boards_moved : (desk : ℕ) (g : GameState) (moment : ℕ) (board : BoardNumber) (stamp : Option ℕ)
+    (answer : Result Move Refusal)
+    → (moved desk g moment board stamp answer).boards ≡ boards_after g.boards board (moment_at g moment) stamp answer
 boards_moved desk g moment board stamp answer =
-    let after : GameState = record g { boards = boards_after g.boards board (moment_at g moment) stamp answer; last = moment_at g moment } in
+    let after : GameState =
+    record g { boards = boards_after g.boards board (moment_at g moment) stamp answer; last = moment_at g moment } in
     let shown : GameState = shown_moved desk g moment board stamp answer in
     let held : GameState = held_moved desk g moment board stamp answer in
     let man : Option Man = captured_by (reply_at (slice_get g.boards (place board)) answer) in
@@ -51,15 +55,19 @@ boards_moved desk g moment board stamp answer =
 
 -- ---- one board is changed
 
-changed_here : (boards : List Board) (k : ℕ) (change : Board → Board) (b : Board) → slice_get boards k ≡ Some b → slice_get (changed_at boards k change) k ≡ Some (change b)
+changed_here : (boards : List Board) (k : ℕ) (change : Board → Board) (b : Board) → slice_get boards k ≡ Some b
+    → slice_get (changed_at boards k change) k ≡ Some (change b)
 changed_here boards k change b e =
-    ap (λ (o : Option Board). slice_get (set_board boards k (option_map change o)) k) e ∙ get_set_same boards k (change b) (slice_get_within boards k b e)
+    ap (λ (o : Option Board). slice_get (set_board boards k (option_map change o)) k) e
+    ∙ get_set_same boards k (change b) (slice_get_within boards k b e)
 
-set_else : (boards : List Board) (k j : ℕ) (o : Option Board) → j ≢ k → slice_get (set_board boards k o) j ≡ slice_get boards j
+set_else : (boards : List Board) (k j : ℕ) (o : Option Board) → j ≢ k
+    → slice_get (set_board boards k o) j ≡ slice_get boards j
 set_else boards k j None other = refl
 set_else boards k j (Some b) other = get_set_else boards k j b other
 
-changed_else : (boards : List Board) (k j : ℕ) (change : Board → Board) → j ≢ k → slice_get (changed_at boards k change) j ≡ slice_get boards j
+changed_else : (boards : List Board) (k j : ℕ) (change : Board → Board) → j ≢ k
+    → slice_get (changed_at boards k change) j ≡ slice_get boards j
 changed_else boards k j change other = set_else boards k j (option_map change (slice_get boards k)) other
 
 other_differs : (board : BoardNumber) → place board ≢ place (other_number board)
@@ -67,16 +75,21 @@ other_differs First e = omega (arith, e)
 other_differs Second e = omega (arith, e)
 
 -- the board has the half-move
-pub board_after : (boards : List Board) (board : BoardNumber) (moment : ℕ) (stamp : Option ℕ) (b : Board) (m : Move) → slice_get boards (place board) ≡ Some b → slice_get (boards_after boards board moment stamp (Ok m)) (place board) ≡ Some (with_half_move b m moment stamp)
+pub board_after : (boards : List Board) (board : BoardNumber) (moment : ℕ) (stamp : Option ℕ) (b : Board) (m : Move)
+    → slice_get boards (place board) ≡ Some b
+    → slice_get (boards_after boards board moment stamp (Ok m)) (place board) ≡ Some (with_half_move b m moment stamp)
 board_after boards board moment stamp b m e =
-    changed_else (changed_at boards (place board) (λ x. play_after x moment stamp (Ok m))) (place (other_number board)) (place board) (λ x. told_answer x (Ok m)) (other_differs board)
+    changed_else (changed_at boards (place board) (λ x. play_after x moment stamp (Ok m))) (place (other_number board))
+    (place board) (λ x. told_answer x (Ok m)) (other_differs board)
     ∙ changed_here boards (place board) (λ x. play_after x moment stamp (Ok m)) b e
 
 -- what it is charged
 abbrev IsCharged : Board → ℕ → Option Charge → Type 0
 IsCharged b moment charge = IfSome charge (λ c. (c.begin ≡ b.begin) × (c.end ≡ moment))
 
-charged_if : (is : Bool) (b : Board) (moment : ℕ) (stamp : Option ℕ) → IsCharged b moment (if is then Some (record { begin = b.begin; end = moment; client = option_zip b.kept stamp }) else None)
+charged_if : (is : Bool) (b : Board) (moment : ℕ) (stamp : Option ℕ)
+    → IsCharged b moment
+    (if is then Some (record { begin = b.begin; end = moment; client = option_zip b.kept stamp }) else None)
 charged_if true b moment stamp = (refl, refl)
 charged_if false b moment stamp = tt
 

@@ -8,7 +8,8 @@ use Rattle.lobby_state.specs.Acts.{lobby_effect}
 use Rattle.one_server.specs.House.{pair_desk, pair_lobby}
 use Rattle.desk_laws.specs.Refusals.{KeepsBoth, KeepsTheDesk, KeepsTheLobby}
 
-still : {S R : Type 0} (first : Option Refusal) (reply : R) (old new : S) (cause : Refusal) → answered first reply ≡ Err cause → unless first old new ≡ old
+still : {S R : Type 0} (first : Option Refusal) (reply : R) (old new : S) (cause : Refusal)
+    → answered first reply ≡ Err cause → unless first old new ≡ old
 still None reply old new cause e = absurd cc
 still (Some other) reply old new cause e = refl
 

@@ -19,7 +19,8 @@ is_less Equal p = absurd (let bad : false ≡ true = p in cc)
 is_less Greater p = absurd (let bad : false ≡ true = p in cc)
 
 -- and so does one that comes before it
-pub IsBelow-less : (key other : List ℕ) (rows : Pairs) → keys_order key other ≡ Less → IsBelow other rows → IsBelow key rows
+pub IsBelow-less : (key other : List ℕ) (rows : Pairs) → keys_order key other ≡ Less → IsBelow other rows
+    → IsBelow key rows
 IsBelow-less key other [] p h = refl
 IsBelow-less key other (e ∷ es) p h =
     let less = nat_list_cmp_total.trans key other e.0 p (is_less _ (first_so _ _ h)) in

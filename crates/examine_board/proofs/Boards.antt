@@ -24,39 +24,51 @@ use Rattle.examine_board.specs.Exam.{board_after, boards_after}
 -- ---- the half-moves of one board
 
 -- one more of it
-list_on-more : (n : ℕ) (halves : List Half) (h : Half) → nat_eq h.board n ≡ true → list_on n (halves ++ h ∷ []) ≡ list_on n halves ++ played_of h ∷ []
+list_on-more : (n : ℕ) (halves : List Half) (h : Half) → nat_eq h.board n ≡ true
+    → list_on n (halves ++ h ∷ []) ≡ list_on n halves ++ played_of h ∷ []
 list_on-more n [] h own = list_on-own n h [] own
 list_on-more n (g ∷ halves) h own =
-    elim (nat_eq g.board n) as (λ b. nat_eq g.board n ≡ b → list_on n (g ∷ halves ++ h ∷ []) ≡ list_on n (g ∷ halves) ++ played_of h ∷ []) [
+    elim (nat_eq g.board n)
+    as (λ b. nat_eq g.board n ≡ b → list_on n (g ∷ halves ++ h ∷ []) ≡ list_on n (g ∷ halves) ++ played_of h ∷ []) [
       | true ↦ λ e.
           list_on-own n g (halves ++ h ∷ []) e ∙ ap (λ l. played_of g ∷ l) (list_on-more n halves h own)
           ∙ ap (λ l. l ++ played_of h ∷ []) (sym (list_on-own n g halves e))
       | false ↦ λ e.
-          list_on-else n g (halves ++ h ∷ []) e ∙ list_on-more n halves h own ∙ ap (λ l. l ++ played_of h ∷ []) (sym (list_on-else n g halves e))
+          list_on-else n g (halves ++ h ∷ []) e ∙ list_on-more n halves h own
+          ∙ ap (λ l. l ++ played_of h ∷ []) (sym (list_on-else n g halves e))
     ] refl
 
 -- one more of the other board
-list_on-same : (n : ℕ) (halves : List Half) (h : Half) → nat_eq h.board n ≡ false → list_on n (halves ++ h ∷ []) ≡ list_on n halves
+list_on-same : (n : ℕ) (halves : List Half) (h : Half) → nat_eq h.board n ≡ false
+    → list_on n (halves ++ h ∷ []) ≡ list_on n halves
 list_on-same n [] h other = list_on-else n h [] other
 list_on-same n (g ∷ halves) h other =
     elim (nat_eq g.board n) as (λ b. nat_eq g.board n ≡ b → list_on n (g ∷ halves ++ h ∷ []) ≡ list_on n (g ∷ halves)) [
       | true ↦ λ e.
-          list_on-own n g (halves ++ h ∷ []) e ∙ ap (λ l. played_of g ∷ l) (list_on-same n halves h other) ∙ sym (list_on-own n g halves e)
-      | false ↦ λ e. list_on-else n g (halves ++ h ∷ []) e ∙ list_on-same n halves h other ∙ sym (list_on-else n g halves e)
+          list_on-own n g (halves ++ h ∷ []) e ∙ ap (λ l. played_of g ∷ l) (list_on-same n halves h other)
+          ∙ sym (list_on-own n g halves e)
+      | false ↦ λ e.
+          list_on-else n g (halves ++ h ∷ []) e ∙ list_on-same n halves h other ∙ sym (list_on-else n g halves e)
     ] refl
 
 -- they are as many as the board has seen
 pub made_is : (n : ℕ) (halves : List Half) → made_on halves n ≡ length (list_on n halves)
 made_is n [] = refl
 made_is n (g ∷ halves) =
-    elim (nat_eq g.board n) as (λ b. length (map (λ h. h.what) (if b then record { board = g.board; what = g.what } ∷ filter (λ h. nat_eq h.board n) (half_moves halves) else filter (λ h. nat_eq h.board n) (half_moves halves)))
-    ≡ length (map played_of (if b then g ∷ filter (λ h. nat_eq h.board n) halves else filter (λ h. nat_eq h.board n) halves))) [
+    elim (nat_eq g.board n)
+    as (λ b.
+    length (map (λ h. h.what)
+    (if b then record { board = g.board; what = g.what } ∷ filter (λ h. nat_eq h.board n) (half_moves halves)
+    else filter (λ h. nat_eq h.board n) (half_moves halves)))
+    ≡ length
+    (map played_of (if b then g ∷ filter (λ h. nat_eq h.board n) halves else filter (λ h. nat_eq h.board n) halves))) [
       | true ↦ ap suc (made_is n halves)
       | false ↦ made_is n halves
     ]
 
 -- all are of the one board, where each is
-pub all_on : (n : ℕ) (halves : List Half) → ((i : ℕ) (h : Half) → slice_get halves i ≡ Some h → h.board ≡ n) → length (list_on n halves) ≡ length halves
+pub all_on : (n : ℕ) (halves : List Half) → ((i : ℕ) (h : Half) → slice_get halves i ≡ Some h → h.board ≡ n)
+    → length (list_on n halves) ≡ length halves
 all_on n [] each = refl
 all_on n (g ∷ halves) each =
     let own : nat_eq g.board n ≡ true = let same = each 0 g refl in grind (arith, nat_tests, same) in
@@ -65,25 +77,52 @@ all_on n (g ∷ halves) each =
 -- ---- one board
 
 -- a half-move more of it
-pub board_more : (t : Terms) (halves : List Half) (h : Half) (n : ℕ) → h.board ≡ n → with_put (board_after t halves n) (played_of h) ≡ board_after t (halves ++ h ∷ []) n
+pub board_more : (t : Terms) (halves : List Half) (h : Half) (n : ℕ) → h.board ≡ n
+    → with_put (board_after t halves n) (played_of h) ≡ board_after t (halves ++ h ∷ []) n
 board_more t halves h n own =
     let list = list_on-more n halves h (let same = own in grind (arith, nat_tests, same)) in
-    let many : length (list_on n (halves ++ h ∷ [])) ≡ length (list_on n halves) + 1 = ap length list ∙ length_push (list_on n halves) (played_of h) in
+    let many : length (list_on n (halves ++ h ∷ [])) ≡ length (list_on n halves) + 1 =
+    ap length list ∙ length_push (list_on n halves) (played_of h) in
     let all : half_moves (halves ++ h ∷ []) ≡ half_moves halves ++ record { board = n; what = h.what } ∷ [] =
-    map-append (λ g. record { board = g.board; what = g.what }) halves (h ∷ []) ∙ (λ i. half_moves halves ++ record { board = own i; what = h.what } ∷ []) in
-    λ i. record { number = n; terms = t; list = sym list i; begin = 0; kept = None; played = sym many i; resumed = sym many i; all = sym all i }
+    map-append (λ g. record { board = g.board; what = g.what }) halves (h ∷ [])
+    ∙ (λ i. half_moves halves ++ record { board = own i; what = h.what } ∷ []) in
+    λ i.
+    record {
+      number = n;
+      terms = t;
+      list = sym list i;
+      begin = 0;
+      kept = None;
+      played = sym many i;
+      resumed = sym many i;
+      all = sym all i;
+    }
 
 -- a half-move more of the other one
-pub board_told : (t : Terms) (halves : List Half) (h : Half) (n : ℕ) → nat_eq h.board n ≡ false → other_board n ≡ h.board → learnt (board_after t halves n) h.what ≡ board_after t (halves ++ h ∷ []) n
+pub board_told : (t : Terms) (halves : List Half) (h : Half) (n : ℕ) → nat_eq h.board n ≡ false
+    → other_board n ≡ h.board → learnt (board_after t halves n) h.what ≡ board_after t (halves ++ h ∷ []) n
 board_told t halves h n other number =
     let list = list_on-same n halves h other in
-    let all : half_moves (halves ++ h ∷ []) ≡ half_moves halves ++ record { board = other_board n; what = h.what } ∷ [] =
-    map-append (λ g. record { board = g.board; what = g.what }) halves (h ∷ []) ∙ (λ i. half_moves halves ++ record { board = sym number i; what = h.what } ∷ []) in
-    λ i. record { number = n; terms = t; list = sym list i; begin = 0; kept = None; played = length (sym list i); resumed = length (sym list i); all = sym all i }
+    let all : half_moves (halves ++ h ∷ [])
+    ≡ half_moves halves ++ record { board = other_board n; what = h.what } ∷ [] =
+    map-append (λ g. record { board = g.board; what = g.what }) halves (h ∷ [])
+    ∙ (λ i. half_moves halves ++ record { board = sym number i; what = h.what } ∷ []) in
+    λ i.
+    record {
+      number = n;
+      terms = t;
+      list = sym list i;
+      begin = 0;
+      kept = None;
+      played = length (sym list i);
+      resumed = length (sym list i);
+      all = sym all i;
+    }
 
 -- ---- all boards
 
-one_board : (t : Terms) (halves : List Half) (h : Half) (board : BoardNumber) → h.board ≡ number_of board → h.board ≤ 1 →
+one_board : (t : Terms) (halves : List Half) (h : Half) (board : BoardNumber) → h.board ≡ number_of board
+    → h.board ≤ 1 →
     boards_put (board_after t halves 1 ∷ []) board (played_of h) ≡ board_after t (halves ++ h ∷ []) 1 ∷ []
 one_board t halves h First own last = ap (λ b. b ∷ []) (board_more t halves h 1 own)
 one_board t halves h Second own last = absurd (omega (arith, own, last))
@@ -98,21 +137,25 @@ two_boards t halves h Second own =
     let other : nat_eq h.board 1 ≡ false = let same = own in grind (arith, nat_tests, same) in
     λ i. board_told t halves h 1 other (sym own) i ∷ board_more t halves h 2 own i ∷ []
 
-boards_more : (v : Variant) (t : Terms) (halves : List Half) (h : Half) (board : BoardNumber) → h.board ≡ number_of board → h.board ≤ bounds.boards v →
-    boards_put (map (board_after t halves) (board_numbers v)) board (played_of h) ≡ map (board_after t (halves ++ h ∷ [])) (board_numbers v)
+boards_more : (v : Variant) (t : Terms) (halves : List Half) (h : Half) (board : BoardNumber)
+    → h.board ≡ number_of board → h.board ≤ bounds.boards v →
+    boards_put (map (board_after t halves) (board_numbers v)) board (played_of h)
+    ≡ map (board_after t (halves ++ h ∷ [])) (board_numbers v)
 boards_more Chess t halves h board own last = one_board t halves h board own last
 boards_more Crazyhouse t halves h board own last = one_board t halves h board own last
 boards_more (Fischer number) t halves h board own last = one_board t halves h board own last
 boards_more Bughouse t halves h board own last = two_boards t halves h board own
 
 -- a half-move more is laid on the boards
-pub boards_laid : (t : Terms) (halves : List Half) (h : Half) (board : BoardNumber) → h.board ≡ number_of board → h.board ≤ bounds.boards t.variant →
+pub boards_laid : (t : Terms) (halves : List Half) (h : Half) (board : BoardNumber) → h.board ≡ number_of board
+    → h.board ≤ bounds.boards t.variant →
     boards_put (boards_after t halves) board (played_of h) ≡ boards_after t (halves ++ h ∷ [])
 boards_laid t halves h board own last = boards_more t.variant t halves h board own last
 
 -- a board in its place
 board_in : (v : Variant) (t : Terms) (halves : List Half) (board : BoardNumber) → number_of board ≤ bounds.boards v →
-    slice_get (map (board_after t halves) (board_numbers v)) (place board) ≡ Some (board_after t halves (number_of board))
+    slice_get (map (board_after t halves) (board_numbers v)) (place board)
+    ≡ Some (board_after t halves (number_of board))
 board_in Chess t halves First last = refl
 board_in Crazyhouse t halves First last = refl
 board_in (Fischer number) t halves First last = refl
@@ -127,7 +170,8 @@ pub board_there : (t : Terms) (halves : List Half) (board : BoardNumber) → num
 board_there t halves board last = board_in t.variant t halves board last
 
 -- the boards at the start of the game
-rewound_in : (v : Variant) (t : Terms) (halves : List Half) → map rewound (map (board_after t halves) (board_numbers v)) ≡ map (board_after t []) (board_numbers v)
+rewound_in : (v : Variant) (t : Terms) (halves : List Half)
+    → map rewound (map (board_after t halves) (board_numbers v)) ≡ map (board_after t []) (board_numbers v)
 rewound_in Chess t halves = refl
 rewound_in Crazyhouse t halves = refl
 rewound_in (Fischer number) t halves = refl

@@ -17,17 +17,20 @@ pub CanBeLaid-take : (t : Terms) (halves : List Half) (k : ℕ) → CanBeLaid t 
 CanBeLaid-take t halves k laid = record {
   each = λ point h e.
       let there = slice_get-take k halves point h e in
-      subst (λ (before : List Half). MayLie t before h) (sym (take-take point k halves (omega (arith, there.0)))) (laid.each point h there.1);
+      subst (λ (before : List Half). MayLie t before h) (sym (take-take point k halves (omega (arith, there.0))))
+      (laid.each point h there.1);
 }
 
 -- one more
-pub CanBeLaid-more : (t : Terms) (halves : List Half) (h : Half) → CanBeLaid t halves → MayLie t halves h → CanBeLaid t (halves ++ h ∷ [])
+pub CanBeLaid-more : (t : Terms) (halves : List Half) (h : Half) → CanBeLaid t halves → MayLie t halves h
+    → CanBeLaid t (halves ++ h ∷ [])
 CanBeLaid-more t halves h laid lies = record {
   each = λ point g e.
       elim (at_or_last halves h g point e) [
         | inl there ↦
             let low = slice_get_within halves point g there in
-            subst (λ (before : List Half). MayLie t before g) (sym (take-append-le point halves (h ∷ []) (omega (arith, low)))) (laid.each point g there)
+            subst (λ (before : List Half). MayLie t before g)
+            (sym (take-append-le point halves (h ∷ []) (omega (arith, low)))) (laid.each point g there)
         | inr last ↦
             let all : halves ≡ take point (halves ++ h ∷ []) = sym (take_at halves (h ∷ []) point (sym last.0)) in
             subst (λ (before : List Half). MayLie t before g) all (subst (MayLie t halves) last.1 lies)
@@ -35,7 +38,8 @@ CanBeLaid-more t halves h laid lies = record {
 }
 
 -- those that can be played
-pub CanBeLaid-played : (t : Terms) (halves : List Half) → AllByRecursion (IsHalf t.variant) halves → CanBePlayed t halves → CanBeLaid t halves
+pub CanBeLaid-played : (t : Terms) (halves : List Half) → AllByRecursion (IsHalf t.variant) halves
+    → CanBePlayed t halves → CanBeLaid t halves
 CanBeLaid-played t halves halves_are played = record {
   each = λ point h e.
       let comes = played.each (take point halves) (drop (suc point) halves) h (around point halves h e) in
@@ -44,7 +48,8 @@ CanBeLaid-played t halves halves_are played = record {
         first = half.first;
         last = half.last;
         allowed = comes.follows.allowed;
-        room = let seen = made_is h.board (take point halves) in let few = comes.follows.room in omega (arith, seen, few);
+        room =
+            let seen = made_is h.board (take point halves) in let few = comes.follows.room in omega (arith, seen, few);
         charge = half.charge;
       };
 }

@@ -57,7 +57,8 @@ number_again n = eq-eqb n n refl
 
 move_again : (m : Move) → same_move m m ≡ true
 move_again (Plain a b promo) =
-    and_from (a == a && b == b) (same_promotion promo promo) (and_from (a == a) (b == b) (number_again a) (number_again b)) (promotion_again promo)
+    and_from (a == a && b == b) (same_promotion promo promo)
+    (and_from (a == a) (b == b) (number_again a) (number_again b)) (promotion_again promo)
 move_again (Castle long) = beq-self long
 move_again (Drop k a) = and_from (same_kind k k) (a == a) (same_kind-self k) (number_again a)
 
@@ -78,7 +79,12 @@ charge_is None None e = refl
 charge_is (Some c) (Some d) e =
     let first = and_parts (c.begin == d.begin && c.end == d.end) (same_stamps c.client d.client) e in
     let moments = and_parts (c.begin == d.begin) (c.end == d.end) first.0 in
-    λ i. Some (record { begin = eqb-true c.begin d.begin moments.0 i; end = eqb-true c.end d.end moments.1 i; client = stamps_are c.client d.client first.1 i })
+    λ i.
+    Some (record {
+      begin = eqb-true c.begin d.begin moments.0 i;
+      end = eqb-true c.end d.end moments.1 i;
+      client = stamps_are c.client d.client first.1 i;
+    })
 charge_is None (Some d) e = absurd cc
 charge_is (Some c) None e = absurd cc
 
@@ -92,16 +98,23 @@ half_is : (g h : Half) → same_half g h ≡ true → g ≡ h
 half_is g h e =
     let first = and_parts (g.board == h.board && same_move g.what h.what) (same_charge g.charge h.charge) e in
     let parts = and_parts (g.board == h.board) (same_move g.what h.what) first.0 in
-    λ i. record { board = eqb-true g.board h.board parts.0 i; what = move_is g.what h.what parts.1 i; charge = charge_is g.charge h.charge first.1 i }
+    λ i.
+    record {
+      board = eqb-true g.board h.board parts.0 i;
+      what = move_is g.what h.what parts.1 i;
+      charge = charge_is g.charge h.charge first.1 i;
+    }
 
 half_again : (g : Half) → same_half g g ≡ true
 half_again g =
     and_from (g.board == g.board && same_move g.what g.what) (same_charge g.charge g.charge)
-    (and_from (g.board == g.board) (same_move g.what g.what) (number_again g.board) (move_again g.what)) (charge_again g.charge)
+    (and_from (g.board == g.board) (same_move g.what g.what) (number_again g.board) (move_again g.what))
+    (charge_again g.charge)
 
 -- ---- what two lists share
 
-cons_share : (g h : Half) (halves others : List Half) (n : ℕ) → g ≡ h → Share halves others n → Share (g ∷ halves) (h ∷ others) (suc n)
+cons_share : (g h : Half) (halves others : List Half) (n : ℕ) → g ≡ h → Share halves others n
+    → Share (g ∷ halves) (h ∷ others) (suc n)
 cons_share g h halves others n same s = record {
   first = let low = s.first in omega (arith, low);
   second = let low = s.second in omega (arith, low);
@@ -115,7 +128,8 @@ pub share_is : (halves others : List Half) → Share halves others (shared_lengt
 share_is [] others = none_shared [] others
 share_is (g ∷ halves) [] = none_shared (g ∷ halves) []
 share_is (g ∷ halves) (h ∷ others) =
-    elim (same_half g h) as (λ b. same_half g h ≡ b → Share (g ∷ halves) (h ∷ others) (if b then suc (shared_length halves others) else 0)) [
+    elim (same_half g h)
+    as (λ b. same_half g h ≡ b → Share (g ∷ halves) (h ∷ others) (if b then suc (shared_length halves others) else 0)) [
       | true ↦ λ e. cons_share g h halves others (shared_length halves others) (half_is g h e) (share_is halves others)
       | false ↦ λ e. none_shared (g ∷ halves) (h ∷ others)
     ] refl
@@ -128,11 +142,17 @@ share_most (g ∷ halves) (h ∷ others) (suc n) s =
     let first : g ≡ h = let same = s.same in cc in
     let rest : take n halves ≡ take n others = let same = s.same in cc in
     let again : same_half g h ≡ true = ap (same_half g) (sym first) ∙ half_again g in
-    let more = share_most halves others n (record { first = let low = s.first in omega (arith, low); second = let low = s.second in omega (arith, low); same = rest }) in
+    let more =
+    share_most halves others n (record {
+      first = let low = s.first in omega (arith, low);
+      second = let low = s.second in omega (arith, low);
+      same = rest;
+    }) in
     subst (λ (b : Bool). suc n ≤ (if b then suc (shared_length halves others) else 0)) (sym again) (omega (arith, more))
 
 -- so they share n where that is the length of one of them, or the next ones differ
-pub share_whole : (halves others : List Half) (n : ℕ) → Share halves others n → n ≡ min (length halves) (length others) → n ≡ shared_length halves others
+pub share_whole : (halves others : List Half) (n : ℕ) → Share halves others n → n ≡ min (length halves) (length others)
+    → n ≡ shared_length halves others
 share_whole halves others n s all =
     let most = share_most halves others n s in
     let is = share_is halves others in
@@ -140,7 +160,8 @@ share_whole halves others n s all =
     let second = is.second in
     omega (arith, most, first, second, all)
 
-pub share_until : (halves others : List Half) (n : ℕ) (g h : Half) → Share halves others n → slice_get halves n ≡ Some g → slice_get others n ≡ Some h → same_half g h ≡ false → n ≡ shared_length halves others
+pub share_until : (halves others : List Half) (n : ℕ) (g h : Half) → Share halves others n → slice_get halves n ≡ Some g
+    → slice_get others n ≡ Some h → same_half g h ≡ false → n ≡ shared_length halves others
 share_until [] others n g h s e f differ = absurd cc
 share_until (x ∷ halves) [] n g h s e f differ = absurd cc
 share_until (x ∷ halves) (y ∷ others) zero g h s e f differ =
@@ -152,11 +173,17 @@ share_until (x ∷ halves) (y ∷ others) (suc n) g h s e f differ =
     let first : x ≡ y = let same = s.same in cc in
     let rest : take n halves ≡ take n others = let same = s.same in cc in
     let again : same_half x y ≡ true = ap (same_half x) (sym first) ∙ half_again x in
-    let more = share_until halves others n g h (record { first = let low = s.first in omega (arith, low); second = let low = s.second in omega (arith, low); same = rest }) e f differ in
+    let more =
+    share_until halves others n g h (record {
+      first = let low = s.first in omega (arith, low);
+      second = let low = s.second in omega (arith, low);
+      same = rest;
+    }) e f differ in
     ap suc more ∙ ap (λ (b : Bool). if b then suc (shared_length halves others) else 0) (sym again)
 
 -- and one more where the next ones are the same
-pub share_next : (halves others : List Half) (n : ℕ) (g h : Half) → Share halves others n → slice_get halves n ≡ Some g → slice_get others n ≡ Some h → same_half g h ≡ true → Share halves others (n + 1)
+pub share_next : (halves others : List Half) (n : ℕ) (g h : Half) → Share halves others n → slice_get halves n ≡ Some g
+    → slice_get others n ≡ Some h → same_half g h ≡ true → Share halves others (n + 1)
 share_next [] others n g h s e f same = absurd cc
 share_next (x ∷ halves) [] n g h s e f same = absurd cc
 share_next (x ∷ halves) (y ∷ others) zero g h s e f same =
@@ -166,7 +193,12 @@ share_next (x ∷ halves) (y ∷ others) zero g h s e f same =
 share_next (x ∷ halves) (y ∷ others) (suc n) g h s e f same =
     let first : x ≡ y = let whole = s.same in cc in
     let rest : take n halves ≡ take n others = let whole = s.same in cc in
-    let more = share_next halves others n g h (record { first = let low = s.first in omega (arith, low); second = let low = s.second in omega (arith, low); same = rest }) e f same in
+    let more =
+    share_next halves others n g h (record {
+      first = let low = s.first in omega (arith, low);
+      second = let low = s.second in omega (arith, low);
+      same = rest;
+    }) e f same in
     let next : suc (n + 1) ≡ suc n + 1 = omega arith in
     subst (λ (k : ℕ). Share (x ∷ halves) (y ∷ others) k) next (cons_share x y halves others (n + 1) first more)
 
@@ -187,32 +219,39 @@ shared_low e =
 pub shared_within : (e : ExamState) → shared_length (present e) e.stored ≤ length e.stored
 shared_within e = let is = share_is (present e) e.stored in is.second
 
-pub shared_same : (e : ExamState) → take (shared_length (present e) e.stored) e.list ≡ take (shared_length (present e) e.stored) e.stored
+pub shared_same : (e : ExamState)
+    → take (shared_length (present e) e.stored) e.list ≡ take (shared_length (present e) e.stored) e.stored
 shared_same e =
     let is = share_is (present e) e.stored in
     sym (take-take (shared_length (present e) e.stored) e.point e.list (shared_low e)) ∙ is.same
 
 -- a half-move on the boards
-present_at : (e : ExamState) (n : ℕ) (g : Half) → n < e.point → slice_get e.list n ≡ Some g → slice_get (present e) n ≡ Some g
+present_at : (e : ExamState) (n : ℕ) (g : Half) → n < e.point → slice_get e.list n ≡ Some g
+    → slice_get (present e) n ≡ Some g
 present_at e n g low there = slice_get-first e.point e.list n low ∙ there
 
-stored_at : (e : ExamState) (read : List Half) (n : ℕ) (h : Half) → read ≡ e.stored → n < length e.stored → h ≡ slice_index_or read n h → slice_get e.stored n ≡ Some h
+stored_at : (e : ExamState) (read : List Half) (n : ℕ) (h : Half) → read ≡ e.stored → n < length e.stored
+    → h ≡ slice_index_or read n h → slice_get e.stored n ≡ Some h
 stored_at e read n h are low is =
     let many = ap length are in
-    ap (λ (l : List Half). slice_get l n) (sym are) ∙ slice_get_read read (length read) n h refl (omega (arith, many, low)) is
+    ap (λ (l : List Half). slice_get l n) (sym are)
+    ∙ slice_get_read read (length read) n h refl (omega (arith, many, low)) is
 
 -- how far the two were compared
-pub kept_until : (e : ExamState) (read : List Half) (n : ℕ) (g h : Half) → Share (present e) e.stored n → n < e.point → n < length e.stored → slice_get e.list n ≡ Some g → read ≡ e.stored
+pub kept_until : (e : ExamState) (read : List Half) (n : ℕ) (g h : Half) → Share (present e) e.stored n → n < e.point
+    → n < length e.stored → slice_get e.list n ≡ Some g → read ≡ e.stored
     → h ≡ slice_index_or read n h → same_half g h ≡ false → n ≡ shared_length (present e) e.stored
 kept_until e read n g h s low within there are is differ =
     share_until (present e) e.stored n g h s (present_at e n g low there) (stored_at e read n h are within is) differ
 
-pub kept_next : (e : ExamState) (read : List Half) (n : ℕ) (g h : Half) → Share (present e) e.stored n → n < e.point → n < length e.stored → slice_get e.list n ≡ Some g → read ≡ e.stored
+pub kept_next : (e : ExamState) (read : List Half) (n : ℕ) (g h : Half) → Share (present e) e.stored n → n < e.point
+    → n < length e.stored → slice_get e.list n ≡ Some g → read ≡ e.stored
     → h ≡ slice_index_or read n h → same_half g h ≡ true → Share (present e) e.stored (n + 1)
 kept_next e read n g h s low within there are is same =
     share_next (present e) e.stored n g h s (present_at e n g low there) (stored_at e read n h are within is) same
 
-pub kept_whole : (e : ExamState) (n : ℕ) → Share (present e) e.stored n → e.point ≤ length e.list → n ≡ min e.point (length e.stored) → n ≡ shared_length (present e) e.stored
+pub kept_whole : (e : ExamState) (n : ℕ) → Share (present e) e.stored n → e.point ≤ length e.list
+    → n ≡ min e.point (length e.stored) → n ≡ shared_length (present e) e.stored
 kept_whole e n s within all =
     let many : length (present e) ≡ e.point = length-take-le e.point e.list within in
     share_whole (present e) e.stored n s (all ∙ ap (λ (k : ℕ). min k (length e.stored)) (sym many))

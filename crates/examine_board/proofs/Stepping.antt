@@ -23,11 +23,13 @@ there_some (Some a) b e = refl
 there_if : (P : Board → Type 0) (o : Option Board) (b : Board) → o ≡ Some b → P b → IfSome o P
 there_if P o b e p = subst (λ (x : Option Board). IfSome x P) (sym e) p
 
-allowed_on : (t : Terms) (halves : List Half) (h : Half) → MayLie t halves h → Allowed (position_of (board_after t halves h.board)) h.what
+allowed_on : (t : Terms) (halves : List Half) (h : Half) → MayLie t halves h
+    → Allowed (position_of (board_after t halves h.board)) h.what
 unfolding position_of
 allowed_on t halves h lies = lies.allowed
 
-module _ (t : Terms) (halves : List Half) (h : Half) (board : BoardNumber) (boards : List Board) (on : numbered h.board ≡ Some board) (lies : MayLie t halves h)
+module _ (t : Terms) (halves : List Half) (h : Half) (board : BoardNumber) (boards : List Board)
+    (on : numbered h.board ≡ Some board) (lies : MayLie t halves h)
     (are : boards ≡ boards_after t halves) where
   own : number_of board ≡ h.board
   own = number_of-numbered h.board board on
@@ -42,17 +44,25 @@ module _ (t : Terms) (halves : List Half) (h : Half) (board : BoardNumber) (boar
   lay_board = there_some (slice_get boards (place board)) (board_after t halves h.board) there
 
   pub lay_allowed : IfSome (slice_get boards (place board)) (λ b. Allowed (position_of b) h.what)
-  lay_allowed = there_if (λ b. Allowed (position_of b) h.what) (slice_get boards (place board)) (board_after t halves h.board) there (allowed_on t halves h lies)
+  lay_allowed =
+      there_if (λ b. Allowed (position_of b) h.what) (slice_get boards (place board)) (board_after t halves h.board)
+      there (allowed_on t halves h lies)
 
   pub lay_room : IfSome (slice_get boards (place board)) (λ b. b.played < 1200)
-  lay_room = there_if (λ b. b.played < 1200) (slice_get boards (place board)) (board_after t halves h.board) there lies.room
+  lay_room =
+      there_if (λ b. b.played < 1200) (slice_get boards (place board)) (board_after t halves h.board) there lies.room
 
   pub lay_short : IfSome (slice_get boards (place board)) (λ b. length b.list < 1200)
-  lay_short = there_if (λ b. length b.list < 1200) (slice_get boards (place board)) (board_after t halves h.board) there lies.room
+  lay_short =
+      there_if (λ b. length b.list < 1200) (slice_get boards (place board)) (board_after t halves h.board) there
+      lies.room
 
   pub laid : (new : List Board) → new ≡ boards_put boards board (played_of h) → new ≡ boards_after t (halves ++ h ∷ [])
-  laid new put = put ∙ ap (λ (bs : List Board). boards_put bs board (played_of h)) are ∙ boards_laid t halves h board (sym own) lies.last
+  laid new put =
+      put ∙ ap (λ (bs : List Board). boards_put bs board (played_of h)) are
+      ∙ boards_laid t halves h board (sym own) lies.last
 
 -- the first half-moves with the next one
-pub next_first : (list : List Half) (point : ℕ) (h : Half) → slice_get list point ≡ Some h → take point list ++ h ∷ [] ≡ take (point + 1) list
+pub next_first : (list : List Half) (point : ℕ) (h : Half) → slice_get list point ≡ Some h
+    → take point list ++ h ∷ [] ≡ take (point + 1) list
 next_first list point h there = sym (take-next point list h there) ∙ ap (λ k. take k list) (sym (add-one point))

@@ -38,22 +38,30 @@ one_board (Fischer number) e = refl
 one_board Bughouse e = absurd cc
 
 -- it has all half-moves
-pub all_there : (t : Terms) (halves : List Half) → is_pair t.variant ≡ false → CanBeLaid t halves → length (list_on 1 halves) ≡ length halves
+pub all_there : (t : Terms) (halves : List Half) → is_pair t.variant ≡ false → CanBeLaid t halves
+    → length (list_on 1 halves) ≡ length halves
 all_there t halves single laid =
     let one = one_board t.variant single in
-    all_on 1 halves (λ i h e. let lies = laid.each i h e in let first = lies.first in let last = lies.last in omega (arith, first, last, one))
+    all_on 1 halves
+    (λ i h e.
+    let lies = laid.each i h e in let first = lies.first in let last = lies.last in omega (arith, first, last, one))
 
-pub present_there : (e : ExamState) → is_pair e.terms.variant ≡ false → CanBeLaid e.terms e.list → e.point ≤ length e.list → length (list_on 1 (present e)) ≡ e.point
-present_there e single laid within = all_there e.terms (present e) single (CanBeLaid-take e.terms e.list e.point laid) ∙ length-take-le e.point e.list within
+pub present_there : (e : ExamState) → is_pair e.terms.variant ≡ false → CanBeLaid e.terms e.list
+    → e.point ≤ length e.list → length (list_on 1 (present e)) ≡ e.point
+present_there e single laid within =
+    all_there e.terms (present e) single (CanBeLaid-take e.terms e.list e.point laid)
+    ∙ length-take-le e.point e.list within
 
-first_in : (v : Variant) (t : Terms) (halves : List Half) (b : Board) (rest : List Board) → b ∷ rest ≡ map (board_after t halves) (board_numbers v) → b ≡ board_after t halves 1
+first_in : (v : Variant) (t : Terms) (halves : List Half) (b : Board) (rest : List Board)
+    → b ∷ rest ≡ map (board_after t halves) (board_numbers v) → b ≡ board_after t halves 1
 first_in Chess t halves b rest e = cc
 first_in Crazyhouse t halves b rest e = cc
 first_in (Fischer number) t halves b rest e = cc
 first_in Bughouse t halves b rest e = cc
 
 -- the first board is that of the number 1
-pub first_is : (t : Terms) (halves : List Half) (b : Board) (rest : List Board) → b ∷ rest ≡ boards_after t halves → b ≡ board_after t halves 1
+pub first_is : (t : Terms) (halves : List Half) (b : Board) (rest : List Board) → b ∷ rest ≡ boards_after t halves
+    → b ≡ board_after t halves 1
 first_is t halves b rest e = first_in t.variant t halves b rest e
 
 pub position_is : (e : ExamState) (b : Board) → b ≡ board_on e First → position_of b ≡ position e
@@ -65,26 +73,46 @@ position_is e b is = ap position_of is
 pub answer_pair : (e : ExamState) (w : MoveWord) → is_pair e.terms.variant ≡ true → Err NotInVariant ≡ play_answer e w
 unfolding play_answer
 answer_pair e w pair =
-    sym (ap (λ t. option_map_or Err (cond t (Some NotInVariant) (cond (is_end (result (position e))) (Some GameOver) (cond (e.point == 1200) (Some TooManyMoves) None)))
+    sym (ap
+    (λ t.
+    option_map_or Err
+    (cond t (Some NotInVariant)
+    (cond (is_end (result (position e))) (Some GameOver) (cond (e.point == 1200) (Some TooManyMoves) None)))
     (in_words (word_answer (position e) w))) pair)
 
-pub answer_over : (e : ExamState) (w : MoveWord) → is_pair e.terms.variant ≡ false → is_end (result (position e)) ≡ true → Err GameOver ≡ play_answer e w
+pub answer_over : (e : ExamState) (w : MoveWord) → is_pair e.terms.variant ≡ false → is_end (result (position e)) ≡ true
+    → Err GameOver ≡ play_answer e w
 unfolding play_answer
 answer_over e w single over =
-    sym (λ i. option_map_or Err (cond (single i) (Some NotInVariant) (cond (over i) (Some GameOver) (cond (e.point == 1200) (Some TooManyMoves) None))) (in_words (word_answer (position e) w)))
+    sym (λ i.
+    option_map_or Err
+    (cond (single i) (Some NotInVariant)
+    (cond (over i) (Some GameOver) (cond (e.point == 1200) (Some TooManyMoves) None)))
+    (in_words (word_answer (position e) w)))
 
 board_answers : (e : ExamState) (w : MoveWord) → length (list_on 1 (present e)) ≡ e.point →
-    move_answer (board_on e First) (to_move (board_on e First)) w ≡ option_map_or Err (cond (e.point == 1200) (Some TooManyMoves) None) (in_words (word_answer (position e) w))
+    move_answer (board_on e First) (to_move (board_on e First)) w
+    ≡ option_map_or Err (cond (e.point == 1200) (Some TooManyMoves) None) (in_words (word_answer (position e) w))
 unfolding move_answer position_of
 board_answers e w count =
-    λ i. option_map_or Err (cond (not (same_colour-self (to_move (board_on e First)) i)) (Some NotYourTurn) (cond (count i == 1200) (Some TooManyMoves) None)) (in_words (word_answer (position e) w))
+    λ i.
+    option_map_or Err
+    (cond (not (same_colour-self (to_move (board_on e First)) i)) (Some NotYourTurn)
+    (cond (count i == 1200) (Some TooManyMoves) None))
+    (in_words (word_answer (position e) w))
 
-pub answer_word : (e : ExamState) (w : MoveWord) (b : Board) → is_pair e.terms.variant ≡ false → is_end (result (position e)) ≡ false → b ≡ board_on e First →
+pub answer_word : (e : ExamState) (w : MoveWord) (b : Board) → is_pair e.terms.variant ≡ false
+    → is_end (result (position e)) ≡ false → b ≡ board_on e First →
     length (list_on 1 (present e)) ≡ e.point → move_answer b (to_move b) w ≡ play_answer e w
 unfolding play_answer
 answer_word e w b single on is count =
     ap (λ (x : Board). move_answer x (to_move x) w) is ∙ board_answers e w count
-    ∙ sym (λ i. option_map_or Err (cond (single i) (Some NotInVariant) (cond (on i) (Some GameOver) (cond (e.point == 1200) (Some TooManyMoves) None))) (in_words (word_answer (position e) w)))
+    ∙ sym
+    (λ i.
+    option_map_or Err
+    (cond (single i) (Some NotInVariant)
+    (cond (on i) (Some GameOver) (cond (e.point == 1200) (Some TooManyMoves) None)))
+    (in_words (word_answer (position e) w)))
 
 -- ---- what the board says, where the game goes on
 
@@ -94,7 +122,8 @@ pub record Going (e : ExamState) (b : Board) : Type 0 where
   pub is : b ≡ board_on e First
   pub count : length (list_on 1 (present e)) ≡ e.point
 
-pub going : (e : ExamState) (b : Board) (rest : List Board) → is_pair e.terms.variant ≡ false → is_end (result (position_of b)) ≡ false → b ∷ rest ≡ boards_after e.terms (present e)
+pub going : (e : ExamState) (b : Board) (rest : List Board) → is_pair e.terms.variant ≡ false
+    → is_end (result (position_of b)) ≡ false → b ∷ rest ≡ boards_after e.terms (present e)
     → CanBeLaid e.terms e.list → e.point ≤ length e.list → Going e b
 going e b rest single on boards laid within =
     let is = first_is e.terms (present e) b rest boards in
@@ -105,15 +134,19 @@ going e b rest single on boards laid within =
       count = present_there e single laid within;
     }
 
-pub going_answer : (e : ExamState) (w : MoveWord) (b : Board) → Going e b → move_answer b (to_move b) w ≡ play_answer e w
+pub going_answer : (e : ExamState) (w : MoveWord) (b : Board) → Going e b
+    → move_answer b (to_move b) w ≡ play_answer e w
 going_answer e w b g = answer_word e w b g.single g.on g.is g.count
 
-pub going_room : (e : ExamState) (b : Board) (r : Result Move Refusal) → Going e b → OnOk r (length b.list < 1200) → OnOk r (e.point < 1200)
-going_room e b (Ok m) g h = let same = ap (λ (x : Board). length x.list) g.is in let count = g.count in omega (arith, same, count, h)
+pub going_room : (e : ExamState) (b : Board) (r : Result Move Refusal) → Going e b → OnOk r (length b.list < 1200)
+    → OnOk r (e.point < 1200)
+going_room e b (Ok m) g h =
+    let same = ap (λ (x : Board). length x.list) g.is in let count = g.count in omega (arith, same, count, h)
 going_room e b (Err cause) g h = tt
 
 -- an allowed half-move may be laid there
-may_lie : (e : ExamState) (m : Move) → is_pair e.terms.variant ≡ false → length (list_on 1 (present e)) ≡ e.point → Allowed (position e) m → e.point < 1200 →
+may_lie : (e : ExamState) (m : Move) → is_pair e.terms.variant ≡ false → length (list_on 1 (present e)) ≡ e.point
+    → Allowed (position e) m → e.point < 1200 →
     MayLie e.terms (present e) (uncharged m)
 may_lie e m single count allowed room =
     let one = one_board e.terms.variant single in
@@ -125,8 +158,10 @@ may_lie e m single count allowed room =
       charge = tt;
     }
 
-pub going_lies : (e : ExamState) (b : Board) (r : Result Move Refusal) → Going e b → IfOk r (Allowed (position_of b)) → OnOk r (length b.list < 1200) →
+pub going_lies : (e : ExamState) (b : Board) (r : Result Move Refusal) → Going e b → IfOk r (Allowed (position_of b))
+    → OnOk r (length b.list < 1200) →
     IfOk r (λ m. MayLie e.terms (present e) (uncharged m))
 going_lies e b (Ok m) g allowed room =
-    may_lie e m g.single g.count (subst (λ (p : Position). Allowed p m) (position_is e b g.is) allowed) (going_room e b (Ok m) g room)
+    may_lie e m g.single g.count (subst (λ (p : Position). Allowed p m) (position_is e b g.is) allowed)
+    (going_room e b (Ok m) g room)
 going_lies e b (Err cause) g allowed room = tt

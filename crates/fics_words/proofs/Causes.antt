@@ -3,7 +3,8 @@ use Rattle.std.proofs.Common.{◌≡◌, Bool, true, false, cond, List, [], ◌�
 use Rattle.fics_words.specs.Effect.{Cause, NoneHolds, first_cause}
 
 -- where neither gives a value, the test fails and the other one gives none
-pub first_none : {X : Type 0} (b : Bool) (x : X) (rest : Option X) → cond b (Some x) rest ≡ None → (b ≡ false) × (rest ≡ None)
+pub first_none : {X : Type 0} (b : Bool) (x : X) (rest : Option X) → cond b (Some x) rest ≡ None
+    → (b ≡ false) × (rest ≡ None)
 first_none true x rest e = cc
 first_none false x rest e = (refl, e)
 

@@ -21,17 +21,22 @@ within lo hi b e = let both = and_parts (nat_le lo b) (nat_le b hi) e in (at_lea
 is_within : (lo hi b : ℕ) → lo ≤ b → b ≤ hi → (nat_le lo b && nat_le b hi) ≡ true
 is_within lo hi b p q = and_from (nat_le lo b) (nat_le b hi) (is_at_least lo b p) (is_at_least b hi q)
 
-pub each : (test : ℕ → Bool) (P : ℕ → Type 0) → ((b : ℕ) → test b ≡ true → P b) → (bytes : List ℕ) → list_all test bytes ≡ true → AllByRecursion P bytes
+pub each : (test : ℕ → Bool) (P : ℕ → Type 0) → ((b : ℕ) → test b ≡ true → P b) → (bytes : List ℕ)
+    → list_all test bytes ≡ true → AllByRecursion P bytes
 each test P means [] e = tt
-each test P means (b ∷ bytes) e = let both = and_parts (test b) (list_all test bytes) e in (means b both.0, each test P means bytes both.1)
+each test P means (b ∷ bytes) e =
+    let both = and_parts (test b) (list_all test bytes) e in (means b both.0, each test P means bytes both.1)
 
-each_again : (test : ℕ → Bool) (P : ℕ → Type 0) → ((b : ℕ) → P b → test b ≡ true) → (bytes : List ℕ) → AllByRecursion P bytes → list_all test bytes ≡ true
+each_again : (test : ℕ → Bool) (P : ℕ → Type 0) → ((b : ℕ) → P b → test b ≡ true) → (bytes : List ℕ)
+    → AllByRecursion P bytes → list_all test bytes ≡ true
 each_again test P means [] all = refl
-each_again test P means (b ∷ bytes) all = and_from (test b) (list_all test bytes) (means b all.0) (each_again test P means bytes all.1)
+each_again test P means (b ∷ bytes) all =
+    and_from (test b) (list_all test bytes) (means b all.0) (each_again test P means bytes all.1)
 
 letter : (b : ℕ) → ((nat_le 65 b && nat_le b 90) || (nat_le 97 b && nat_le b 122)) ≡ true → IsAsciiAlphabetic b
 letter b e =
-    elim (nat_le 65 b && nat_le b 90) as (λ t. (nat_le 65 b && nat_le b 90) ≡ t → t || (nat_le 97 b && nat_le b 122) ≡ true → IsAsciiAlphabetic b) [
+    elim (nat_le 65 b && nat_le b 90)
+    as (λ t. (nat_le 65 b && nat_le b 90) ≡ t → t || (nat_le 97 b && nat_le b 122) ≡ true → IsAsciiAlphabetic b) [
       | true ↦ λ is e. inl (within 65 90 b is)
       | false ↦ λ is e. inr (within 97 122 b e)
     ] refl e
@@ -52,14 +57,17 @@ handle_spelled bytes e =
     let rest = and_parts (nat_le (length bytes) 17) letters parts.1 in (
       at_least 3 (length bytes) parts.0,
       at_least (length bytes) 17 rest.0,
-      All-from_recursion IsAsciiAlphabetic bytes (each (λ b. (nat_le 65 b && nat_le b 90) || (nat_le 97 b && nat_le b 122)) IsAsciiAlphabetic letter bytes rest.1),
+      All-from_recursion IsAsciiAlphabetic bytes
+          (each (λ b. (nat_le 65 b && nat_le b 90) || (nat_le 97 b && nat_le b 122)) IsAsciiAlphabetic letter bytes
+          rest.1),
     )
 
 handle_again : (bytes : List ℕ) → IsHandle bytes → is_handle bytes ≡ true
 handle_again bytes h =
     and_from _ _ (is_at_least 3 (length bytes) h.0)
     (and_from _ _ (is_at_least (length bytes) 17 h.1)
-    (each_again (λ b. (nat_le 65 b && nat_le b 90) || (nat_le 97 b && nat_le b 122)) IsAsciiAlphabetic letter_again bytes (recursion_from_All IsAsciiAlphabetic bytes h.2)))
+    (each_again (λ b. (nat_le 65 b && nat_le b 90) || (nat_le 97 b && nat_le b 122)) IsAsciiAlphabetic letter_again
+    bytes (recursion_from_All IsAsciiAlphabetic bytes h.2)))
 
 pub handle_is : (bytes : List ℕ) (read : Option (List ℕ)) → SomeIff read (IsHandle bytes) bytes → read ≡ handle_of bytes
 handle_is bytes None none =

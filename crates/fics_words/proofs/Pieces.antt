@@ -32,4 +32,5 @@ last_of-cons x (y ∷ ys) h = refl
 pub but_last-last_of : (parts : List (List ℕ)) → Begins parts → but_last parts ++ last_of parts ∷ [] ≡ parts
 but_last-last_of [] h = absurd (let bad = h.is in cc)
 but_last-last_of (x ∷ []) h = refl
-but_last-last_of (x ∷ y ∷ ys) h = ap (λ l. x ∷ l) (but_last-last_of (y ∷ ys) (record { first = y; others = ys; is = refl }))
+but_last-last_of (x ∷ y ∷ ys) h =
+    ap (λ l. x ∷ l) (but_last-last_of (y ∷ ys) (record { first = y; others = ys; is = refl }))

@@ -30,7 +30,8 @@ empty_board number terms position begin = record {
   all = [];
 }
 
-HoldsBoard-empty : (number : ℕ) (terms : Terms) (position : Position) (begin : ℕ) → 1 ≤ number → number ≤ 2 → position.variant ≡ terms.variant → Stands position [] number →
+HoldsBoard-empty : (number : ℕ) (terms : Terms) (position : Position) (begin : ℕ) → 1 ≤ number → number ≤ 2
+    → position.variant ≡ terms.variant → Stands position [] number →
     HoldsBoard (empty_board number terms position begin)
 HoldsBoard-empty number terms position begin first second variant stands = record {
   stands = stands;
@@ -53,8 +54,10 @@ HoldsBoard-empty number terms position begin first second variant stands = recor
   resumed = omega arith;
 }
 
-pub HoldsBoard-at_start : (number : ℕ) (terms : Terms) (position : Position) (list : List Played) (steps : List Step) (white black : Ledger) (begin : ℕ) (all : List Made) →
-    1 ≤ number → number ≤ 2 → position.variant ≡ terms.variant → Stands position [] number → list ≡ [] → steps ≡ [] → white ≡ clock_of terms White [] → black ≡ clock_of terms Black [] →
+pub HoldsBoard-at_start : (number : ℕ) (terms : Terms) (position : Position) (list : List Played) (steps : List Step)
+    (white black : Ledger) (begin : ℕ) (all : List Made) →
+    1 ≤ number → number ≤ 2 → position.variant ≡ terms.variant → Stands position [] number → list ≡ [] → steps ≡ []
+    → white ≡ clock_of terms White [] → black ≡ clock_of terms Black [] →
     all ≡ [] →
     HoldsBoard (record {
       number = number;

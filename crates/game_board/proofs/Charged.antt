@@ -14,7 +14,8 @@ use Rattle.game_board.specs.Charges.{charge_to, charges_from, charges_of}
 use Rattle.chess_model.proofs.ChessLaws.{opposite-opposite}
 
 pub charges_from-append : (c by : Colour) (ps : List Played) (p : Played) →
-    charges_from c by (ps ++ p ∷ []) ≡ charges_from c by ps ++ charge_to c (side_from by (map (λ q. q.what) ps)) p.charge
+    charges_from c by (ps ++ p ∷ [])
+    ≡ charges_from c by ps ++ charge_to c (side_from by (map (λ q. q.what) ps)) p.charge
 charges_from-append c by [] p = append-nil (charge_to c by p.charge)
 charges_from-append c by (q ∷ qs) p =
     ap (λ cs. charge_to c by q.charge ++ cs) (charges_from-append c (opposite by) qs p)
@@ -45,19 +46,35 @@ at_most_half : (c : Colour) (ps : List Played) → AtMostHalf c ps
 at_most_half c [] = record { own = omega arith; other = omega arith }
 at_most_half c (p ∷ ps) =
     let rest = at_most_half c ps in
-    let back : charges_from c (opposite (opposite c)) ps ≡ charges_from c c ps = ap (λ d. charges_from c d ps) (opposite-opposite c) in
+    let back : charges_from c (opposite (opposite c)) ps ≡ charges_from c c ps =
+    ap (λ d. charges_from c d ps) (opposite-opposite c) in
     record {
-      own = omega (arith, rest.other, length-append (charge_to c c p.charge) (charges_from c (opposite c) ps), length-own_charge c p.charge);
-      other = omega (arith, rest.own, ap length back, length-append (charge_to c (opposite c) p.charge) (charges_from c (opposite (opposite c)) ps), length-other_charge c p.charge);
+      own =
+          omega (
+            arith,
+            rest.other,
+            length-append (charge_to c c p.charge) (charges_from c (opposite c) ps),
+            length-own_charge c p.charge,
+          );
+      other =
+          omega (
+            arith,
+            rest.own,
+            ap length back,
+            length-append (charge_to c (opposite c) p.charge) (charges_from c (opposite (opposite c)) ps),
+            length-other_charge c p.charge,
+          );
     }
 
 -- where the one that began is to move, it is exactly half
-at_most_half-even : (c : Colour) (ps : List Played) → side_from c (map (λ p. p.what) ps) ≡ c → 2 * length (charges_from c c ps) ≤ length ps
+at_most_half-even : (c : Colour) (ps : List Played) → side_from c (map (λ p. p.what) ps) ≡ c
+    → 2 * length (charges_from c c ps) ≤ length ps
 at_most_half-even c [] e = omega arith
 at_most_half-even c (p ∷ []) e = absurd (not_opposite c e)
 at_most_half-even c (p ∷ q ∷ qs) e =
     let back : opposite (opposite c) ≡ c = opposite-opposite c in
-    let is_mover : side_from c (map (λ r. r.what) qs) ≡ c = subst (λ (d : Colour). side_from d (map (λ r. r.what) qs) ≡ c) back e in
+    let is_mover : side_from c (map (λ r. r.what) qs) ≡ c =
+    subst (λ (d : Colour). side_from d (map (λ r. r.what) qs) ≡ c) back e in
     let rest = at_most_half-even c qs is_mover in
     let same : charges_from c (opposite (opposite c)) qs ≡ charges_from c c qs = ap (λ d. charges_from c d qs) back in
     omega (

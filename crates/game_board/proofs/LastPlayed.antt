@@ -23,16 +23,20 @@ pub All-one : {X : Type 0} (P : X → Type 0) (x : X) → P x → All P (x ∷ [
 All-one P x holds = λ k d h. let first : 0 ≡ k = omega arith in subst (λ n. P (get_or (x ∷ []) n d)) first holds
 
 -- the client's two times, where both are there, are stamps
-pub AreStamps-zip : (kept stamp : Option ℕ) → IfSome kept IsStamp → IfSome stamp IsStamp → AreStamps (option_zip kept stamp)
+pub AreStamps-zip : (kept stamp : Option ℕ) → IfSome kept IsStamp → IfSome stamp IsStamp
+    → AreStamps (option_zip kept stamp)
 AreStamps-zip None stamp k s = tt
 AreStamps-zip (Some seen) None k s = tt
 AreStamps-zip (Some seen) (Some made) k s = (k, s)
 
 -- a half-move that is made after the beginning has a sound charge, if it has one
-pub IsChargeable-next : (b : Board) (moment : ℕ) (stamp : Option ℕ) → b.begin ≤ moment → moment ≤ 2 ^ 48 → IfSome b.kept IsStamp → IfSome stamp IsStamp →
+pub IsChargeable-next : (b : Board) (moment : ℕ) (stamp : Option ℕ) → b.begin ≤ moment → moment ≤ 2 ^ 48
+    → IfSome b.kept IsStamp → IfSome stamp IsStamp →
     IfSome (next_charge b moment stamp) IsChargeable
 IsChargeable-next b moment stamp order most kept stamped =
-    let P : Bool → Type 0 = λ t. IfSome (if t then Some (record { begin = b.begin; end = moment; client = option_zip b.kept stamp }) else None) IsChargeable in
+    let P : Bool → Type 0 = λ t.
+    IfSome (if t then Some (record { begin = b.begin; end = moment; client = option_zip b.kept stamp }) else None)
+    IsChargeable in
     elim (is_timed b.terms && has_moved (to_move b) b.list) as P [
       | true ↦ record { ordered = order; timely = most; stamped = AreStamps-zip b.kept stamp kept stamped }
       | false ↦ tt

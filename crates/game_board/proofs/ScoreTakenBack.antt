@@ -25,13 +25,15 @@ take_and_drop (suc n) [] = refl
 take_and_drop (suc n) (x ∷ xs) = ap (λ l. x ∷ l) (take_and_drop n xs)
 
 -- the first items of a list stand where they stood
-from_take : {X : Type 0} (n : ℕ) (xs : List X) (k : ℕ) (x : X) → slice_get (take n xs) k ≡ Some x → slice_get xs k ≡ Some x
+from_take : {X : Type 0} (n : ℕ) (xs : List X) (k : ℕ) (x : X) → slice_get (take n xs) k ≡ Some x
+    → slice_get xs k ≡ Some x
 from_take zero xs k x e = absurd cc
 from_take (suc n) [] k x e = absurd cc
 from_take (suc n) (y ∷ ys) zero x e = e
 from_take (suc n) (y ∷ ys) (suc k) x e = from_take n ys k x e
 
-to_take : {X : Type 0} (n : ℕ) (xs : List X) (k : ℕ) (x : X) → k < n → slice_get xs k ≡ Some x → slice_get (take n xs) k ≡ Some x
+to_take : {X : Type 0} (n : ℕ) (xs : List X) (k : ℕ) (x : X) → k < n → slice_get xs k ≡ Some x
+    → slice_get (take n xs) k ≡ Some x
 to_take zero xs k x h e = absurd (omega arith)
 to_take (suc n) [] k x h e = absurd cc
 to_take (suc n) (y ∷ ys) zero x h e = e
@@ -43,14 +45,17 @@ DontFall-rest x xs rising = λ k i j e f.
     rising (suc k) i j e (ap (slice_get (x ∷ xs)) next ∙ f)
 
 -- moments that don't fall are none later than the last
-none_later : (moments : List ℕ) (n last k i : ℕ) → DontFall moments → length moments ≡ n + 1 → slice_get moments n ≡ Some last → slice_get moments k ≡ Some i → i ≤ last
+none_later : (moments : List ℕ) (n last k i : ℕ) → DontFall moments → length moments ≡ n + 1
+    → slice_get moments n ≡ Some last → slice_get moments k ≡ Some i → i ≤ last
 none_later [] n last k i rising many at e = absurd cc
-none_later (x ∷ []) zero last zero i rising many at e = let same : i ≡ last = same_Some i last (sym e ∙ at) in omega (arith, same)
+none_later (x ∷ []) zero last zero i rising many at e =
+    let same : i ≡ last = same_Some i last (sym e ∙ at) in omega (arith, same)
 none_later (x ∷ []) zero last (suc k) i rising many at e = absurd cc
 none_later (x ∷ []) (suc n) last k i rising many at e = absurd (omega (arith, many))
 none_later (x ∷ y ∷ ys) zero last k i rising many at e = absurd (omega (arith, many))
 none_later (x ∷ y ∷ ys) (suc n) last zero i rising many at e =
-    let rest : y ≤ last = none_later (y ∷ ys) n last 0 y (DontFall-rest x (y ∷ ys) rising) (omega (arith, many)) at refl in
+    let rest : y ≤ last =
+    none_later (y ∷ ys) n last 0 y (DontFall-rest x (y ∷ ys) rising) (omega (arith, many)) at refl in
     let first : x ≤ y = rising 0 x y refl refl in
     let same : x ≡ i = same_Some x i e in
     omega (arith, rest, first, same)
@@ -60,7 +65,8 @@ none_later (x ∷ y ∷ ys) (suc n) last (suc k) i rising many at e =
 IsLegal-take : (v : Variant) (n : ℕ) (T : List HalfMove) → IsLegal v T → IsLegal v (take n T)
 IsLegal-take v n T legal = legal_front v (take n T) (drop n T) (subst (IsLegal v) (sym (take_and_drop n T)) legal)
 
-pub IsTrueScore-taken_back : (b : Board) (n moment : ℕ) → b.terms.variant ≢ Bughouse → 1 ≤ n → n ≤ length b.list → b.begin ≤ moment → IsTrueScore b → IsTrueScore (taken_back b n moment)
+pub IsTrueScore-taken_back : (b : Board) (n moment : ℕ) → b.terms.variant ≢ Bughouse → 1 ≤ n → n ≤ length b.list
+    → b.begin ≤ moment → IsTrueScore b → IsTrueScore (taken_back b n moment)
 IsTrueScore-taken_back b n moment single some few order s =
     let left : ℕ = length b.list - n in
     let list : List Played = take left b.list in
@@ -80,7 +86,8 @@ IsTrueScore-taken_back b n moment single some few order s =
     record {
       moments = moments;
       each = omega (arith, many, each);
-      dont_fall = λ k i j e f. s.dont_fall k i j (from_take (left + 1) s.moments k i e) (from_take (left + 1) s.moments (k + 1) j f);
+      dont_fall = λ k i j e f.
+          s.dont_fall k i j (from_take (left + 1) s.moments k i e) (from_take (left + 1) s.moments (k + 1) j f);
       since = since;
       of_each = omega (arith, many, of_each);
       thinking = ap (slice_get since) (many ∙ sym of_front) ∙ slice_get-append_end front moment;
@@ -92,7 +99,9 @@ IsTrueScore-taken_back b n moment single some few order s =
       ];
       not_after = λ k i j e f. elim (at_or_last front moment i k e) [
         | inl old ↦ s.not_after k i j (from_take left s.since k i old) (from_take (left + 1) s.moments (k + 1) j f)
-        | inr here ↦ absurd (let within : k + 1 < length moments = slice_get_within moments (k + 1) j f in omega (arith, within, each, here.0, of_front))
+        | inr here ↦
+            absurd (let within : k + 1 < length moments =
+            slice_get_within moments (k + 1) j f in omega (arith, within, each, here.0, of_front))
       ];
       played = omega (arith, many, s.played);
       unless_taken_back = λ h. absurd (omega (arith, h, many, s.played, some, few));
@@ -118,12 +127,16 @@ enough_some n m e = grind (arith, nat_tests)
 pub enough_within : (n m : ℕ) → (nat_eq n 0 || nat_lt m n) ≡ false → n ≤ m
 enough_within n m e = grind (arith, nat_tests)
 
-true_either : (few : Bool) (b new : Board) → IsTrueScore b → (few ≡ false → IsTrueScore new) → IsTrueScore (if few then b else new)
+true_either : (few : Bool) (b new : Board) → IsTrueScore b → (few ≡ false → IsTrueScore new)
+    → IsTrueScore (if few then b else new)
 true_either true b new s t = s
 true_either false b new s t = t refl
 
 -- taking half-moves back at a moment that isn't before the last one leaves a true score, or the board as it was
-pub IsTrueScore-take_back_after : (b : Board) (n moment : ℕ) → b.terms.variant ≢ Bughouse → IsTrueScore b → b.begin ≤ moment → IsTrueScore (take_back_after b n moment)
+pub IsTrueScore-take_back_after : (b : Board) (n moment : ℕ) → b.terms.variant ≢ Bughouse → IsTrueScore b
+    → b.begin ≤ moment → IsTrueScore (take_back_after b n moment)
 IsTrueScore-take_back_after b n moment single s order =
     true_either (has_too_few b n) b (taken_back b n moment) s
-    (λ e. IsTrueScore-taken_back b n moment single (enough_some n (length b.list) e) (enough_within n (length b.list) e) order s)
+    (λ e.
+    IsTrueScore-taken_back b n moment single (enough_some n (length b.list) e) (enough_within n (length b.list) e) order
+    s)

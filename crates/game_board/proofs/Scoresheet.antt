@@ -43,18 +43,21 @@ use Rattle.collections.proofs.Places.{slice_get-append_end}
 use Rattle.std.proofs.lemmas.Bool.{false≢true}
 
 -- each item of the list stands where it stood, in a list with one item more
-pub stays_at : {X : Type 0} (xs : List X) (x y : X) (k : ℕ) → slice_get xs k ≡ Some y → slice_get (xs ++ x ∷ []) k ≡ Some y
+pub stays_at : {X : Type 0} (xs : List X) (x y : X) (k : ℕ) → slice_get xs k ≡ Some y
+    → slice_get (xs ++ x ∷ []) k ≡ Some y
 stays_at [] x y k e = absurd cc
 stays_at (z ∷ zs) x y zero e = e
 stays_at (z ∷ zs) x y (suc k) e = stays_at zs x y k e
 
 -- a moment that isn't before the last one may follow
-DontFall-append : (moments : List ℕ) (last next n : ℕ) → length moments ≡ n + 1 → slice_get moments n ≡ Some last → last ≤ next → DontFall moments →
+DontFall-append : (moments : List ℕ) (last next n : ℕ) → length moments ≡ n + 1 → slice_get moments n ≡ Some last
+    → last ≤ next → DontFall moments →
     DontFall (moments ++ next ∷ [])
 DontFall-append moments last next n each at le rising = λ k i j e f. elim (at_or_last moments next j (k + 1) f) [
   | inl later ↦ elim (at_or_last moments next i k e) [
     | inl earlier ↦ rising k i j earlier later
-    | inr past ↦ absurd (let within : k + 1 < length moments = slice_get_within moments (k + 1) j later in omega (arith, past.0))
+    | inr past ↦
+        absurd (let within : k + 1 < length moments = slice_get_within moments (k + 1) j later in omega (arith, past.0))
   ]
   | inr new ↦ elim (at_or_last moments next i k e) [
     | inl earlier ↦
@@ -84,11 +87,15 @@ has_moved-mover (p ∷ q ∷ more) = (λ h. omega arith, λ h. has_moved-two (mo
 
 -- the charge where the game is timed and the colour has moved, and none elsewhere
 abbrev charge_if : Bool → Bool → ℕ → ℕ → Option (ℕ × ℕ) → Option Charge
-charge_if timed moved begin end client = if timed && moved then Some (record { begin = begin; end = end; client = client }) else None
+charge_if timed moved begin end client =
+    if timed && moved then Some (record { begin = begin; end = end; client = client }) else None
 
 -- so the charge of the next half-move is a true one
-IsCharged-if : (timed moved : Bool) (terms : Terms) (resumed : ℕ) (since moments : List ℕ) (k begin end : ℕ) (client : Option (ℕ × ℕ)) (m : Move) → is_timed terms ≡ timed →
-    (IsTrue moved ↔ (2 ≤ k)) → begin ≤ end → slice_get since k ≡ Some begin → slice_get moments (k + 1) ≡ Some end → AreStamps client →
+IsCharged-if : (timed moved : Bool) (terms : Terms) (resumed : ℕ) (since moments : List ℕ) (k begin end : ℕ)
+    (client : Option (ℕ × ℕ)) (m : Move)
+    → is_timed terms ≡ timed →
+    (IsTrue moved ↔ (2 ≤ k)) → begin ≤ end → slice_get since k ≡ Some begin → slice_get moments (k + 1) ≡ Some end
+    → AreStamps client →
     IsCharged terms resumed since moments k (record { what = m; charge = charge_if timed moved begin end client })
 IsCharged-if true true terms resumed since moments k begin end client m t h order from to stamps = record {
   stands = (λ s. (t, h.0 refl), λ s. refl);
@@ -119,8 +126,11 @@ IsCharged-if false false terms resumed since moments k begin end client m t h or
   stamped = tt;
 }
 
-pub IsCharged-changed : (terms : Terms) (resumed resumed' : ℕ) (since since' moments moments' : List ℕ) (k : ℕ) (p : Played) → (resumed' ≤ k → resumed ≤ k) →
-    ((x : ℕ) → slice_get since k ≡ Some x → slice_get since' k ≡ Some x) → ((x : ℕ) → slice_get moments (k + 1) ≡ Some x → slice_get moments' (k + 1) ≡ Some x) →
+pub IsCharged-changed : (terms : Terms) (resumed resumed' : ℕ) (since since' moments moments' : List ℕ) (k : ℕ)
+    (p : Played)
+    → (resumed' ≤ k → resumed ≤ k) →
+    ((x : ℕ) → slice_get since k ≡ Some x → slice_get since' k ≡ Some x)
+    → ((x : ℕ) → slice_get moments (k + 1) ≡ Some x → slice_get moments' (k + 1) ≡ Some x) →
     IsCharged terms resumed since moments k p → IsCharged terms resumed' since' moments' k p
 IsCharged-changed terms resumed resumed' since since' moments moments' k p here from to c = record {
   stands = c.stands;
@@ -137,7 +147,8 @@ chosen false x y h = absurd cc
 -- a clock shows what its ledger sums to
 pub clocks-sum : (b : Board) (c : Colour) → IsTrue (is_timed b.terms) →
     remaining_of b c
-    ≡ (pos (start_of b.terms.minutes b.terms.increment + b.terms.increment * 1000 * length (charges_of c b.list)) -ℤ pos (sum_by amount (charges_of c b.list)))
+    ≡ (pos (start_of b.terms.minutes b.terms.increment + b.terms.increment * 1000 * length (charges_of c b.list))
+    -ℤ pos (sum_by amount (charges_of c b.list)))
 clocks-sum b c timed = chosen (is_timed b.terms) _ _ timed
 
 -- items at the same place are in order
@@ -145,7 +156,8 @@ same_order : (moments : List ℕ) (k i j : ℕ) → slice_get moments k ≡ Some
 same_order moments k i j e f = let same : i ≡ j = same_Some i j (sym e ∙ f) in omega (arith, same)
 
 -- the moment of the last half-move, or of the start: the player to move isn't thinking since before it
-pub last_moment : (b : Board) (s : IsTrueScore b) → (last : ℕ) × (slice_get s.moments (length b.list) ≡ Some last) × (last ≤ b.begin)
+pub last_moment : (b : Board) (s : IsTrueScore b)
+    → (last : ℕ) × (slice_get s.moments (length b.list) ≡ Some last) × (last ≤ b.begin)
 last_moment b s = elim (slice_get_cases s.moments (length b.list)).1 [
   | inl at ↦ (at.0, at.2, s.not_before (length b.list) at.0 b.begin at.2 s.thinking)
   | inr past ↦ absurd (omega (arith, past.0, s.each))
@@ -155,12 +167,14 @@ pub IsTrueScore-new_board : (number : ℕ) (terms : Terms) (moment : ℕ) → Is
 IsTrueScore-new_board number terms moment = record {
   moments = moment ∷ [];
   each = refl;
-  dont_fall = λ k i j e f. absurd (let within : k + 1 < 1 = slice_get_within (moment ∷ []) (k + 1) j f in omega (arith, within));
+  dont_fall = λ k i j e f.
+      absurd (let within : k + 1 < 1 = slice_get_within (moment ∷ []) (k + 1) j f in omega (arith, within));
   since = moment ∷ [];
   of_each = refl;
   thinking = refl;
   not_before = same_order (moment ∷ []);
-  not_after = λ k i j e f. absurd (let within : k + 1 < 1 = slice_get_within (moment ∷ []) (k + 1) j f in omega (arith, within));
+  not_after = λ k i j e f.
+      absurd (let within : k + 1 < 1 = slice_get_within (moment ∷ []) (k + 1) j f in omega (arith, within));
   played = omega arith;
   unless_taken_back = λ h. refl;
   resumed = omega arith;
@@ -173,7 +187,8 @@ IsTrueScore-new_board number terms moment = record {
 }
 
 -- a half-move more that was allowed, since which the player to move is thinking at `moment`
-pub IsTrueScore-one_more : (b : Board) (p : Played) (moment resumed : ℕ) (s : IsTrueScore b) → b.begin ≤ moment → Allowed (position_of b) p.what → b.resumed ≤ resumed → resumed ≤ length b.list + 1 →
+pub IsTrueScore-one_more : (b : Board) (p : Played) (moment resumed : ℕ) (s : IsTrueScore b) → b.begin ≤ moment
+    → Allowed (position_of b) p.what → b.resumed ≤ resumed → resumed ≤ length b.list + 1 →
     IsCharged b.terms resumed (s.since ++ moment ∷ []) (s.moments ++ moment ∷ []) (length b.list) p →
     IsTrueScore (record (with_played b p) { begin = moment; resumed = resumed })
 unfolding position_of
@@ -188,29 +203,38 @@ IsTrueScore-one_more b p moment resumed s order allowed more_resumed most_resume
     record {
       moments = moments;
       each = omega (arith, many, more, s.each);
-      dont_fall = DontFall-append s.moments (last_moment b s).0 moment (length b.list) s.each (last_moment b s).1 (omega (arith, (last_moment b s).2, order)) s.dont_fall;
+      dont_fall =
+          DontFall-append s.moments (last_moment b s).0 moment (length b.list) s.each (last_moment b s).1
+          (omega (arith, (last_moment b s).2, order)) s.dont_fall;
       since = since;
       of_each = omega (arith, many, of_more, s.of_each);
       thinking = ap (slice_get since) many ∙ now;
       not_before = λ k i j e f. elim (at_or_last s.moments moment i k e) [
         | inl old ↦ elim (at_or_last s.since moment j k f) [
           | inl before ↦ s.not_before k i j old before
-          | inr past ↦ absurd (let within : k < length s.moments = slice_get_within s.moments k i old in omega (arith, within, past.0, s.each, s.of_each))
+          | inr past ↦
+              absurd (let within : k < length s.moments =
+              slice_get_within s.moments k i old in omega (arith, within, past.0, s.each, s.of_each))
         ]
         | inr here ↦ elim (at_or_last s.since moment j k f) [
-          | inl before ↦ absurd (let within : k < length s.since = slice_get_within s.since k j before in omega (arith, within, here.0, s.each, s.of_each))
+          | inl before ↦
+              absurd (let within : k < length s.since =
+              slice_get_within s.since k j before in omega (arith, within, here.0, s.each, s.of_each))
           | inr past ↦ omega (arith, here.1, past.1)
         ]
       ];
       not_after = λ k i j e f. elim (at_or_last s.moments moment j (k + 1) f) [
         | inl old ↦ elim (at_or_last s.since moment i k e) [
           | inl before ↦ s.not_after k i j before old
-          | inr past ↦ absurd (let within : k + 1 < length s.moments = slice_get_within s.moments (k + 1) j old in omega (arith, within, past.0, s.each, s.of_each))
+          | inr past ↦
+              absurd (let within : k + 1 < length s.moments =
+              slice_get_within s.moments (k + 1) j old in omega (arith, within, past.0, s.each, s.of_each))
         ]
         | inr here ↦ elim (at_or_last s.since moment i k e) [
           | inl before ↦
               let place : k ≡ length b.list = omega (arith, here.0, s.each) in
-              let is : b.begin ≡ i = same_Some b.begin i (sym s.thinking ∙ (ap (slice_get s.since) (sym place) ∙ before)) in
+              let is : b.begin ≡ i =
+              same_Some b.begin i (sym s.thinking ∙ (ap (slice_get s.since) (sym place) ∙ before)) in
               omega (arith, is, here.1, order)
           | inr past ↦ omega (arith, here.1, past.1)
         ]
@@ -222,18 +246,25 @@ IsTrueScore-one_more b p moment resumed s order allowed more_resumed most_resume
       resumed = omega (arith, many, most_resumed);
       kept = tt;
       charged = λ k q e. elim (at_or_last b.list p q k e) [
-        | inl old ↦ IsCharged-changed b.terms b.resumed resumed s.since since s.moments moments k q (λ own. omega (arith, own, more_resumed))
+        | inl old ↦
+            IsCharged-changed b.terms b.resumed resumed s.since since s.moments moments k q
+            (λ own. omega (arith, own, more_resumed))
             (λ x h. stays_at s.since moment x k h) (λ x h. stays_at s.moments moment x (k + 1) h) (s.charged k q old)
         | inr here ↦ subst (λ (r : Played). IsCharged b.terms resumed since moments k r) here.1
             (subst (λ (n : ℕ). IsCharged b.terms resumed since moments n p) (sym here.0) new)
       ];
       legal = IsLegal-append b.terms.variant b.all (half_move b.number p) s.legal allowed;
-      own = moves_of-same b.number b.all p.what ∙ ap (λ (ms : List Move). ms ++ p.what ∷ []) s.own ∙ sym (map-append (λ (q : Played). q.what) b.list (p ∷ []));
-      alone = λ h. ap (λ (T : List HalfMove). T ++ half_move b.number p ∷ []) (s.alone h) ∙ sym (half_moves-append b.number b.list p);
+      own =
+          moves_of-same b.number b.all p.what ∙ ap (λ (ms : List Move). ms ++ p.what ∷ []) s.own
+          ∙ sym (map-append (λ (q : Played). q.what) b.list (p ∷ []));
+      alone = λ h.
+          ap (λ (T : List HalfMove). T ++ half_move b.number p ∷ []) (s.alone h)
+          ∙ sym (half_moves-append b.number b.list p);
       clocks = λ c timed. clocks-sum (record (with_played b p) { begin = moment; resumed = resumed }) c timed;
     }
 
-pub IsTrueScore-with_half_move : (b : Board) (m : Move) (moment : ℕ) (stamp : Option ℕ) → IsTrueScore b → b.begin ≤ moment → IfSome stamp IsStamp → Allowed (position_of b) m →
+pub IsTrueScore-with_half_move : (b : Board) (m : Move) (moment : ℕ) (stamp : Option ℕ) → IsTrueScore b
+    → b.begin ≤ moment → IfSome stamp IsStamp → Allowed (position_of b) m →
     IsTrueScore (with_half_move b m moment stamp)
 IsTrueScore-with_half_move b m moment stamp s order stamped allowed =
     let entry : Played = record { what = m; charge = next_charge b moment stamp } in
@@ -242,12 +273,15 @@ IsTrueScore-with_half_move b m moment stamp s order stamped allowed =
     let last : slice_get moments (length b.list + 1) ≡ Some moment =
     ap (slice_get moments) (sym s.each) ∙ slice_get-append_end s.moments moment in
     let new : IsCharged b.terms b.resumed since moments (length b.list) entry =
-    IsCharged-if (is_timed b.terms) (has_moved (to_move b) b.list) b.terms b.resumed since moments (length b.list) b.begin moment (option_zip b.kept stamp) m refl (has_moved-mover b.list)
-    order (stays_at s.since moment b.begin (length b.list) s.thinking) last (AreStamps-zip b.kept stamp s.kept stamped) in
+    IsCharged-if (is_timed b.terms) (has_moved (to_move b) b.list) b.terms b.resumed since moments (length b.list)
+    b.begin moment (option_zip b.kept stamp) m refl (has_moved-mover b.list)
+    order (stays_at s.since moment b.begin (length b.list) s.thinking) last
+    (AreStamps-zip b.kept stamp s.kept stamped) in
     IsTrueScore-one_more b entry moment b.resumed s order allowed (omega arith) (omega (arith, s.resumed)) new
 
 -- an answer that plays has an allowed half-move
-allowed_in : (p : Position) (word : MoveWord) (answer : Result Move Rejection) (m : Move) → IsWordAnswer p word answer → in_words answer ≡ Ok m → Allowed p m
+allowed_in : (p : Position) (word : MoveWord) (answer : Result Move Rejection) (m : Move) → IsWordAnswer p word answer
+    → in_words answer ≡ Ok m → Allowed p m
 allowed_in p word (Ok move) m is e = let same : move ≡ m = cc in subst (Allowed p) same is.choice.allowed
 allowed_in p word (Err cause) m is e = absurd cc
 
@@ -257,22 +291,27 @@ allowed_unless None p word m e = allowed_in p word (word_answer p word) m (word_
 allowed_unless (Some cause) p word m e = absurd cc
 
 -- so a word that is played stands for an allowed half-move
-pub allowed_by_answer : (b : Board) (c : Colour) (word : MoveWord) (m : Move) → move_answer b c word ≡ Ok m → Allowed (position_of b) m
+pub allowed_by_answer : (b : Board) (c : Colour) (word : MoveWord) (m : Move) → move_answer b c word ≡ Ok m
+    → Allowed (position_of b) m
 unfolding move_answer
 allowed_by_answer b c word m e = allowed_unless (move_refused b c) (position_of b) word m e
 
-played_true : (b : Board) (moment : ℕ) (stamp : Option ℕ) (answer : Result Move Refusal) → IsTrueScore b → b.begin ≤ moment → IfSome stamp IsStamp → ((m : Move) → answer ≡ Ok m → Allowed (position_of b) m) →
+played_true : (b : Board) (moment : ℕ) (stamp : Option ℕ) (answer : Result Move Refusal) → IsTrueScore b
+    → b.begin ≤ moment → IfSome stamp IsStamp → ((m : Move) → answer ≡ Ok m → Allowed (position_of b) m) →
     IsTrueScore (play_after b moment stamp answer)
-played_true b moment stamp (Ok m) s order stamped allowed = IsTrueScore-with_half_move b m moment stamp s order stamped (allowed m refl)
+played_true b moment stamp (Ok m) s order stamped allowed =
+    IsTrueScore-with_half_move b m moment stamp s order stamped (allowed m refl)
 played_true b moment stamp (Err cause) s order stamped allowed = s
 
-pub IsTrueScore-play_after : (b : Board) (c : Colour) (word : MoveWord) (moment : ℕ) (stamp : Option ℕ) → IsTrueScore b → b.begin ≤ moment → IfSome stamp IsStamp →
+pub IsTrueScore-play_after : (b : Board) (c : Colour) (word : MoveWord) (moment : ℕ) (stamp : Option ℕ) → IsTrueScore b
+    → b.begin ≤ moment → IfSome stamp IsStamp →
     IsTrueScore (play_after b moment stamp (move_answer b c word))
 IsTrueScore-play_after b c word moment stamp s order stamped =
     played_true b moment stamp (move_answer b c word) s order stamped (λ m e. allowed_by_answer b c word m e)
 
 -- an acknowledgement changes nothing of the score but what is kept
-IsTrueScore-kept : (b : Board) (stamp : ℕ) → IsTrueScore b → IsStamp stamp → IsTrueScore (record b { kept = Some stamp })
+IsTrueScore-kept : (b : Board) (stamp : ℕ) → IsTrueScore b → IsStamp stamp
+    → IsTrueScore (record b { kept = Some stamp })
 IsTrueScore-kept b stamp s stamped = record {
   moments = s.moments;
   each = s.each;
@@ -297,12 +336,14 @@ true_either : (own : Bool) (b new : Board) → IsTrueScore b → IsTrueScore new
 true_either true b new s t = t
 true_either false b new s t = s
 
-pub IsTrueScore-acknowledged : (b : Board) (c : Colour) (stamp : ℕ) → IsTrueScore b → IsStamp stamp → IsTrueScore (acknowledged b c stamp)
+pub IsTrueScore-acknowledged : (b : Board) (c : Colour) (stamp : ℕ) → IsTrueScore b → IsStamp stamp
+    → IsTrueScore (acknowledged b c stamp)
 IsTrueScore-acknowledged b c stamp s stamped =
     true_either (same_colour c (to_move b)) b (record b { kept = Some stamp }) s (IsTrueScore-kept b stamp s stamped)
 
 -- a half-move on the other board of a pair, where it was allowed there, changes nothing but what the board knows of it
-pub IsTrueScore-learnt : (b : Board) (m : Move) → b.terms.variant ≡ Bughouse → IsTrueScore b → Allowed (partner_position b) m → IsTrueScore (learnt b m)
+pub IsTrueScore-learnt : (b : Board) (m : Move) → b.terms.variant ≡ Bughouse → IsTrueScore b
+    → Allowed (partner_position b) m → IsTrueScore (learnt b m)
 IsTrueScore-learnt b m pair s allowed = record {
   moments = s.moments;
   each = s.each;
@@ -324,8 +365,10 @@ IsTrueScore-learnt b m pair s allowed = record {
 }
 
 -- where no half-move came with its charge, each charge is told by the board's own moments
-pub charged_here : (b : Board) (s : IsTrueScore b) → b.resumed ≡ 0 → (k : ℕ) (p : Played) → slice_get b.list k ≡ Some p →
-    IfSome p.charge (λ c. slice_get s.since k ≡ Some c.begin) × IfSome p.charge (λ c. slice_get s.moments (k + 1) ≡ Some c.end)
+pub charged_here : (b : Board) (s : IsTrueScore b) → b.resumed ≡ 0 → (k : ℕ) (p : Played)
+    → slice_get b.list k ≡ Some p →
+    IfSome p.charge (λ c. slice_get s.since k ≡ Some c.begin)
+    × IfSome p.charge (λ c. slice_get s.moments (k + 1) ≡ Some c.end)
 charged_here b s none k p at =
     let own : b.resumed ≤ k = omega (arith, none) in
     ((s.charged k p at).begins own, (s.charged k p at).ends own)

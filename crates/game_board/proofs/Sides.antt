@@ -39,16 +39,20 @@ charge_to-other Black o = refl
 pub move_refused-none : (b : Board) (c : Colour) → to_move b ≡ c → b.played < 1200 → move_refused b c ≡ None
 move_refused-none b c is_mover room =
     let few : (b.played == 1200) ≡ false = grind (arith, nat_tests) in
-    ap (λ t. first_cause ((not t, NotYourTurn) ∷ (b.played == 1200, TooManyMoves) ∷ [])) (same_colour-same c (to_move b) is_mover)
+    ap (λ t. first_cause ((not t, NotYourTurn) ∷ (b.played == 1200, TooManyMoves) ∷ []))
+    (same_colour-same c (to_move b) is_mover)
     ∙ ap (λ t. first_cause ((false, NotYourTurn) ∷ (t, TooManyMoves) ∷ [])) few
 
 pub move_refused-mover : (b : Board) (c : Colour) → to_move b ≢ c → move_refused b c ≡ Some NotYourTurn
 move_refused-mover b c other =
-    ap (λ t. first_cause ((not t, NotYourTurn) ∷ (b.played == 1200, TooManyMoves) ∷ [])) (same_colour-other c (to_move b) other)
+    ap (λ t. first_cause ((not t, NotYourTurn) ∷ (b.played == 1200, TooManyMoves) ∷ []))
+    (same_colour-other c (to_move b) other)
 
-pub move_refused-full : (b : Board) (c : Colour) → to_move b ≡ c → b.played ≡ 1200 → move_refused b c ≡ Some TooManyMoves
+pub move_refused-full : (b : Board) (c : Colour) → to_move b ≡ c → b.played ≡ 1200
+    → move_refused b c ≡ Some TooManyMoves
 move_refused-full b c is_mover full =
-    ap (λ t. first_cause ((not t, NotYourTurn) ∷ (b.played == 1200, TooManyMoves) ∷ [])) (same_colour-same c (to_move b) is_mover)
+    ap (λ t. first_cause ((not t, NotYourTurn) ∷ (b.played == 1200, TooManyMoves) ∷ []))
+    (same_colour-same c (to_move b) is_mover)
     ∙ ap (λ n. first_cause ((false, NotYourTurn) ∷ (n == 1200, TooManyMoves) ∷ [])) full
 
 pub in_words-ok : (r : Result Move Rejection) (m : Move) → in_words r ≡ Ok m → r ≡ Ok m

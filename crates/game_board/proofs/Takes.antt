@@ -30,7 +30,9 @@ pub record IsTaken (b : Board) (p : Played) : Type 0 where
 pub takes_played-parts : (b : Board) (p : Played) → IsTrue (takes_played b p) → IsTaken b p
 unfolding takes_played
 takes_played-parts b p takes =
-    let t = four_parts (not (is_end (state_in (position_of b)))) (nat_lt b.played 1200) (is_allowed (position_of b) p.what) (beq (is_some p.charge) (is_next_charged b)) takes in
+    let t =
+    four_parts (not (is_end (state_in (position_of b)))) (nat_lt b.played 1200) (is_allowed (position_of b) p.what)
+    (beq (is_some p.charge) (is_next_charged b)) takes in
     record {
       going = t.0;
       room = (Decides-ltb b.played 1200).0 t.1;

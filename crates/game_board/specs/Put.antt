@@ -14,7 +14,8 @@ abbrev pub is_next_charged : Board → Bool
 is_next_charged b = is_timed b.terms && has_moved (to_move b) b.list
 
 -- whether a board takes a half-move with the charge that it has, if it has one: the game hasn't ended by mate or
--- stalemate (it ends by the last half-move, if at all), there is room, the half-move is allowed, and the charge is there
+-- stalemate (it ends by the last half-move, if at all), there is room, the half-move is allowed, and the charge is
+-- there
 -- exactly where one belongs
 unfoldable pub takes_played : Board → Played → Bool
 takes_played b p =

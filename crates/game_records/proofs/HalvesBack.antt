@@ -24,9 +24,11 @@ inner h rest = (two_bytes (move_code h.what) ++ charge_text h.charge) ++ rest
 inner-parts : (h : Half) (rest : List ℕ) → inner h rest ≡ two_bytes (move_code h.what) ++ (charge_text h.charge ++ rest)
 inner-parts h rest = append_assoc (two_bytes (move_code h.what)) (charge_text h.charge) rest
 
-inner-what : (v : Variant) (h : Half) (rest : List ℕ) → IsHalf v h → AreSquares h.what → move_of (two_in (inner h rest)) ≡ h.what
+inner-what : (v : Variant) (h : Half) (rest : List ℕ) → IsHalf v h → AreSquares h.what
+    → move_of (two_in (inner h rest)) ≡ h.what
 inner-what v h rest k s =
-    ap move_of (ap two_in (inner-parts h rest) ∙ two-read (move_code h.what) (charge_text h.charge ++ rest) (code_small h.what s))
+    ap move_of
+    (ap two_in (inner-parts h rest) ∙ two-read (move_code h.what) (charge_text h.charge ++ rest) (code_small h.what s))
     ∙ move-read h.what s k.code
 
 inner-charge : (v : Variant) (h : Half) (rest : List ℕ) → IsHalf v h → charge_in (drop 2 (inner h rest)) ≡ h.charge
@@ -54,7 +56,8 @@ half-same v board h rest k s e =
 only_board : (board : ℕ) → 1 ≤ board → board ≤ 1 → 1 ≡ board
 only_board board h k = omega arith
 
-half-read : (v : Variant) (h : Half) (rest : List ℕ) → IsHalf v h → AreSquares h.what → half_in v (half_text v h ++ rest) ≡ h
+half-read : (v : Variant) (h : Half) (rest : List ℕ) → IsHalf v h → AreSquares h.what
+    → half_in v (half_text v h ++ rest) ≡ h
 half-read Chess h rest k s = half-same Chess 1 h rest k s (only_board h.board k.first k.last)
 half-read Crazyhouse h rest k s = half-same Crazyhouse 1 h rest k s (only_board h.board k.first k.last)
 half-read Bughouse h rest k s = half-same Bughouse h.board h rest k s refl
@@ -66,11 +69,13 @@ half-behind Crazyhouse h rest = inner-behind h rest
 half-behind Bughouse h rest = inner-behind h rest
 half-behind (Fischer number) h rest = inner-behind h rest
 
-pub halves-read : (v : Variant) (halves : List Half) → AllByRecursion (IsHalf v) halves → AllByRecursion (λ h. AreSquares h.what) halves →
+pub halves-read : (v : Variant) (halves : List Half) → AllByRecursion (IsHalf v) halves
+    → AllByRecursion (λ h. AreSquares h.what) halves →
     halves_in v (length halves) (halves_text v halves) ≡ halves
 halves-read v [] k s = refl
 halves-read v (h ∷ halves) k s =
-    ap (λ (x : Half). x ∷ halves_in v (length halves) (behind_half v (half_text v h ++ halves_text v halves))) (half-read v h (halves_text v halves) k.0 s.0)
+    ap (λ (x : Half). x ∷ halves_in v (length halves) (behind_half v (half_text v h ++ halves_text v halves)))
+    (half-read v h (halves_text v halves) k.0 s.0)
     ∙ ap (λ (l : List ℕ). h ∷ halves_in v (length halves) l) (half-behind v h (halves_text v halves))
     ∙ ap (λ (hs : List Half). h ∷ hs) (halves-read v halves k.1 s.1)
 
@@ -79,13 +84,16 @@ pub squares_in : (v : Variant) (n : ℕ) (bytes : List ℕ) → AllByRecursion (
 squares_in v zero bytes = tt
 squares_in v (suc n) bytes = (squares_of (two_in (behind_board v bytes)), squares_in v n (behind_half v bytes))
 
-pub squares_so_far : (v : Variant) (count : ℕ) (bytes : List ℕ) (done more : List Half) → done ++ more ≡ halves_in v count bytes → AllByRecursion (λ h. AreSquares h.what) done
+pub squares_so_far : (v : Variant) (count : ℕ) (bytes : List ℕ) (done more : List Half)
+    → done ++ more ≡ halves_in v count bytes → AllByRecursion (λ h. AreSquares h.what) done
 squares_so_far v count bytes done more e =
-    each-front (λ h. AreSquares h.what) done more (subst (AllByRecursion (λ h. AreSquares h.what)) (sym e) (squares_in v count bytes))
+    each-front (λ h. AreSquares h.what) done more
+    (subst (AllByRecursion (λ h. AreSquares h.what)) (sym e) (squares_in v count bytes))
 
 -- ---- the loop
 
-less_one : (v : Variant) (m n : ℕ) (bytes : List ℕ) → m ≡ suc n → halves_in v m bytes ≡ half_in v bytes ∷ halves_in v n (behind_half v bytes)
+less_one : (v : Variant) (m n : ℕ) (bytes : List ℕ) → m ≡ suc n
+    → halves_in v m bytes ≡ half_in v bytes ∷ halves_in v n (behind_half v bytes)
 less_one v m n bytes e = ap (λ (k : ℕ). halves_in v k bytes) e
 
 pub halves_step : (v : Variant) (count i : ℕ) (bytes : List ℕ) → i < count →

@@ -20,7 +20,8 @@ key_number n h = from_be_bytes-to_be_bytes_8 n h
 pub one_game : (one other : ℕ) → one < 2 ^ 64 → other < 2 ^ 64 → game_key one ≡ game_key other → one ≡ other
 one_game one other h k e = sym (key_number one h) ∙ ap (λ (l : List ℕ). eight_in (drop 1 l)) e ∙ key_number other k
 
-pub is_key : (key : List ℕ) (n : ℕ) → length key ≡ 9 → slice_index key 0 ≡ 0x67 → ((i : ℕ) → get_or key i 0 < 256) → n ≡ eight_in (drop 1 key) → key ≡ game_key n
+pub is_key : (key : List ℕ) (n : ℕ) → length key ≡ 9 → slice_index key 0 ≡ 0x67 → ((i : ℕ) → get_or key i 0 < 256)
+    → n ≡ eight_in (drop 1 key) → key ≡ game_key n
 unfolding eight_in eight_bytes
 is_key [] n len first small e = absurd (omega arith)
 is_key (byte ∷ rest) n len first small e =

@@ -62,12 +62,14 @@ drop_of n = Drop (kind_of ((n - 0x8100) / 64)) ((n - 0x8100) % 64)
 
 low_code : (n : ℕ) → n < 0x8000 → move_of n ≡ plain_of n
 unfolding move_of
-low_code n h = ap (λ (t : Bool). cond t (plain_of n) (cond (nat_lt n 0x8100) (castle_of n) (drop_of n))) (below n 0x8000 h)
+low_code n h =
+    ap (λ (t : Bool). cond t (plain_of n) (cond (nat_lt n 0x8100) (castle_of n) (drop_of n))) (below n 0x8000 h)
 
 high_code : (n : ℕ) → 0x8100 ≤ n → move_of n ≡ drop_of n
 unfolding move_of
 high_code n h =
-    ap (λ (t : Bool). cond t (plain_of n) (cond (nat_lt n 0x8100) (castle_of n) (drop_of n))) (not_below n 0x8000 (omega arith))
+    ap (λ (t : Bool). cond t (plain_of n) (cond (nat_lt n 0x8100) (castle_of n) (drop_of n)))
+    (not_below n 0x8000 (omega arith))
     ∙ ap (λ (t : Bool). cond t (castle_of n) (drop_of n)) (not_below n 0x8100 h)
 
 plain-same : (a b x y : ℕ) (p q : Option Kind) → a ≡ x → b ≡ y → p ≡ q → Plain a b p ≡ Plain x y q
@@ -113,7 +115,12 @@ code_small (Drop kind to) h = let small = kind_small kind in omega arith
 pub squares_of : (n : ℕ) → AreSquares (move_of n)
 unfolding move_of
 squares_of n =
-    elim (nat_lt n 0x8000) as (λ t. AreSquares (cond t (plain_of n) (cond (nat_lt n 0x8100) (castle_of n) (drop_of n)))) [
+    elim (nat_lt n 0x8000)
+    as (λ t. AreSquares (cond t (plain_of n) (cond (nat_lt n 0x8100) (castle_of n) (drop_of n)))) [
       | true ↦ (omega arith, omega arith)
-      | false ↦ elim (nat_lt n 0x8100) as (λ t. AreSquares (cond t (castle_of n) (drop_of n))) [ true ↦ tt | false ↦ omega arith ]
+      | false ↦
+          elim (nat_lt n 0x8100) as (λ t. AreSquares (cond t (castle_of n) (drop_of n))) [
+            | true ↦ tt
+            | false ↦ omega arith
+          ]
     ]

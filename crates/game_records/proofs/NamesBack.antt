@@ -17,15 +17,18 @@ pub names-read : (names : List (List ℕ)) (rest : List ℕ) → names_in (lengt
 names-read [] rest = refl
 names-read (name ∷ names) rest =
     let text : List ℕ = names_text names ++ rest in
-    ap (λ (l : List ℕ). name_in l ∷ names_in (length names) (behind_name l)) (append_assoc (name_text name) (names_text names) rest)
+    ap (λ (l : List ℕ). name_in l ∷ names_in (length names) (behind_name l))
+    (append_assoc (name_text name) (names_text names) rest)
     ∙ ap (λ (x : List ℕ). x ∷ names_in (length names) (behind_name (name_text name ++ text))) (name-read name text)
     ∙ ap (λ (l : List ℕ). name ∷ names_in (length names) l) (name-behind name text)
     ∙ ap (λ (ns : List (List ℕ)). name ∷ ns) (names-read names rest)
 
-pub names-behind : (names : List (List ℕ)) (rest : List ℕ) → behind_names (length names) (names_text names ++ rest) ≡ rest
+pub names-behind : (names : List (List ℕ)) (rest : List ℕ)
+    → behind_names (length names) (names_text names ++ rest) ≡ rest
 names-behind [] rest = refl
 names-behind (name ∷ names) rest =
-    ap (λ (l : List ℕ). behind_names (length names) (behind_name l)) (append_assoc (name_text name) (names_text names) rest)
+    ap (λ (l : List ℕ). behind_names (length names) (behind_name l))
+    (append_assoc (name_text name) (names_text names) rest)
     ∙ ap (behind_names (length names)) (name-behind name (names_text names ++ rest))
     ∙ names-behind names rest
 
@@ -52,7 +55,8 @@ pub behind_end : (count i : ℕ) (bytes : List ℕ) → count ≤ i → behind_n
 behind_end count i bytes h = ap (λ (k : ℕ). behind_names k bytes) (let e : count - i ≡ 0 = omega arith in e)
 
 -- where the next name is no handle, not all are
-pub no_handle : (done all : List (List ℕ)) (count i : ℕ) (rest : List ℕ) → i < count → done ++ names_in (count - i) rest ≡ all →
+pub no_handle : (done all : List (List ℕ)) (count i : ℕ) (rest : List ℕ) → i < count
+    → done ++ names_in (count - i) rest ≡ all →
     (IsHandle (name_in rest) → ⊥) → AllByRecursion IsHandle all → ⊥
 no_handle done all count i rest h e bad each =
     let left = each-back IsHandle done (names_in (count - i) rest) (subst (AllByRecursion IsHandle) (sym e) each) in

@@ -32,10 +32,12 @@ pub sixteen-behind : (m n : ℕ) (rest : List ℕ) → drop 16 (eight_bytes m ++
 unfolding eight_bytes
 sixteen-behind m n rest = refl
 
-pub twenty-behind : (m n k : ℕ) (rest : List ℕ) → drop 20 (eight_bytes m ++ (eight_bytes n ++ (four_bytes k ++ rest))) ≡ rest
+pub twenty-behind : (m n k : ℕ) (rest : List ℕ)
+    → drop 20 (eight_bytes m ++ (eight_bytes n ++ (four_bytes k ++ rest))) ≡ rest
 unfolding eight_bytes four_bytes
 twenty-behind m n k rest = refl
 
-pub twenty_four-behind : (m n k l : ℕ) (rest : List ℕ) → drop 24 (eight_bytes m ++ (eight_bytes n ++ (four_bytes k ++ (four_bytes l ++ rest)))) ≡ rest
+pub twenty_four-behind : (m n k l : ℕ) (rest : List ℕ)
+    → drop 24 (eight_bytes m ++ (eight_bytes n ++ (four_bytes k ++ (four_bytes l ++ rest)))) ≡ rest
 unfolding eight_bytes four_bytes
 twenty_four-behind m n k l rest = refl

@@ -13,7 +13,8 @@ no_item : (ys zs : List Half) (y : Half) → [] ≡ ys ++ y ∷ zs → ⊥
 no_item [] zs y e = cc
 no_item (x ∷ ys) zs y e = cc
 
-place : (xs : List Half) (x : Half) (ys : List Half) (y : Half) (zs : List Half) → xs ++ x ∷ [] ≡ ys ++ y ∷ zs → Place xs x ys y
+place : (xs : List Half) (x : Half) (ys : List Half) (y : Half) (zs : List Half) → xs ++ x ∷ [] ≡ ys ++ y ∷ zs
+    → Place xs x ys y
 place [] x [] y zs e = inl (refl, cc)
 place [] x (w ∷ ys) y zs e = absurd (no_item ys zs y (cc))
 place (v ∷ xs) x [] y zs e = let same : v ≡ y = cc in inr (xs, ap (λ (h : Half). h ∷ xs) same)
@@ -25,7 +26,8 @@ place (v ∷ xs) x (w ∷ ys) y zs e =
       | inr before ↦ inr (before.0, λ i. first i ∷ before.1 i)
     ]
 
-more : (t : Terms) (halves : List Half) (x : Half) → CanBePlayed t halves → MayCome t halves x → CanBePlayed t (halves ++ x ∷ [])
+more : (t : Terms) (halves : List Half) (x : Half) → CanBePlayed t halves → MayCome t halves x
+    → CanBePlayed t (halves ++ x ∷ [])
 more t halves x played comes = record {
   each = λ before after h e.
       elim (place halves x before h after e) [
@@ -43,7 +45,8 @@ by_steps = record {
   grows = more;
   shrinks = λ t halves x played. record {
     each = λ before after h e.
-        played.each before (after ++ x ∷ []) h (ap (λ (xs : List Half). xs ++ x ∷ []) e ∙ append_assoc before (h ∷ after) (x ∷ []));
+        played.each before (after ++ x ∷ []) h
+        (ap (λ (xs : List Half). xs ++ x ∷ []) e ∙ append_assoc before (h ∷ after) (x ∷ []));
   };
   last = λ t halves x played. played.each halves [] x refl;
 }

@@ -51,13 +51,15 @@ names_part g = names_text g.names ++ halves_part g
 abbrev body : StoredGame → List ℕ
 body g = two_bytes g.terms.minutes ++ (two_bytes g.terms.increment ++ names_part g)
 
-counted-read : (g : StoredGame) → IsGame g → IsTyped (a.Game g) → counted_halves g.terms.variant (halves_part g) ≡ g.halves
+counted-read : (g : StoredGame) → IsGame g → IsTyped (a.Game g)
+    → counted_halves g.terms.variant (halves_part g) ≡ g.halves
 counted-read g h t =
     let v = g.terms.variant in
     let few = few_halves g h in
     let count = two-read (length g.halves) (halves_text v g.halves) (omega arith) in
     ap (λ (n : ℕ). halves_in v (min n 2400) (drop 2 (halves_part g))) count
-    ∙ ap (λ (n : ℕ). halves_in v n (drop 2 (halves_part g))) (let e : min (length g.halves) 2400 ≡ length g.halves = omega arith in e)
+    ∙ ap (λ (n : ℕ). halves_in v n (drop 2 (halves_part g)))
+    (let e : min (length g.halves) 2400 ≡ length g.halves = omega arith in e)
     ∙ ap (halves_in v (length g.halves)) (two-behind (length g.halves) (halves_text v g.halves))
     ∙ halves-read v g.halves h.halves.each t.1
 
@@ -68,8 +70,11 @@ game_of minutes increment variant colour names halves = record {
   halves = halves;
 }
 
-game-same : (g : StoredGame) (minutes increment : ℕ) (colour : Option Colour) (names : List (List ℕ)) (halves : List Half) → minutes ≡ g.terms.minutes →
-    increment ≡ g.terms.increment → colour ≡ g.terms.colour → names ≡ g.names → halves ≡ g.halves → game_of minutes increment g.terms.variant colour names halves ≡ g
+game-same : (g : StoredGame) (minutes increment : ℕ) (colour : Option Colour) (names : List (List ℕ))
+    (halves : List Half)
+    → minutes ≡ g.terms.minutes →
+    increment ≡ g.terms.increment → colour ≡ g.terms.colour → names ≡ g.names → halves ≡ g.halves
+    → game_of minutes increment g.terms.variant colour names halves ≡ g
 game-same g minutes increment colour names halves e f k m n =
     ap (λ (x : ℕ). game_of x increment g.terms.variant colour names halves) e
     ∙ ap (λ (x : ℕ). game_of g.terms.minutes x g.terms.variant colour names halves) f
@@ -87,9 +92,11 @@ body-read g h t =
     game-same g (two_in (body g)) (two_in (drop 2 (body g))) None (names_in (seats v) (drop 4 (body g)))
     (counted_halves v (behind_names (seats v) (drop 4 (body g))))
     (two-read g.terms.minutes (two_bytes g.terms.increment ++ names_part g) (omega arith))
-    (ap two_in (two-behind g.terms.minutes (two_bytes g.terms.increment ++ names_part g)) ∙ two-read g.terms.increment (names_part g) (omega arith))
+    (ap two_in (two-behind g.terms.minutes (two_bytes g.terms.increment ++ names_part g))
+    ∙ two-read g.terms.increment (names_part g) (omega arith))
     (sym h.terms.colour)
-    (ap (names_in (seats v)) players ∙ ap (λ (n : ℕ). names_in n (names_part g)) seated ∙ names-read g.names (halves_part g))
+    (ap (names_in (seats v)) players ∙ ap (λ (n : ℕ). names_in n (names_part g)) seated
+    ∙ names-read g.names (halves_part g))
     (ap (λ (l : List ℕ). counted_halves v (behind_names (seats v) l)) players
     ∙ ap (λ (n : ℕ). counted_halves v (behind_names n (names_part g))) seated
     ∙ ap (counted_halves v) (names-behind g.names (halves_part g))
@@ -97,7 +104,8 @@ body-read g h t =
 
 game-read : (g : StoredGame) → IsGame g → IsTyped (a.Game g) → game_in (game_text g) ≡ g
 game-read g h t =
-    ap (λ (v : Variant). game_behind v (behind_variant (game_text g))) (variant-read g.terms.variant (body g) h.terms.array)
+    ap (λ (v : Variant). game_behind v (behind_variant (game_text g)))
+    (variant-read g.terms.variant (body g) h.terms.array)
     ∙ ap (game_behind g.terms.variant) (variant-behind g.terms.variant (body g))
     ∙ body-read g h t
 
@@ -121,7 +129,8 @@ account-read account h =
 own : (r : Record) → IsTyped r → IsSpellable r → record_in (spelling r) ≡ r
 own (a.Account account) t h = ap a.Account (account-read account t.1)
 own (a.Game g) t h =
-    ap (λ (n : ℕ). cond (nat_eq n 0x41) (a.Account (account_in (game_text g))) (a.Game (game_in (game_text g)))) (second_byte g.terms.variant (body g))
+    ap (λ (n : ℕ). cond (nat_eq n 0x41) (a.Account (account_in (game_text g))) (a.Game (game_in (game_text g))))
+    (second_byte g.terms.variant (body g))
     ∙ ap a.Game (game-read g h t)
 
 -- bytes that are the spelling of a record are read as that record
@@ -144,7 +153,8 @@ pub untyped : (bytes : List ℕ) → (IsTyped (record_in bytes) → ⊥) → (r 
 untyped bytes bad r s = bad (subst IsTyped (sym (read_back r bytes s)) s.typed)
 
 -- where the bytes aren't the spelling of what stands at each place, they are no record's
-pub unspelled : (bytes : List ℕ) (read : Record) → read ≡ record_in bytes → (IsSpelled read bytes → ⊥) → (r : Record) → IsSpelled r bytes → ⊥
+pub unspelled : (bytes : List ℕ) (read : Record) → read ≡ record_in bytes → (IsSpelled read bytes → ⊥) → (r : Record)
+    → IsSpelled r bytes → ⊥
 unspelled bytes read e bad r s = bad (subst (λ (x : Record). IsSpelled x bytes) (sym (e ∙ read_back r bytes s)) s)
 
 -- ---- what an answer tells

@@ -21,9 +21,12 @@ use Rattle.hall_core.specs.Passes.{IsHallPass}
 use Rattle.one_server.proofs.Serving.{vacant_push, whole_opening}
 
 -- one more vacant desk behind the others
-pub parts_push : (lobby : LobbyState) (slot : ℕ) (parts new : List Part) (desk : DeskState) → parts ≡ parts_of lobby (vacant_from 1 slot) → desk ≡ vacant (slot + 1) → new ≡ parts ++ ADesk desk ∷ [] → new ≡ parts_of lobby (vacant_from 1 (slot + 1))
+pub parts_push : (lobby : LobbyState) (slot : ℕ) (parts new : List Part) (desk : DeskState)
+    → parts ≡ parts_of lobby (vacant_from 1 slot) → desk ≡ vacant (slot + 1) → new ≡ parts ++ ADesk desk ∷ []
+    → new ≡ parts_of lobby (vacant_from 1 (slot + 1))
 parts_push lobby slot parts new desk e d n =
-    let more : vacant_from 1 slot ++ desk ∷ [] ≡ vacant_from 1 (slot + 1) = vacant_push slot (vacant_from 1 slot) (vacant_from 1 slot ++ desk ∷ []) desk refl d refl in
+    let more : vacant_from 1 slot ++ desk ∷ [] ≡ vacant_from 1 (slot + 1) =
+    vacant_push slot (vacant_from 1 slot) (vacant_from 1 slot ++ desk ∷ []) desk refl d refl in
     n ∙ ap (λ ps. ps ++ ADesk desk ∷ []) e
     ∙ ap (λ ps. TheLobby lobby ∷ ps) (sym (map-append ADesk (vacant_from 1 slot) (desk ∷ [])))
     ∙ ap (parts_of lobby) more
@@ -33,11 +36,13 @@ unfolding opened
 is_opened lobby = refl
 
 -- a hall opens in a whole state
-pub whole_parts : (lobby : LobbyState) (parts : List Part) → IsWellFormed lobby → IsOpening lobby → parts ≡ opened lobby → IsWhole parts
+pub whole_parts : (lobby : LobbyState) (parts : List Part) → IsWellFormed lobby → IsOpening lobby → parts ≡ opened lobby
+    → IsWhole parts
 whole_parts lobby parts formed opening e = subst IsWhole (is_opened lobby ∙ sym e) (whole_opening lobby formed opening)
 
 -- its first pass
-pub opens_hall : (lobby : LobbyState) (parts : List Part) (p : PassStanding Part Timed Reply) → IsWellFormed lobby → IsOpening lobby → parts ≡ opened lobby → p.view ≡ new_view parts → IsHallPass p
+pub opens_hall : (lobby : LobbyState) (parts : List Part) (p : PassStanding Part Timed Reply) → IsWellFormed lobby
+    → IsOpening lobby → parts ≡ opened lobby → p.view ≡ new_view parts → IsHallPass p
 opens_hall lobby parts p formed opening e view =
     let opens : p.view.opening ≡ parts = ap (λ (x : View Part Timed Reply). x.opening) view in
     let seen : p.view.seen ≡ [] = ap (λ (x : View Part Timed Reply). x.seen) view in

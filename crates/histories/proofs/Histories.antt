@@ -18,12 +18,16 @@ module _ {T : Type 0} where
   prefix_trans xs ys zs p q = (p.0 ++ q.0, sym (append_assoc xs p.0 q.0) ∙ (ap (λ ws. ws ++ q.0) p.1 ∙ q.1))
 
   pub prefix_length : (xs ys : List T) → IsPrefix xs ys → length xs ≤ length ys
-  prefix_length xs ys p = let e : length (xs ++ p.0) ≡ length ys = ap length p.1 in let h : length (xs ++ p.0) ≡ length xs + length p.0 = length-append xs p.0 in omega arith
+  prefix_length xs ys p =
+      let e : length (xs ++ p.0) ≡ length ys = ap length p.1 in
+      let h : length (xs ++ p.0) ≡ length xs + length p.0 = length-append xs p.0 in omega arith
 
   -- a beginning that is no shorter is the whole
   pub prefix_whole : (xs ys : List T) → IsPrefix xs ys → length ys ≤ length xs → xs ≡ ys
   prefix_whole xs ys ([], e) n = sym (append-nil xs) ∙ e
-  prefix_whole xs ys (z ∷ zs, e) n = let l : length (xs ++ z ∷ zs) ≡ length ys = ap length e in let h : length (xs ++ z ∷ zs) ≡ length xs + length (z ∷ zs) = length-append xs (z ∷ zs) in absurd (omega arith)
+  prefix_whole xs ys (z ∷ zs, e) n =
+      let l : length (xs ++ z ∷ zs) ≡ length ys = ap length e in
+      let h : length (xs ++ z ∷ zs) ≡ length xs + length (z ∷ zs) = length-append xs (z ∷ zs) in absurd (omega arith)
 
   -- of two beginnings of one list the shorter begins the longer
   pub prefix_of_longer : (xs ys zs : List T) → IsPrefix xs zs → IsPrefix ys zs → length xs ≤ length ys → IsPrefix xs ys
@@ -44,12 +48,16 @@ module _ {A R : Type 0} where
   calls-append k es fs = filter-append (λ e. eqb e.session k) es fs
 
   -- one entry more of the session
-  pub calls_own : (k : ℕ) (es : List (Entry A R)) (e : Entry A R) → e.session ≡ k → calls_of k (es ++ e ∷ []) ≡ calls_of k es ++ e ∷ []
+  pub calls_own : (k : ℕ) (es : List (Entry A R)) (e : Entry A R) → e.session ≡ k
+      → calls_of k (es ++ e ∷ []) ≡ calls_of k es ++ e ∷ []
   calls_own k es e h = calls-append k es (e ∷ []) ∙ ap (λ b. calls_of k es ++ cond b (e ∷ []) []) (eq-eqb e.session k h)
 
   -- one entry more of another session
-  pub calls_else : (k : ℕ) (es : List (Entry A R)) (e : Entry A R) → e.session ≢ k → calls_of k (es ++ e ∷ []) ≡ calls_of k es
-  calls_else k es e h = calls-append k es (e ∷ []) ∙ (ap (λ b. calls_of k es ++ cond b (e ∷ []) []) (ne_eqb e.session k h) ∙ append-nil (calls_of k es))
+  pub calls_else : (k : ℕ) (es : List (Entry A R)) (e : Entry A R) → e.session ≢ k
+      → calls_of k (es ++ e ∷ []) ≡ calls_of k es
+  calls_else k es e h =
+      calls-append k es (e ∷ [])
+      ∙ (ap (λ b. calls_of k es ++ cond b (e ∷ []) []) (ne_eqb e.session k h) ∙ append-nil (calls_of k es))
 
 module _ {P A R : Type 0} (c : Core P A R) where
   pub state-append : (xs : List P) (es fs : List (Entry A R)) → state c xs (es ++ fs) ≡ state c (state c xs es) fs
@@ -59,7 +67,8 @@ module _ {P A R : Type 0} (c : Core P A R) where
   pub steps_once : StepsOnce c
   steps_once xs es e = state-append xs es (e ∷ [])
 
-  pub legal-append : (xs : List P) (es fs : List (Entry A R)) → Legal c xs es → Legal c (state c xs es) fs → Legal c xs (es ++ fs)
+  pub legal-append : (xs : List P) (es fs : List (Entry A R)) → Legal c xs es → Legal c (state c xs es) fs
+      → Legal c xs (es ++ fs)
   legal-append xs [] fs l m = m
   legal-append xs (e ∷ es) fs l m = (l.0, l.1, legal-append (after c xs e.session e.act) es fs l.2 m)
 
@@ -84,12 +93,16 @@ module _ {P A R : Type 0} (c : Core P A R) where
 
   pub stays_whole : Lawful c → StaysWhole c
   stays_whole law xs [] w l = w
-  stays_whole law xs (e ∷ es) w l = stays_whole law (after c xs e.session e.act) es (law.stays xs e.session e.act w l.0) l.2
+  stays_whole law xs (e ∷ es) w l =
+      stays_whole law (after c xs e.session e.act) es (law.stays xs e.session e.act w l.0) l.2
 
   pub holds_in_every_state : Lawful c → (Q : List P → Type 0) → EachActKeeps c Q → HoldsInEveryState c Q
   holds_in_every_state law Q keeps xs [] w l q = q
-  holds_in_every_state law Q keeps xs (e ∷ es) w l q = holds_in_every_state law Q keeps (after c xs e.session e.act) es (law.stays xs e.session e.act w l.0) l.2 (keeps xs e.session e.act w l.0 q)
+  holds_in_every_state law Q keeps xs (e ∷ es) w l q =
+      holds_in_every_state law Q keeps (after c xs e.session e.act) es (law.stays xs e.session e.act w l.0) l.2
+      (keeps xs e.session e.act w l.0 q)
 
   pub holds_of_each_part : (Q : P → Type 0) → FirstKeeps c Q → SecondKeeps c Q → HoldsOfEachPart c Q
   holds_of_each_part Q one two xs [] l q = q
-  holds_of_each_part Q one two xs (e ∷ es) l q = holds_of_each_part Q one two (after c xs e.session e.act) es l.2 (each_after c Q one two xs e.session e.act l.0 q)
+  holds_of_each_part Q one two xs (e ∷ es) l q =
+      holds_of_each_part Q one two (after c xs e.session e.act) es l.2 (each_after c Q one two xs e.session e.act l.0 q)

@@ -18,7 +18,8 @@ module _ {T : Type 0} where
   get_set_else (x ∷ xs) (suc i) (suc j) v n = get_set_else xs i j v (λ e. n (ap suc e))
 
   -- one write on two lists that have the same part there
-  pub get_set_cong : (xs ys : List T) (i j : ℕ) (v : T) → length xs ≡ length ys → slice_get xs j ≡ slice_get ys j → slice_get (set xs i v) j ≡ slice_get (set ys i v) j
+  pub get_set_cong : (xs ys : List T) (i j : ℕ) (v : T) → length xs ≡ length ys → slice_get xs j ≡ slice_get ys j
+      → slice_get (set xs i v) j ≡ slice_get (set ys i v) j
   get_set_cong [] [] i j v n e = refl
   get_set_cong [] (y ∷ ys) i j v n e = absurd (omega arith)
   get_set_cong (x ∷ xs) [] i j v n e = absurd (omega arith)
@@ -49,15 +50,19 @@ module _ {T : Type 0} where
   same_parts [] [] h = refl
   same_parts [] (y ∷ ys) h = absurd (let e = h 0 in cc)
   same_parts (x ∷ xs) [] h = absurd (let e = h 0 in cc)
-  same_parts (x ∷ xs) (y ∷ ys) h = let e : x ≡ y = let q : Some x ≡ Some y = h 0 in cc in let es = same_parts xs ys (λ i. h (suc i)) in λ k. e k ∷ es k
+  same_parts (x ∷ xs) (y ∷ ys) h =
+      let e : x ≡ y = let q : Some x ≡ Some y = h 0 in cc in let es = same_parts xs ys (λ i. h (suc i)) in
+      λ k. e k ∷ es k
 
   -- a fact of each element is one of the element at a number, and of each after a write of such an element
-  pub get_has : (Q : T → Type 0) (xs : List T) (i : ℕ) → ((s : ℕ) (x : T) → slice_get xs s ≡ Some x → Q x) → IfSome (slice_get xs i) Q
+  pub get_has : (Q : T → Type 0) (xs : List T) (i : ℕ) → ((s : ℕ) (x : T) → slice_get xs s ≡ Some x → Q x)
+      → IfSome (slice_get xs i) Q
   get_has Q [] i q = tt
   get_has Q (x ∷ xs) zero q = q zero x refl
   get_has Q (x ∷ xs) (suc i) q = get_has Q xs i (λ s y e. q (suc s) y e)
 
-  pub each_set : (Q : T → Type 0) (xs : List T) (i : ℕ) (y : T) → Q y → ((s : ℕ) (x : T) → slice_get xs s ≡ Some x → Q x) → (s : ℕ) (x : T) → slice_get (set xs i y) s ≡ Some x → Q x
+  pub each_set : (Q : T → Type 0) (xs : List T) (i : ℕ) (y : T) → Q y
+      → ((s : ℕ) (x : T) → slice_get xs s ≡ Some x → Q x) → (s : ℕ) (x : T) → slice_get (set xs i y) s ≡ Some x → Q x
   each_set Q [] i y h q s x e = q s x e
   each_set Q (z ∷ zs) zero y h q zero x e = let d : y ≡ x = let k : Some y ≡ Some x = e in cc in subst Q d h
   each_set Q (z ∷ zs) zero y h q (suc s) x e = q (suc s) x e

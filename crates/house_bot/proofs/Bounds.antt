@@ -88,7 +88,8 @@ difference_within a b ha hb = record { least = omega (arith, ints); most = omega
 
 balance_within : (p : Position) → all_men p ≤ 32 → IsWithin (balance p)
 balance_within p h =
-    difference_within (material p p.to_move) (material p (opposite p.to_move)) (material-le p p.to_move h) (material-le p (opposite p.to_move) h)
+    difference_within (material p p.to_move) (material p (opposite p.to_move)) (material-le p p.to_move h)
+    (material-le p (opposite p.to_move) h)
 
 neg_within : (z : ℤ) → IsWithin z → IsWithin (neg_ℤ z)
 neg_within z h = record { least = omega (arith, ints, h.most); most = omega (arith, ints, h.least) }
@@ -105,7 +106,8 @@ fold_kept : (f : Move → ℤ) (t : Move → Bool) (a : ℤ) (x : Move) (xs : Li
 fold_kept f t a x xs true is each h rest = rest (int_max a (f x)) (max_within a (f x) h (each x is))
 fold_kept f t a x xs false is each h rest = rest a h
 
-fold_within : (f : Move → ℤ) (t : Move → Bool) (a : ℤ) (xs : List Move) → ((m : Move) → t m ≡ true → IsWithin (f m)) → IsWithin a →
+fold_within : (f : Move → ℤ) (t : Move → Bool) (a : ℤ) (xs : List Move) → ((m : Move) → t m ≡ true → IsWithin (f m))
+    → IsWithin a →
     IsWithin (fold int_max a (map f (filter t xs)))
 fold_within f t a [] each h = h
 fold_within f t a (x ∷ xs) each h = fold_kept f t a x xs (t x) refl each h (λ c k. fold_within f t c xs each k)

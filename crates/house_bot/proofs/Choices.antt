@@ -30,7 +30,8 @@ better-worth old m worth =
     (λ h. ap (λ (c : Choice). c.worth) (better-old old m worth h) ∙ omega (arith, ints, clamps, h))
 
 -- a worth that is cut below by what the choice has, and above by more than it is, makes no difference
-pub better-cut : (old : Choice) (m : Move) (high worth r : ℤ) → old.worth <ℤ high → worth <ℤ high → r ≡ cut old.worth high worth →
+pub better-cut : (old : Choice) (m : Move) (high worth r : ℤ) → old.worth <ℤ high → worth <ℤ high
+    → r ≡ cut old.worth high worth →
     better old m r ≡ better old m worth
 better-cut old m high worth r order less e =
     by_lt_z old.worth worth
@@ -51,7 +52,8 @@ int_eq-no : (a b : ℤ) → a <ℤ b → int_eq a b ≡ false
 int_eq-no a b h = ap (λ t. is_eq (cond t Less (cond (int_lt b a) Greater Equal))) (int_lt-yes a b h)
 
 -- a move that is worth more than the choice, where g is the greatest of all
-pick_new : (a w g : ℤ) (x y z : Option Move) → a <ℤ w → w ≤ℤ g → cond (int_lt w g) y x ≡ cond (int_lt a g) (cond (int_eq w g) x y) z
+pick_new : (a w g : ℤ) (x y z : Option Move) → a <ℤ w → w ≤ℤ g
+    → cond (int_lt w g) y x ≡ cond (int_lt a g) (cond (int_eq w g) x y) z
 pick_new a w g x y z more least =
     let right : cond (int_lt a g) (cond (int_eq w g) x y) z ≡ cond (int_eq w g) x y =
     ap (λ b. cond b (cond (int_eq w g) x y) z) (int_lt-yes a g (omega (arith, ints, more, least))) in
@@ -62,7 +64,8 @@ pick_new a w g x y z more least =
     ap (λ b. cond b y x) (int_lt-no w g h) ∙ sym (right ∙ ap (λ b. cond b x y) (int_eq-yes w g same)))
 
 -- a move that isn't
-pick_old : (a w g : ℤ) (x y z : Option Move) → w ≤ℤ a → cond (int_lt a g) y z ≡ cond (int_lt a g) (cond (int_eq w g) x y) z
+pick_old : (a w g : ℤ) (x y z : Option Move) → w ≤ℤ a
+    → cond (int_lt a g) y z ≡ cond (int_lt a g) (cond (int_eq w g) x y) z
 pick_old a w g x y z less =
     by_lt_z a g
     (λ h. ap (λ b. cond (int_lt a g) b z) (sym (ap (λ b. cond b x y) (int_eq-no w g (omega (arith, ints, h, less))))))
@@ -76,9 +79,11 @@ best_of-first f old [] g e =
 best_of-first f old (m ∷ ms) g e =
     let w : ℤ = f m in
     let rest : Option Move = find (λ y. int_eq (f y) g) ms in
-    let later : (best_of f (better old m w) ms).what ≡ cond (int_lt (better old m w).worth g) rest (better old m w).what =
+    let later : (best_of f (better old m w) ms).what
+    ≡ cond (int_lt (better old m w).worth g) rest (better old m w).what =
     best_of-first f (better old m w) ms g (e ∙ ap (λ z. top f z ms) (sym (better-worth old m w))) in
-    let grown : int_max old.worth w ≤ℤ top f (int_max old.worth w) ms = raised_by-grows f (λ y. true) (int_max old.worth w) ms in
+    let grown : int_max old.worth w ≤ℤ top f (int_max old.worth w) ms =
+    raised_by-grows f (λ y. true) (int_max old.worth w) ms in
     by_lt_z old.worth w
     (λ h.
     later
@@ -96,7 +101,8 @@ find-skips f m ms g false is rest none =
     rest (λ same. let no : true ≡ false = sym (int_eq-yes (f m) g same) ∙ is in cc) none
 
 -- a greatest above the bound is reached
-pub reached : (f : Move → ℤ) (low g : ℤ) (ms : List Move) → g ≡ top f low ms → low <ℤ g → find (λ m. int_eq (f m) g) ms ≢ None
+pub reached : (f : Move → ℤ) (low g : ℤ) (ms : List Move) → g ≡ top f low ms → low <ℤ g
+    → find (λ m. int_eq (f m) g) ms ≢ None
 reached f low g [] e h = absurd (omega (arith, ints, e, h))
 reached f low g (m ∷ ms) e h =
     find-skips f m ms g (int_eq (f m) g) refl (λ differ.

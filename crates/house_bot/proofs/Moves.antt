@@ -13,7 +13,9 @@ all_allowed : (p : Position) → All (λ m. is_allowed p m ≡ true) (allowed_mo
 unfolding allowed_moves
 all_allowed p = filter_passes (is_allowed p) (board_moves ++ drop_moves)
 
-pub allowed_at : (p : Position) (ms : List Move) (i : ℕ) (d : Move) → ms ≡ allowed_moves p → i < length ms → Allowed p (get_or ms i d)
+pub allowed_at : (p : Position) (ms : List Move) (i : ℕ) (d : Move) → ms ≡ allowed_moves p → i < length ms
+    → Allowed p (get_or ms i d)
 allowed_at p ms i d same less =
-    let passes : All (λ m. is_allowed p m ≡ true) ms = All-same (λ m. is_allowed p m ≡ true) ms (allowed_moves p) same (all_allowed p) in
+    let passes : All (λ m. is_allowed p m ≡ true) ms =
+    All-same (λ m. is_allowed p m ≡ true) ms (allowed_moves p) same (all_allowed p) in
     (Decides-allowed p (get_or ms i d)).0 (All-get_or (λ m. is_allowed p m ≡ true) ms i d less passes)

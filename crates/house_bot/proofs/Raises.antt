@@ -16,11 +16,13 @@ use Rattle.house_bot.proofs.Cuts.{int_max-swap, int_max-comm, le-trans, int_min-
 abbrev pub top : (Move → ℤ) → ℤ → List Move → ℤ
 top f bound ms = raised_by f (λ m. true) bound ms
 
-raised-max : (tried : Bool) (b x w : ℤ) → cond tried (int_max (int_max b x) w) (int_max b x) ≡ int_max (cond tried (int_max b w) b) x
+raised-max : (tried : Bool) (b x w : ℤ)
+    → cond tried (int_max (int_max b x) w) (int_max b x) ≡ int_max (cond tried (int_max b w) b) x
 raised-max true b x w = int_max-swap b x w
 raised-max false b x w = refl
 
-pub raised_by-max : (f : Move → ℤ) (t : Move → Bool) (b x : ℤ) (ms : List Move) → raised_by f t (int_max b x) ms ≡ int_max (raised_by f t b ms) x
+pub raised_by-max : (f : Move → ℤ) (t : Move → Bool) (b x : ℤ) (ms : List Move)
+    → raised_by f t (int_max b x) ms ≡ int_max (raised_by f t b ms) x
 raised_by-max f t b x [] = refl
 raised_by-max f t b x (m ∷ ms) =
     ap (λ c. raised_by f t c ms) (raised-max (t m) b x (f m)) ∙ raised_by-max f t (raised f t b m) x ms
@@ -32,7 +34,8 @@ raised-grows false b w = omega (arith, ints)
 pub raised_by-grows : (f : Move → ℤ) (t : Move → Bool) (b : ℤ) (ms : List Move) → b ≤ℤ raised_by f t b ms
 raised_by-grows f t b [] = omega (arith, ints)
 raised_by-grows f t b (m ∷ ms) =
-    le-trans b (raised f t b m) (raised_by f t (raised f t b m) ms) (raised-grows (t m) b (f m)) (raised_by-grows f t (raised f t b m) ms)
+    le-trans b (raised f t b m) (raised_by f t (raised f t b m) ms) (raised-grows (t m) b (f m))
+    (raised_by-grows f t (raised f t b m) ms)
 
 -- a move that one pass or the other tries
 parted_at : (f : Move → ℤ) (t u : Move → Bool) (b : ℤ) (m : Move) (ms : List Move) (x : Bool) → t m ≡ x → u m ≡ not x →
@@ -59,7 +62,8 @@ pub parted : (f : Move → ℤ) (t u : Move → Bool) → ((m : Move) → u m �
 parted f t u other b [] = refl
 parted f t u other b (m ∷ ms) = parted_at f t u b m ms (t m) refl (other m) (λ c. parted f t u other c ms)
 
-pub top-greatest : (f : Move → ℤ) (low : ℤ) (ms : List Move) → 0 < length ms → top f low ms ≡ int_max low (greatest (map f ms))
+pub top-greatest : (f : Move → ℤ) (low : ℤ) (ms : List Move) → 0 < length ms
+    → top f low ms ≡ int_max low (greatest (map f ms))
 top-greatest f low [] some = absurd (omega arith)
 top-greatest f low (m ∷ ms) some =
     ap (λ z. top f z ms) (int_max-comm low (f m))
@@ -78,7 +82,8 @@ stops f t low high ms n h =
     int_min-reached high (raised_by f t low ms) over
 
 -- the first pass reached the end of the window
-pub first_pass_reaches : (f : Move → ℤ) (P : Placement) (low high r : ℤ) (ms : List Move) → low <ℤ high → 0 < length ms →
+pub first_pass_reaches : (f : Move → ℤ) (P : Placement) (low high r : ℤ) (ms : List Move) → low <ℤ high
+    → 0 < length ms →
     r ≡ int_min high (raised_by f (is_tried true P) low ms) → high ≤ℤ r → high ≡ cut low high (greatest (map f ms))
 first_pass_reaches f P low high r ms order some is more =
     let half : ℤ = raised_by f (is_tried true P) low ms in
@@ -89,7 +94,8 @@ first_pass_reaches f P low high r ms order some is more =
     cut-over low high (greatest (map f ms)) order (omega (arith, ints, over, grown, whole))
 
 -- what the second pass gives, where the first stayed in the window
-pub second_pass_gives : (f : Move → ℤ) (P : Placement) (low high a r : ℤ) (ms : List Move) → low <ℤ high → 0 < length ms →
+pub second_pass_gives : (f : Move → ℤ) (P : Placement) (low high a r : ℤ) (ms : List Move) → low <ℤ high
+    → 0 < length ms →
     a ≡ int_min high (raised_by f (is_tried true P) low ms) → a <ℤ high →
     r ≡ int_min high (raised_by f (is_tried false P) a ms) → r ≡ cut low high (greatest (map f ms))
 second_pass_gives f P low high a r ms order some first less second =

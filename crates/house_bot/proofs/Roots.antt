@@ -37,7 +37,8 @@ turn_chooses d p ms i choice m r small two allowed so_far here less bounds e =
     ∙ ap (λ y. better (best_of f no_choice (take i ms)) y (f y)) here
     ∙ sym (fold_more (λ (x : Choice) (y : Move). better x y (f y)) no_choice ms i m less)
 
-pub turn_stays_open : (d : ℕ) (p : Position) (choice : Choice) (m : Move) (r : ℤ) → d ≤ 255 → IsTwoSets p → Allowed p m →
+pub turn_stays_open : (d : ℕ) (p : Position) (choice : Choice) (m : Move) (r : ℤ) → d ≤ 255 → IsTwoSets p
+    → Allowed p m →
     IsOpen choice → r ≡ cut choice.worth (pos 200000) (move_value d p m) → IsOpen (better choice m r)
 turn_stays_open d p choice m r small two allowed bounds e =
     let within : IsWithin (move_value d p m) = move_within d p m small two allowed in

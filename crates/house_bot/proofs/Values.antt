@@ -32,7 +32,8 @@ pub value-zero : (p : Position) → None ≡ end_value (result p) 0 → balance 
 unfolding value
 value-zero p e = ap (λ o. unwrap_or o (balance p)) e
 
-value-suc : (e : ℕ) (p : Position) → None ≡ end_value (result p) (suc e) → value (suc e) p ≡ greatest (map (move_value e p) (allowed_moves p))
+value-suc : (e : ℕ) (p : Position) → None ≡ end_value (result p) (suc e)
+    → value (suc e) p ≡ greatest (map (move_value e p) (allowed_moves p))
 unfolding value
 value-suc e p none = sym (ap (λ o. unwrap_or o (greatest (map (move_value e p) (allowed_moves p)))) none)
 
@@ -114,7 +115,8 @@ unfolding best_move
 best_move-none zero p e = refl
 best_move-none (suc d) p e = ap (find (λ m. int_eq (move_value d p m) (value (suc d) p))) e
 
-pub best_move-suc : (d e : ℕ) (p : Position) → suc e ≡ d → best_move d p ≡ find (λ m. int_eq (move_value e p m) (value d p)) (allowed_moves p)
+pub best_move-suc : (d e : ℕ) (p : Position) → suc e ≡ d
+    → best_move d p ≡ find (λ m. int_eq (move_value e p m) (value d p)) (allowed_moves p)
 unfolding best_move
 best_move-suc zero e p same = absurd (omega (arith, same))
 best_move-suc (suc d) e p same =

@@ -10,10 +10,12 @@ use Rattle.line_reader.specs.Grammar.{Part, Inside, Pair, Sent, DataByte, Order,
 use Rattle.fics_words.proofs.Each.{each-push}
 
 -- parts of a block are skipped
-parts_data : (parts : List Part) → AllByRecursion IsPart parts → (more : List ℕ) → data_from Block (part_bytes parts ++ more) ≡ data_from Block more
+parts_data : (parts : List Part) → AllByRecursion IsPart parts → (more : List ℕ)
+    → data_from Block (part_bytes parts ++ more) ≡ data_from Block more
 parts_data [] all more = refl
 parts_data (Inside byte ∷ parts) all more =
-    ap (λ (t : Bool). data_from (cond t BlockCommand Block) (part_bytes parts ++ more)) all.0 ∙ parts_data parts all.1 more
+    ap (λ (t : Bool). data_from (cond t BlockCommand Block) (part_bytes parts ++ more)) all.0
+    ∙ parts_data parts all.1 more
 parts_data (Pair byte ∷ parts) all more =
     ap (λ (t : Bool). data_from (cond t Data Block) (part_bytes parts ++ more)) all.0 ∙ parts_data parts all.1 more
 
@@ -28,15 +30,26 @@ both_or_none true byte l = refl
 both_or_none false byte l = refl
 
 -- a unit gives its data
-unit_data : (unit : Sent) → IsSent unit → (more : List ℕ) → data_from Data (sent_bytes unit ++ more) ≡ sent_data unit ++ data_from Data more
-unit_data (DataByte byte) h more = ap (λ (t : Bool). cond (not t) (byte ∷ data_from (cond t Command Data) more) (data_from (cond t Command Data) more)) h
+unit_data : (unit : Sent) → IsSent unit → (more : List ℕ)
+    → data_from Data (sent_bytes unit ++ more) ≡ sent_data unit ++ data_from Data more
+unit_data (DataByte byte) h more =
+    ap (λ (t : Bool). cond (not t) (byte ∷ data_from (cond t Command Data) more) (data_from (cond t Command Data) more))
+    h
 unit_data (Order byte) h more =
-    ap (λ (t : Bool). cond (byte == 255) (byte ∷ data_from (cond t Block (cond (is_choice byte) Choice Data)) more) (data_from (cond t Block (cond (is_choice byte) Choice Data)) more)) h.0
-    ∙ ap (λ (t : Bool). cond (byte == 255) (byte ∷ data_from (cond t Choice Data) more) (data_from (cond t Choice Data) more)) h.1
+    ap (λ (t : Bool).
+    cond (byte == 255) (byte ∷ data_from (cond t Block (cond (is_choice byte) Choice Data)) more)
+    (data_from (cond t Block (cond (is_choice byte) Choice Data)) more))
+    h.0
+    ∙ ap
+    (λ (t : Bool).
+    cond (byte == 255) (byte ∷ data_from (cond t Choice Data) more) (data_from (cond t Choice Data) more))
+    h.1
     ∙ both_or_none (byte == 255) byte (data_from Data more)
 unit_data (Request verb option) h more =
     let no = no_verb verb h in
-    ap (λ (t : Bool). cond t (verb ∷ data_from (after Command verb) (option ∷ more)) (data_from (after Command verb) (option ∷ more))) no.1
+    ap (λ (t : Bool).
+    cond t (verb ∷ data_from (after Command verb) (option ∷ more)) (data_from (after Command verb) (option ∷ more)))
+    no.1
     ∙ ap (λ (t : Bool). data_from (cond t Block (cond (is_choice verb) Choice Data)) (option ∷ more)) no.0
     ∙ ap (λ (t : Bool). data_from (cond t Choice Data) (option ∷ more)) h
 unit_data (Section parts) h more =
@@ -54,14 +67,16 @@ begun_data (InSection parts) h =
     ap (λ (l : List ℕ). data_from Block l) (sym (append-nil (part_bytes parts))) ∙ parts_data parts h []
 begun_data (InSectionIac parts) h = parts_data parts h (255 ∷ [])
 
-units_data_from : (units : List Sent) (begun : Begun) → AllByRecursion IsSent units → IsBegun begun → data_from Data (all_bytes units ++ begun_bytes begun) ≡ all_data units
+units_data_from : (units : List Sent) (begun : Begun) → AllByRecursion IsSent units → IsBegun begun
+    → data_from Data (all_bytes units ++ begun_bytes begun) ≡ all_data units
 units_data_from [] begun all h = begun_data begun h
 units_data_from (unit ∷ units) begun all h =
     ap (data_from Data) (append_assoc (sent_bytes unit) (all_bytes units) (begun_bytes begun))
     ∙ unit_data unit all.0 (all_bytes units ++ begun_bytes begun)
     ∙ ap (λ (l : List ℕ). sent_data unit ++ l) (units_data_from units begun all.1 h)
 
-pub units_data : (text : List ℕ) (units : List Sent) (begun : Begun) → AreUnits text units begun → data_from Data text ≡ all_data units
+pub units_data : (text : List ℕ) (units : List Sent) (begun : Begun) → AreUnits text units begun
+    → data_from Data text ≡ all_data units
 units_data text units begun h = ap (data_from Data) h.spelled ∙ units_data_from units begun h.sent h.unfinished
 
 -- ---- each text has its units
@@ -77,19 +92,27 @@ part_bytes-append (Inside byte ∷ parts) more = ap (λ (l : List ℕ). byte ∷
 part_bytes-append (Pair byte ∷ parts) more = ap (λ (l : List ℕ). 255 ∷ byte ∷ l) (part_bytes-append parts more)
 
 -- a whole unit in front
-in_front : (unit : Sent) (text all : List ℕ) → IsSent unit → all ≡ sent_bytes unit ++ text → HasUnits text → HasUnits all
+in_front : (unit : Sent) (text all : List ℕ) → IsSent unit → all ≡ sent_bytes unit ++ text → HasUnits text
+    → HasUnits all
 in_front unit text all h e rest = record {
   units = unit ∷ rest.units;
   begun = rest.begun;
   are = record {
     sent = (h, rest.are.sent);
     unfinished = rest.are.unfinished;
-    spelled = e ∙ ap (λ (l : List ℕ). sent_bytes unit ++ l) rest.are.spelled ∙ sym (append_assoc (sent_bytes unit) (all_bytes rest.units) (begun_bytes rest.begun));
+    spelled =
+        e ∙ ap (λ (l : List ℕ). sent_bytes unit ++ l) rest.are.spelled
+        ∙ sym (append_assoc (sent_bytes unit) (all_bytes rest.units) (begun_bytes rest.begun));
   };
 }
 
 ends_here : (begun : Begun) → IsBegun begun → HasUnits (begun_bytes begun ++ [])
-ends_here begun h = record { units = []; begun = begun; are = record { sent = tt; unfinished = h; spelled = append-nil (begun_bytes begun) } }
+ends_here begun h =
+    record {
+      units = [];
+      begun = begun;
+      are = record { sent = tt; unfinished = h; spelled = append-nil (begun_bytes begun) };
+    }
 
 -- what was begun, and the text behind it
 has_units : (text : List ℕ) (begun : Begun) → IsBegun begun → HasUnits (begun_bytes begun ++ text)
@@ -111,27 +134,36 @@ has_units (byte ∷ text) AfterIac h =
         | false ↦ λ f. in_front (Order byte) text (255 ∷ byte ∷ text) (e, f) refl (has_units text Nothing tt)
       ] refl
     ] refl
-has_units (byte ∷ text) (AfterVerb verb) h = in_front (Request verb byte) text (255 ∷ verb ∷ byte ∷ text) h refl (has_units text Nothing tt)
+has_units (byte ∷ text) (AfterVerb verb) h =
+    in_front (Request verb byte) text (255 ∷ verb ∷ byte ∷ text) h refl (has_units text Nothing tt)
 has_units (byte ∷ text) (InSection parts) h =
     elim (byte == 255) as (λ t. (byte == 255) ≡ t → HasUnits (255 ∷ 250 ∷ (part_bytes parts ++ byte ∷ text))) [
       | true ↦ λ e.
           let is : 255 ≡ byte = grind (arith, nat_tests) in
-          subst (λ (l : List ℕ). HasUnits (255 ∷ 250 ∷ l)) (append_assoc (part_bytes parts) (255 ∷ []) text ∙ ap (λ (b : ℕ). part_bytes parts ++ b ∷ text) is) (has_units text (InSectionIac parts) h)
+          subst (λ (l : List ℕ). HasUnits (255 ∷ 250 ∷ l))
+          (append_assoc (part_bytes parts) (255 ∷ []) text ∙ ap (λ (b : ℕ). part_bytes parts ++ b ∷ text) is)
+          (has_units text (InSectionIac parts) h)
       | false ↦ λ e.
-          subst (λ (l : List ℕ). HasUnits (255 ∷ 250 ∷ l)) (ap (λ (l : List ℕ). l ++ text) (part_bytes-append parts (Inside byte ∷ [])) ∙ append_assoc (part_bytes parts) (byte ∷ []) text)
+          subst (λ (l : List ℕ). HasUnits (255 ∷ 250 ∷ l))
+          (ap (λ (l : List ℕ). l ++ text) (part_bytes-append parts (Inside byte ∷ []))
+          ∙ append_assoc (part_bytes parts) (byte ∷ []) text)
           (has_units text (InSection (parts ++ Inside byte ∷ [])) (each-push IsPart parts (Inside byte) h e))
     ] refl
 has_units (byte ∷ text) (InSectionIac parts) h =
-    let front : (part_bytes parts ++ 255 ∷ []) ++ byte ∷ text ≡ part_bytes parts ++ 255 ∷ byte ∷ text = append_assoc (part_bytes parts) (255 ∷ []) (byte ∷ text) in
+    let front : (part_bytes parts ++ 255 ∷ []) ++ byte ∷ text ≡ part_bytes parts ++ 255 ∷ byte ∷ text =
+    append_assoc (part_bytes parts) (255 ∷ []) (byte ∷ text) in
     subst (λ (l : List ℕ). HasUnits (255 ∷ 250 ∷ l)) (sym front)
     (elim (byte == 240) as (λ t. (byte == 240) ≡ t → HasUnits (255 ∷ 250 ∷ (part_bytes parts ++ 255 ∷ byte ∷ text))) [
       | true ↦ λ e.
           let is : byte ≡ 240 = grind (arith, nat_tests) in
           in_front (Section parts) text (255 ∷ 250 ∷ (part_bytes parts ++ 255 ∷ byte ∷ text)) h
-          (ap (λ (b : ℕ). 255 ∷ 250 ∷ (part_bytes parts ++ 255 ∷ b ∷ text)) is ∙ ap (λ (l : List ℕ). 255 ∷ 250 ∷ l) (sym (append_assoc (part_bytes parts) (255 ∷ 240 ∷ []) text)))
+          (ap (λ (b : ℕ). 255 ∷ 250 ∷ (part_bytes parts ++ 255 ∷ b ∷ text)) is
+          ∙ ap (λ (l : List ℕ). 255 ∷ 250 ∷ l) (sym (append_assoc (part_bytes parts) (255 ∷ 240 ∷ []) text)))
           (has_units text Nothing tt)
       | false ↦ λ e.
-          subst (λ (l : List ℕ). HasUnits (255 ∷ 250 ∷ l)) (ap (λ (l : List ℕ). l ++ text) (part_bytes-append parts (Pair byte ∷ [])) ∙ append_assoc (part_bytes parts) (255 ∷ byte ∷ []) text)
+          subst (λ (l : List ℕ). HasUnits (255 ∷ 250 ∷ l))
+          (ap (λ (l : List ℕ). l ++ text) (part_bytes-append parts (Pair byte ∷ []))
+          ∙ append_assoc (part_bytes parts) (255 ∷ byte ∷ []) text)
           (has_units text (InSection (parts ++ Pair byte ∷ [])) (each-push IsPart parts (Pair byte) h e))
     ] refl)
 

@@ -31,7 +31,8 @@ front_cut false c (x ∷ x' ∷ xs) (y ∷ y' ∷ ys) bp bq f = (f.0, ap (onto_f
 
 front_pieces : (a b : List ℕ) → IsPrefix (but_last (pieces a)) (but_last (pieces (a ++ b)))
 front_pieces [] b = (but_last (pieces b), refl)
-front_pieces (c ∷ a) b = front_cut (c == 10) c (pieces a) (pieces (a ++ b)) (Begins-pieces a) (Begins-pieces (a ++ b)) (front_pieces a b)
+front_pieces (c ∷ a) b =
+    front_cut (c == 10) c (pieces a) (pieces (a ++ b)) (Begins-pieces a) (Begins-pieces (a ++ b)) (front_pieces a b)
 
 front_byte : (t : Bool) (c : ℕ) (u v : List ℕ) → IsPrefix u v → IsPrefix (cond t (c ∷ u) u) (cond t (c ∷ v) v)
 front_byte true c u v f = (f.0, ap (λ (l : List ℕ). c ∷ l) f.1)
@@ -39,7 +40,9 @@ front_byte false c u v f = f
 
 front_data : (telnet : Telnet) (a b : List ℕ) → IsPrefix (data_from telnet a) (data_from telnet (a ++ b))
 front_data telnet [] b = (data_from telnet b, refl)
-front_data telnet (c ∷ a) b = front_byte (is_data telnet c) c (data_from (after telnet c) a) (data_from (after telnet c) (a ++ b)) (front_data (after telnet c) a b)
+front_data telnet (c ∷ a) b =
+    front_byte (is_data telnet c) c (data_from (after telnet c) a) (data_from (after telnet c) (a ++ b))
+    (front_data (after telnet c) a b)
 
 front_kept : (telnet : Telnet) (a b : List ℕ) → IsPrefix (kept_from telnet a) (kept_from telnet (a ++ b))
 front_kept telnet a b =
@@ -59,12 +62,15 @@ front_lines a b =
 behind_is : (a b : List ℕ) → lines_in (a ++ b) ≡ lines_in a ++ lines_behind a b
 behind_is a b =
     let f = front_lines a b in
-    sym f.1 ∙ ap (λ (l : List Incoming). lines_in a ++ l) (sym (drop-append_seam (lines_in a) f.0) ∙ ap (drop (length (lines_in a))) f.1)
+    sym f.1
+    ∙ ap (λ (l : List Incoming). lines_in a ++ l)
+    (sym (drop-append_seam (lines_in a) f.0) ∙ ap (drop (length (lines_in a))) f.1)
 
 behind_none : (a : List ℕ) → lines_behind a [] ≡ []
 behind_none a = ap (λ (l : List ℕ). drop (length (lines_in a)) (lines_in l)) (append-nil a) ∙ drop-length (lines_in a)
 
-behind_byte : (a : List ℕ) (c : ℕ) (b : List ℕ) → lines_behind a (c ∷ b) ≡ lines_behind a (c ∷ []) ++ lines_behind (a ++ c ∷ []) b
+behind_byte : (a : List ℕ) (c : ℕ) (b : List ℕ)
+    → lines_behind a (c ∷ b) ≡ lines_behind a (c ∷ []) ++ lines_behind (a ++ c ∷ []) b
 behind_byte a c b =
     append_cancel_left (lines_in a) (lines_behind a (c ∷ b)) (lines_behind a (c ∷ []) ++ lines_behind (a ++ c ∷ []) b)
     (sym (behind_is a (c ∷ b))
@@ -82,13 +88,17 @@ inputs_bytes front (c ∷ bytes) =
     ∙ sym (map-append Line (lines_behind front (c ∷ [])) (lines_behind (front ++ c ∷ []) bytes))
     ∙ ap (map Line) (sym (behind_byte front c bytes))
 
-inputs_more : (front : List ℕ) (signs more : List Sign) → inputs_behind front (signs ++ more) ≡ inputs_behind front signs ++ inputs_behind (front ++ bytes_of signs) more
+inputs_more : (front : List ℕ) (signs more : List Sign)
+    → inputs_behind front (signs ++ more) ≡ inputs_behind front signs ++ inputs_behind (front ++ bytes_of signs) more
 inputs_more front [] more = ap (λ (l : List ℕ). inputs_behind l more) (sym (append-nil front))
 inputs_more front (Byte c ∷ signs) more =
     ap (λ (l : List Input). map Line (lines_behind front (c ∷ [])) ++ l)
     (inputs_more (front ++ c ∷ []) signs more
-    ∙ ap (λ (l : List ℕ). inputs_behind (front ++ c ∷ []) signs ++ inputs_behind l more) (append_assoc front (c ∷ []) (bytes_of signs)))
-    ∙ sym (append_assoc (map Line (lines_behind front (c ∷ []))) (inputs_behind (front ++ c ∷ []) signs) (inputs_behind (front ++ c ∷ bytes_of signs) more))
+    ∙ ap (λ (l : List ℕ). inputs_behind (front ++ c ∷ []) signs ++ inputs_behind l more)
+    (append_assoc front (c ∷ []) (bytes_of signs)))
+    ∙ sym
+    (append_assoc (map Line (lines_behind front (c ∷ []))) (inputs_behind (front ++ c ∷ []) signs)
+    (inputs_behind (front ++ c ∷ bytes_of signs) more))
 inputs_more front (Pause ∷ signs) more = ap (λ (l : List Input). Quiet ∷ l) (inputs_more front signs more)
 
 pub bytes_more : (signs : List Sign) (bytes : List ℕ) → bytes_of (signs ++ map Byte bytes) ≡ bytes_of signs ++ bytes
@@ -106,41 +116,56 @@ bytes_pause (Pause ∷ signs) = bytes_pause signs
 inputs_open : (signs : List Sign) → inputs_of signs false ≡ inputs_behind [] signs
 inputs_open signs = append-nil (inputs_behind [] signs)
 
-pub more_open : (signs more : List Sign) → inputs_of (signs ++ more) false ≡ inputs_of signs false ++ inputs_behind (bytes_of signs) more
+pub more_open : (signs more : List Sign)
+    → inputs_of (signs ++ more) false ≡ inputs_of signs false ++ inputs_behind (bytes_of signs) more
 more_open signs more =
-    inputs_open (signs ++ more) ∙ inputs_more [] signs more ∙ ap (λ (l : List Input). l ++ inputs_behind (bytes_of signs) more) (sym (inputs_open signs))
+    inputs_open (signs ++ more) ∙ inputs_more [] signs more
+    ∙ ap (λ (l : List Input). l ++ inputs_behind (bytes_of signs) more) (sym (inputs_open signs))
 
 -- bytes came
-pub come_bytes : (signs : List Sign) (bytes : List ℕ) → inputs_of (signs ++ map Byte bytes) false ≡ inputs_of signs false ++ map Line (lines_behind (bytes_of signs) bytes)
+pub come_bytes : (signs : List Sign) (bytes : List ℕ)
+    → inputs_of (signs ++ map Byte bytes) false
+    ≡ inputs_of signs false ++ map Line (lines_behind (bytes_of signs) bytes)
 come_bytes signs bytes =
-    more_open signs (map Byte bytes) ∙ ap (λ (l : List Input). inputs_of signs false ++ l) (inputs_bytes (bytes_of signs) bytes)
+    more_open signs (map Byte bytes)
+    ∙ ap (λ (l : List Input). inputs_of signs false ++ l) (inputs_bytes (bytes_of signs) bytes)
 
 -- a pause came
 pub come_pause : (signs : List Sign) → inputs_of (signs ++ Pause ∷ []) false ≡ inputs_of signs false ++ Quiet ∷ []
 come_pause signs = more_open signs (Pause ∷ [])
 
 -- the end came
-pub come_end : (signs : List Sign) → inputs_of signs true ≡ inputs_of signs false ++ map Line (option_to_list (rest_of fresh (bytes_of signs)))
-come_end signs = ap (λ (l : List Input). l ++ map Line (option_to_list (rest_of fresh (bytes_of signs)))) (sym (inputs_open signs))
+pub come_end : (signs : List Sign)
+    → inputs_of signs true ≡ inputs_of signs false ++ map Line (option_to_list (rest_of fresh (bytes_of signs)))
+come_end signs =
+    ap (λ (l : List Input). l ++ map Line (option_to_list (rest_of fresh (bytes_of signs)))) (sym (inputs_open signs))
 
 -- ---- a reader that is fed
 
 -- what a reader gives that is fed more
-pub fed_lines : (reader : Reader) (bytes more : List ℕ) → lines_of (record reader { fed = reader.fed ++ bytes }) more ≡ lines_of reader (bytes ++ more)
+pub fed_lines : (reader : Reader) (bytes more : List ℕ)
+    → lines_of (record reader { fed = reader.fed ++ bytes }) more ≡ lines_of reader (bytes ++ more)
 fed_lines reader bytes more =
-    ap (λ (l : List ℕ). map reading (but_last (pieces (reader.line ++ kept_from reader.telnet l)))) (append_assoc reader.fed bytes more)
+    ap (λ (l : List ℕ). map reading (but_last (pieces (reader.line ++ kept_from reader.telnet l))))
+    (append_assoc reader.fed bytes more)
 
-pub fed_rest : (reader : Reader) (bytes more : List ℕ) → rest_of (record reader { fed = reader.fed ++ bytes }) more ≡ rest_of reader (bytes ++ more)
+pub fed_rest : (reader : Reader) (bytes more : List ℕ)
+    → rest_of (record reader { fed = reader.fed ++ bytes }) more ≡ rest_of reader (bytes ++ more)
 fed_rest reader bytes more =
-    ap (λ (l : List ℕ). rest_reading (last_of (pieces (reader.line ++ kept_from reader.telnet l)))) (append_assoc reader.fed bytes more)
+    ap (λ (l : List ℕ). rest_reading (last_of (pieces (reader.line ++ kept_from reader.telnet l))))
+    (append_assoc reader.fed bytes more)
 
 -- the lines that it then has are those that the bytes end
-pub behind_reader : (front bytes : List ℕ) (given : List Incoming) (reader : Reader) → ((more : List ℕ) → lines_in (front ++ more) ≡ given ++ lines_of reader more) → lines_of reader [] ≡ []
+pub behind_reader : (front bytes : List ℕ) (given : List Incoming) (reader : Reader)
+    → ((more : List ℕ) → lines_in (front ++ more) ≡ given ++ lines_of reader more) → lines_of reader [] ≡ []
     → lines_behind front bytes ≡ lines_of (record reader { fed = reader.fed ++ bytes }) []
 behind_reader front bytes given reader along drained =
-    let before : lines_in front ≡ given = ap lines_in (sym (append-nil front)) ∙ along [] ∙ ap (λ (l : List Incoming). given ++ l) drained ∙ append-nil given in
+    let before : lines_in front ≡ given =
+    ap lines_in (sym (append-nil front)) ∙ along [] ∙ ap (λ (l : List Incoming). given ++ l) drained
+    ∙ append-nil given in
     append_cancel_left given (lines_behind front bytes) (lines_of (record reader { fed = reader.fed ++ bytes }) [])
     (ap (λ (l : List Incoming). l ++ lines_behind front bytes) (sym before)
     ∙ sym (behind_is front bytes)
     ∙ along bytes
-    ∙ ap (λ (l : List Incoming). given ++ l) (ap (lines_of reader) (sym (append-nil bytes)) ∙ sym (fed_lines reader bytes [])))
+    ∙ ap (λ (l : List Incoming). given ++ l)
+    (ap (lines_of reader) (sym (append-nil bytes)) ∙ sym (fed_lines reader bytes [])))

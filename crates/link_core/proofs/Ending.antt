@@ -28,12 +28,19 @@ use Rattle.link_core.proofs.Tales.{where_then}
 use Rattle.link_core.proofs.Talking.{prefix_further}
 
 -- who followed a course passed over nothing
-passes_follows : (mark : Bool) (course : Course) (session moment : ℕ) (es : Log) (text : List ℕ) (memory : MemoryState) → Follows course session moment es text memory → Passes mark course session moment es
+passes_follows : (mark : Bool) (course : Course) (session moment : ℕ) (es : Log) (text : List ℕ) (memory : MemoryState)
+    → Follows course session moment es text memory → Passes mark course session moment es
 passes_follows mark (Done kept) session moment es text memory f = f.0
-passes_follows mark (Puts put rest) session moment es text memory f = passes_follows mark rest session moment es f.0 memory f.2
+passes_follows mark (Puts put rest) session moment es text memory f =
+    passes_follows mark rest session moment es f.0 memory f.2
 passes_follows mark (Asks act rest) session moment [] text memory f = absurd f
 passes_follows mark (Asks act rest) session moment (e ∷ es) text memory f =
-    inl (e.reply, es, ap (λ (x : Entry Timed Reply). x ∷ es) f.0, passes_follows mark (rest e.reply) session moment es text memory f.1)
+    inl (
+      e.reply,
+      es,
+      ap (λ (x : Entry Timed Reply). x ∷ es) f.0,
+      passes_follows mark (rest e.reply) session moment es text memory f.1,
+    )
 
 -- who has left doesn't leave again
 out_not_in : (s : Standing) → is_out s ≡ true → is_in s ≡ false
@@ -42,16 +49,20 @@ out_not_in (standing.Password name) h = absurd (let bad : false ≡ true = h in 
 out_not_in (standing.In name) h = absurd (let bad : false ≡ true = h in cc)
 out_not_in standing.Gone h = refl
 
-none_left_in : (is : Bool) (mark : Bool) (course : Course) (memory : MemoryState) (session moment : ℕ) (es : Log) → is ≡ false → Passes mark (if is then course else Done memory) session moment es → es ≡ []
+none_left_in : (is : Bool) (mark : Bool) (course : Course) (memory : MemoryState) (session moment : ℕ) (es : Log)
+    → is ≡ false → Passes mark (if is then course else Done memory) session moment es → es ≡ []
 none_left_in true mark course memory session moment es h p = absurd (let bad : true ≡ false = h in cc)
 none_left_in false mark course memory session moment es h p = p
 
-none_left : (mark : Bool) (memory : MemoryState) (session moment : ℕ) (es : Log) → is_gone memory ≡ true → Passes mark (departing memory) session moment es → es ≡ []
+none_left : (mark : Bool) (memory : MemoryState) (session moment : ℕ) (es : Log) → is_gone memory ≡ true
+    → Passes mark (departing memory) session moment es → es ≡ []
 none_left mark memory session moment es gone p =
-    none_left_in (has_entered memory) mark (leaving_course memory) memory session moment es (out_not_in memory.standing gone) p
+    none_left_in (has_entered memory) mark (leaving_course memory) memory session moment es
+    (out_not_in memory.standing gone) p
 
 -- the link's count says why the reading ended, where that was a fault
-ended : (end : LinkEnd) (talk : Dialogue) (before after : ℕ) → EndsReading end talk.taken talk.is_ended talk.memory → OnFault (Err end) (Rose before after) → HasEnded end talk before after
+ended : (end : LinkEnd) (talk : Dialogue) (before after : ℕ) → EndsReading end talk.taken talk.is_ended talk.memory
+    → OnFault (Err end) (Rose before after) → HasEnded end talk before after
 ended end.Quit talk before after e c = e
 ended end.End talk before after e c = e
 ended end.ReadFault talk before after e c = c
@@ -59,8 +70,10 @@ ended end.WriteFault talk before after e c = c
 ended end.Spent talk before after e c = e
 ended end.Memory talk before after e c = tt
 
-module _ (shows : ℕ → Bool) (start now : Stand) (new : RunnerState) (link : Option Tale) (closes : WhereTold now.link link Closes) (faults faults' : ℕ) where
-  read_closed : (session : ℕ) (taken : List Sign) (e : Bool) (made left : Log) (written : List ℕ) → NotRead taken e start.link now.link ⊎ LastRead shows session taken made written start.link now.link
+module _ (shows : ℕ → Bool) (start now : Stand) (new : RunnerState) (link : Option Tale)
+    (closes : WhereTold now.link link Closes) (faults faults' : ℕ) where
+  read_closed : (session : ℕ) (taken : List Sign) (e : Bool) (made left : Log) (written : List ℕ)
+      → NotRead taken e start.link now.link ⊎ LastRead shows session taken made written start.link now.link
       → NotRead taken e start.link link ⊎ LastRead shows session taken (made ++ left) written start.link link
   read_closed session taken e made left written (inl n) = inl (record {
     nothing = n.nothing;
@@ -106,28 +119,39 @@ module _ (shows : ℕ → Bool) (start now : Stand) (new : RunnerState) (link : 
     none_left = λ e. ap (λ (t : Tale). t.left) q ∙ p.none_left e;
   })
 
-  has_written : (end : LinkEnd) (s : Stops shows end start now) (left : Log) → WroteAnswers end (all_said end s left) start.link link
+  has_written : (end : LinkEnd) (s : Stops shows end start now) (left : Log)
+      → WroteAnswers end (all_said end s left) start.link link
   has_written end s left = record {
     text = s.writes;
-    on_link = where_then start.link now.link link s.tells closes (λ x y z p q. ap (λ (t : Tale). t.written) q ∙ p.written_is);
+    on_link =
+        where_then start.link now.link link s.tells closes (λ x y z p q. ap (λ (t : Tale). t.written) q ∙ p.written_is);
   }
 
   is_closed : (end : LinkEnd) → Stops shows end start now → HasClosed start.link link
   is_closed end s = where_then start.link now.link link s.tells closes (λ x y z p q. ap (λ (t : Tale). t.closed) q)
 
-  made_all : (end : LinkEnd) (s : Stops shows end start now) (left : Log) → (s.made ++ s.begun) ++ left ≡ s.made ++ (s.begun ++ left)
+  made_all : (end : LinkEnd) (s : Stops shows end start now) (left : Log)
+      → (s.made ++ s.begun) ++ left ≡ s.made ++ (s.begun ++ left)
   made_all end s left = append_assoc s.made s.begun left
 
-  has_read : (end : LinkEnd) (s : Stops shows end start now) (left : Log) → AnswersFirst shows start.state.number (all_said end s left) (s.made ++ (s.begun ++ left)) start.link link
+  has_read : (end : LinkEnd) (s : Stops shows end start now) (left : Log)
+      → AnswersFirst shows start.state.number (all_said end s left) (s.made ++ (s.begun ++ left)) start.link link
   has_read end s left =
-      subst (λ (l : Log). NotRead s.taken s.is_ended start.link link ⊎ LastRead shows start.state.number s.taken l s.written start.link link) (made_all end s left)
+      subst (λ (l : Log).
+      NotRead s.taken s.is_ended start.link link
+      ⊎ LastRead shows start.state.number s.taken l s.written start.link link)
+      (made_all end s left)
       (read_closed start.state.number s.taken s.is_ended (s.made ++ s.begun) left s.written s.read)
 
-  has_grown : (end : LinkEnd) (s : Stops shows end start now) (left : Log) → Made now.state left new → Made start.state (s.made ++ (s.begun ++ left)) new
-  has_grown end s left g = subst (λ (l : Log). Made start.state l new) (made_all end s left) (made_then start.state now.state new (s.made ++ s.begun) left s.grew g)
+  has_grown : (end : LinkEnd) (s : Stops shows end start now) (left : Log) → Made now.state left new
+      → Made start.state (s.made ++ (s.begun ++ left)) new
+  has_grown end s left g =
+      subst (λ (l : Log). Made start.state l new) (made_all end s left)
+      (made_then start.state now.state new (s.made ++ s.begun) left s.grew g)
 
   -- a link that was served whole
-  whole : (end : LinkEnd) (s : Stops shows end start now) (left : Log) → OnFault (Err end) (Rose faults faults') → LeavesWhole shows start.state.number s.memory (s.begun ++ left)
+  whole : (end : LinkEnd) (s : Stops shows end start now) (left : Log) → OnFault (Err end) (Rose faults faults')
+      → LeavesWhole shows start.state.number s.memory (s.begun ++ left)
       → ServedWhole shows start.state.number end (s.made ++ (s.begun ++ left)) first last
   whole end s left cause leaves = record {
     talk = all_said end s left;
@@ -140,7 +164,8 @@ module _ (shows : ℕ → Bool) (start now : Stand) (new : RunnerState) (link : 
   }
 
   -- and one that was served in part
-  part : (end : LinkEnd) (s : Stops shows end start now) (left : Log) → OnFault (Err end) (Rose faults faults') → LeavesInPart end shows start.state.mark start.state.number (all_said end s left)
+  part : (end : LinkEnd) (s : Stops shows end start now) (left : Log) → OnFault (Err end) (Rose faults faults')
+      → LeavesInPart end shows start.state.mark start.state.number (all_said end s left)
       → ServedInPart shows start.state.mark start.state.number (s.made ++ (s.begun ++ left)) first last
   part end s left cause leaves = record {
     talk = all_said end s left;
@@ -154,8 +179,10 @@ module _ (shows : ℕ → Bool) (start now : Stand) (new : RunnerState) (link : 
   }
 
   -- the session left in full behind what it answered
-  left_whole : (begun left : Log) (memory after : MemoryState) (moment : ℕ) → IsShown shows moment → (begun ≡ []) × (now.memory ≡ memory) → now.state.number ≡ start.state.number
-      → Follows (departing now.memory) now.state.number moment left [] after → LeavesWhole shows start.state.number memory (begun ++ left)
+  left_whole : (begun left : Log) (memory after : MemoryState) (moment : ℕ) → IsShown shows moment
+      → (begun ≡ []) × (now.memory ≡ memory) → now.state.number ≡ start.state.number
+      → Follows (departing now.memory) now.state.number moment left [] after
+      → LeavesWhole shows start.state.number memory (begun ++ left)
   left_whole begun left memory after moment shown none same follows = record {
     moment = moment;
     shown = shown;
@@ -167,8 +194,10 @@ module _ (shows : ℕ → Bool) (start now : Stand) (new : RunnerState) (link : 
   }
 
   -- the session left, but for what ran out of memory, where memory had run out before
-  left_broke : (s : Stops shows end.Memory start now) (left : Log) (moment : ℕ) → IsShown shows moment → Passes start.state.mark (departing now.memory) start.state.number moment left
-      → Behind end.Memory shows start.state.mark start.state.number s.inputs (inputs_of s.taken s.is_ended) s.memory now.memory s.begun
+  left_broke : (s : Stops shows end.Memory start now) (left : Log) (moment : ℕ) → IsShown shows moment
+      → Passes start.state.mark (departing now.memory) start.state.number moment left
+      → Behind end.Memory shows start.state.mark start.state.number s.inputs (inputs_of s.taken s.is_ended) s.memory
+      now.memory s.begun
       → LeavesInPart end.Memory shows start.state.mark start.state.number (all_said end.Memory s left)
   left_broke s left moment shown passes (inl b) = inl (record {
     begun = s.begun;
@@ -180,18 +209,24 @@ module _ (shows : ℕ → Bool) (start now : Stand) (new : RunnerState) (link : 
   })
   left_broke s left moment shown passes (inr q) =
       let none : left ≡ [] = none_left start.state.mark now.memory start.state.number moment left q.1 passes in
-      inr (subst (λ (l : Log). QuitsShort shows start.state.mark start.state.number s.inputs (inputs_of s.taken s.is_ended) s.memory l)
+      inr (subst
+      (λ (l : Log).
+      QuitsShort shows start.state.mark start.state.number s.inputs (inputs_of s.taken s.is_ended) s.memory l)
       (sym (ap (λ (l : Log). s.begun ++ l) none ∙ append-nil s.begun)) q.0)
 
   -- and where it hadn't
-  left_short : (begun left : Log) (memory : MemoryState) (moment : ℕ) → IsShown shows moment → Passes start.state.mark (departing now.memory) start.state.number moment left
-      → (begun ≡ []) × (now.memory ≡ memory) → LeavesShort shows start.state.mark start.state.number memory (begun ++ left)
+  left_short : (begun left : Log) (memory : MemoryState) (moment : ℕ) → IsShown shows moment
+      → Passes start.state.mark (departing now.memory) start.state.number moment left
+      → (begun ≡ []) × (now.memory ≡ memory)
+      → LeavesShort shows start.state.mark start.state.number memory (begun ++ left)
   left_short begun left memory moment shown passes none = record {
     moment = moment;
     shown = shown;
     passes =
-        subst (λ (l : Log). Passes start.state.mark (departing memory) start.state.number moment (l ++ left)) (sym none.0)
-        (subst (λ (m : MemoryState). Passes start.state.mark (departing m) start.state.number moment left) none.1 passes);
+        subst (λ (l : Log). Passes start.state.mark (departing memory) start.state.number moment (l ++ left))
+        (sym none.0)
+        (subst (λ (m : MemoryState). Passes start.state.mark (departing m) start.state.number moment left) none.1
+        passes);
   }
 
   number_here : (end : LinkEnd) → Stops shows end start now → now.state.number ≡ start.state.number
@@ -200,13 +235,15 @@ module _ (shows : ℕ → Bool) (start now : Stand) (new : RunnerState) (link : 
   mark_here : (end : LinkEnd) → Stops shows end start now → now.state.mark ≡ start.state.mark
   mark_here end s = same_mark start.state now.state (s.made ++ s.begun) s.grew
 
-  passes_here : (end : LinkEnd) → Stops shows end start now → (moment : ℕ) (left : Log) → Passes now.state.mark (departing now.memory) now.state.number moment left
+  passes_here : (end : LinkEnd) → Stops shows end start now → (moment : ℕ) (left : Log)
+      → Passes now.state.mark (departing now.memory) now.state.number moment left
       → Passes start.state.mark (departing now.memory) start.state.number moment left
   passes_here end s moment left p =
       subst (λ (n : ℕ). Passes start.state.mark (departing now.memory) n moment left) (number_here end s)
       (subst (λ (m : Bool). Passes m (departing now.memory) now.state.number moment left) (mark_here end s) p)
 
-  parts_short : (e : LinkEnd) (s : Stops shows e start now) (left : Log) (moment : ℕ) → IsShown shows moment → Passes start.state.mark (departing now.memory) start.state.number moment left
+  parts_short : (e : LinkEnd) (s : Stops shows e start now) (left : Log) (moment : ℕ) → IsShown shows moment
+      → Passes start.state.mark (departing now.memory) start.state.number moment left
       → LeavesInPart e shows start.state.mark start.state.number (all_said e s left)
   parts_short end.Memory s left moment shown p = left_broke s left moment shown p s.behind
   parts_short end.Quit s left moment shown p = left_short s.begun left s.memory moment shown p s.behind
@@ -216,24 +253,35 @@ module _ (shows : ℕ → Bool) (start now : Stand) (new : RunnerState) (link : 
   parts_short end.Spent s left moment shown p = left_short s.begun left s.memory moment shown p s.behind
 
   -- the session left as it was to
-  left_so : (e : LinkEnd) (s : Stops shows e start now) (moment : ℕ) (after : MemoryState) → IsShown shows moment → OnFault (Err e) (Rose faults faults') → (l : Left (departing now.memory) moment now.state new after)
+  left_so : (e : LinkEnd) (s : Stops shows e start now) (moment : ℕ) (after : MemoryState) → IsShown shows moment
+      → OnFault (Err e) (Rose faults faults') → (l : Left (departing now.memory) moment now.state new after)
       → WasServed shows start.state.mark start.state.number e (s.made ++ (s.begun ++ l.entries)) first last
   left_so end.Memory s moment after shown cause l =
       part end.Memory s l.entries cause (parts_short end.Memory s l.entries moment shown
-      (passes_here end.Memory s moment l.entries (passes_follows now.state.mark (departing now.memory) now.state.number moment l.entries [] after l.follows)))
+      (passes_here end.Memory s moment l.entries
+      (passes_follows now.state.mark (departing now.memory) now.state.number moment l.entries [] after l.follows)))
   left_so end.Quit s moment after shown cause l =
-      whole end.Quit s l.entries cause (left_whole s.begun l.entries s.memory after moment shown s.behind (number_here end.Quit s) l.follows)
+      whole end.Quit s l.entries cause
+      (left_whole s.begun l.entries s.memory after moment shown s.behind (number_here end.Quit s) l.follows)
   left_so end.End s moment after shown cause l =
-      whole end.End s l.entries cause (left_whole s.begun l.entries s.memory after moment shown s.behind (number_here end.End s) l.follows)
+      whole end.End s l.entries cause
+      (left_whole s.begun l.entries s.memory after moment shown s.behind (number_here end.End s) l.follows)
   left_so end.ReadFault s moment after shown cause l =
-      whole end.ReadFault s l.entries cause (left_whole s.begun l.entries s.memory after moment shown s.behind (number_here end.ReadFault s) l.follows)
+      whole end.ReadFault s l.entries cause
+      (left_whole s.begun l.entries s.memory after moment shown s.behind (number_here end.ReadFault s) l.follows)
   left_so end.WriteFault s moment after shown cause l =
-      whole end.WriteFault s l.entries cause (left_whole s.begun l.entries s.memory after moment shown s.behind (number_here end.WriteFault s) l.follows)
+      whole end.WriteFault s l.entries cause
+      (left_whole s.begun l.entries s.memory after moment shown s.behind (number_here end.WriteFault s) l.follows)
   left_so end.Spent s moment after shown cause l =
-      whole end.Spent s l.entries cause (left_whole s.begun l.entries s.memory after moment shown s.behind (number_here end.Spent s) l.follows)
+      whole end.Spent s l.entries cause
+      (left_whole s.begun l.entries s.memory after moment shown s.behind (number_here end.Spent s) l.follows)
 
-  pub serves_left : (e : LinkEnd) (moment : ℕ) (after : MemoryState) → Stops shows e start now → IsShown shows moment → OnFault (Err e) (Rose faults faults') → Left (departing now.memory) moment now.state new after
-      → ServesLink shows e start.state (record { tale = start.link; faults = faults }) new (record { tale = link; faults = faults' })
+  pub serves_left : (e : LinkEnd) (moment : ℕ) (after : MemoryState) → Stops shows e start now → IsShown shows moment
+      → OnFault (Err e) (Rose faults faults') → Left (departing now.memory) moment now.state new after
+      → ServesLink shows e start.state (record {
+        tale = start.link;
+        faults = faults;
+      }) new (record { tale = link; faults = faults' })
   serves_left e moment after s shown cause l = record {
     entries = s.made ++ (s.begun ++ l.entries);
     grew = has_grown e s l.entries l.grew;
@@ -241,10 +289,15 @@ module _ (shows : ℕ → Bool) (start now : Stand) (new : RunnerState) (link : 
   }
 
   -- an act of leaving ran out of memory
-  pub serves_short : (e : LinkEnd) (moment : ℕ) → Stops shows e start now → IsShown shows moment → OnFault (Err e) (Rose faults faults') → LeftInPart (departing now.memory) moment now.state new
-      → ServesLink shows end.Memory start.state (record { tale = start.link; faults = faults }) new (record { tale = link; faults = faults' })
+  pub serves_short : (e : LinkEnd) (moment : ℕ) → Stops shows e start now → IsShown shows moment
+      → OnFault (Err e) (Rose faults faults') → LeftInPart (departing now.memory) moment now.state new
+      → ServesLink shows end.Memory start.state (record {
+        tale = start.link;
+        faults = faults;
+      }) new (record { tale = link; faults = faults' })
   serves_short e moment s shown cause l = record {
     entries = s.made ++ (s.begun ++ l.entries);
     grew = has_grown e s l.entries l.grew;
-    served = part e s l.entries cause (parts_short e s l.entries moment shown (passes_here e s moment l.entries l.passes));
+    served =
+        part e s l.entries cause (parts_short e s l.entries moment shown (passes_here e s moment l.entries l.passes));
   }

@@ -24,7 +24,8 @@ either_fits false one other p q = q
 below : (stamp : ℕ) → nat_lt stamp stamp_cycle ≡ true → IsStamp stamp
 below stamp e = grind (arith, nat_tests)
 
-spelled_fits : (t : Bool) (line : List ℕ) (m : Message) → (is_message m && bytes_eq (spelling m) line) ≡ t → HasStamp (said (if t then Some m else None))
+spelled_fits : (t : Bool) (line : List ℕ) (m : Message) → (is_message m && bytes_eq (spelling m) line) ≡ t
+    → HasStamp (said (if t then Some m else None))
 spelled_fits false line m e = tt
 spelled_fits true line (Text text stamp) e =
     let message = and_parts (is_message (Text text stamp)) (bytes_eq (spelling (Text text stamp)) line) e in
@@ -36,14 +37,17 @@ reading_fits : (line : List ℕ) → HasStamp (reading line)
 reading_fits line =
     either_fits (is_stamped line) (stamped_reading line) (plain_reading line)
     (either_fits (nat_lt 1033 (length line)) TooLong (said (opened line)) tt
-    (spelled_fits (is_message (candidate line) && bytes_eq (spelling (candidate line)) line) line (candidate line) refl))
-    (either_fits (nat_lt 1023 (length line)) TooLong (if list_all is_printable line then Plain line else BadByte) tt (either_fits (list_all is_printable line) (Plain line) BadByte tt tt))
+    (spelled_fits (is_message (candidate line) && bytes_eq (spelling (candidate line)) line) line (candidate line)
+    refl))
+    (either_fits (nat_lt 1023 (length line)) TooLong (if list_all is_printable line then Plain line else BadByte) tt
+    (either_fits (list_all is_printable line) (Plain line) BadByte tt tt))
 
 first_or : Incoming → List Incoming → Incoming
 first_or line [] = line
 first_or line (first ∷ lines) = first
 
-head_fits : (texts : List (List ℕ)) (line : Incoming) (lines : List Incoming) → map reading texts ≡ line ∷ lines → HasStamp line
+head_fits : (texts : List (List ℕ)) (line : Incoming) (lines : List Incoming) → map reading texts ≡ line ∷ lines
+    → HasStamp line
 unfolding first_or
 head_fits [] line lines e = absurd cc
 head_fits (text ∷ texts) line lines e = subst HasStamp (ap (first_or TooLong) e) (reading_fits text)

@@ -124,7 +124,8 @@ pub record LastRead (shows : ℕ → Bool) (session : ℕ) (taken : List Sign) (
   pub taken_first : IsPrefix signs taken
   pub made_first : IsPrefix made entries
   pub written_first : IsPrefix (joined (opening_text ∷ pieces)) written
-  pub at : WhereTold old new (λ before after. after.at_read ≡ extent_behind before signs (joined (opening_text ∷ pieces)))
+  pub at : WhereTold old new
+      (λ before after. after.at_read ≡ extent_behind before signs (joined (opening_text ∷ pieces)))
 
 -- the link wasn't read, or all was answered as its last read began
 abbrev pub AnswersFirst : (ℕ → Bool) → ℕ → Dialogue → Log → Option Tale → Option Tale → Type 0

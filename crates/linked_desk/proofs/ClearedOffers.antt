@@ -30,12 +30,15 @@ same_with_item : (g : GameState) (x : Option Item) → (with_item g x).offers �
 same_with_item g None = refl
 same_with_item g (Some x) = refl
 
-same_with_end : (desk : ℕ) (g : GameState) (moment : ℕ) (end : Option Ended) → (with_end desk g moment end).offers ≡ g.offers
+same_with_end : (desk : ℕ) (g : GameState) (moment : ℕ) (end : Option Ended)
+    → (with_end desk g moment end).offers ≡ g.offers
 same_with_end desk g moment None = refl
 same_with_end desk g moment (Some e) = refl
 
 -- a half-move changes no offer beside those that it clears
-same_moved : (desk : ℕ) (g : GameState) (moment : ℕ) (board : BoardNumber) (stamp : Option ℕ) (answer : Result Move Refusal) → (moved desk g moment board stamp answer).offers ≡ g.offers
+same_moved : (desk : ℕ) (g : GameState) (moment : ℕ) (board : BoardNumber) (stamp : Option ℕ)
+    (answer : Result Move Refusal)
+    → (moved desk g moment board stamp answer).offers ≡ g.offers
 same_moved desk g moment board stamp answer =
     let after : GameState = played g moment board stamp answer in
     let shown : GameState = shown_moved desk g moment board stamp answer in
@@ -47,9 +50,11 @@ same_moved desk g moment board stamp answer =
     ∙ same_with_item shown (hands_at desk shown board man)
     ∙ same_with_view after (slice_get (views_of desk after) (place board))
 
-pub cleared_by_move : (desk : ℕ) (g : GameState) (moment seat : ℕ) (word : MoveWord) (stamp : Option ℕ) → IsCleared (moved_by desk g moment (Some seat) word stamp).offers.standing seat
+pub cleared_by_move : (desk : ℕ) (g : GameState) (moment seat : ℕ) (word : MoveWord) (stamp : Option ℕ)
+    → IsCleared (moved_by desk g moment (Some seat) word stamp).offers.standing seat
 cleared_by_move desk g moment seat word stamp =
     let clears : ClearsForTheMove g.offers.standing seat = clears_for_the_move g.offers.standing seat in
-    let cleared : IsCleared (after_half_move seat g.offers.standing) seat = record { takebacks = λ number. clears.takebacks number; opponent = clears.opponent } in
+    let cleared : IsCleared (after_half_move seat g.offers.standing) seat =
+    record { takebacks = λ number. clears.takebacks number; opponent = clears.opponent } in
     subst (λ (book : OfferBook). IsCleared book.standing seat)
     (sym (same_moved desk (with_cleared seat g) moment (board_of seat) stamp (seat_word g seat word))) cleared

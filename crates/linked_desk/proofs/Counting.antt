@@ -23,7 +23,8 @@ tally_view : (g : GameState) (view : Option BoardView) → (with_view g view).ta
 tally_view g None = refl
 tally_view g (Some view) = refl
 
-pub agreed_tally : (desk : ℕ) (g : GameState) (moment seat : ℕ) (offer : Offer) → (agreed desk g moment seat offer).tally ≡ g.tally
+pub agreed_tally : (desk : ℕ) (g : GameState) (moment seat : ℕ) (offer : Offer)
+    → (agreed desk g moment seat offer).tally ≡ g.tally
 agreed_tally desk g moment seat Draw = refl
 agreed_tally desk g moment seat Abort = refl
 agreed_tally desk g moment seat Adjourn = refl

@@ -14,36 +14,44 @@ use Rattle.linked_desk.specs.Sound.{Names, IsSound}
 use Rattle.linked_desk.proofs.Keeps.{IsSound-told_end}
 
 -- mate names its winner, and stalemate none
-end_in-names : (board : BoardNumber) (mover : Colour) (state : State) → IfSome (end_in board mover state) (λ e. Names e.why e.winner)
+end_in-names : (board : BoardNumber) (mover : Colour) (state : State)
+    → IfSome (end_in board mover state) (λ e. Names e.why e.winner)
 end_in-names board mover Mate = (λ e. e, λ e. e)
 end_in-names board mover Stalemate = (λ e. e, λ e. e)
 end_in-names board mover Safe = tt
 end_in-names board mover Check = tt
 
-pub end_on-names : (board : BoardNumber) (on : Option Board) → IfSome (option_and_then (end_on board) on) (λ e. Names e.why e.winner)
+pub end_on-names : (board : BoardNumber) (on : Option Board)
+    → IfSome (option_and_then (end_on board) on) (λ e. Names e.why e.winner)
 end_on-names board None = tt
 end_on-names board (Some b) = end_in-names board (to_move b) (result (position_of b))
 
 -- a game whose boards bring this end, or none
-pub IsSound-with_end : (desk : ℕ) (g : GameState) (moment : ℕ) (end : Option Ended) → IfSome end (λ e. Names e.why e.winner) → moment ≤ 2 ^ 48 → g.ended ≡ None →
+pub IsSound-with_end : (desk : ℕ) (g : GameState) (moment : ℕ) (end : Option Ended)
+    → IfSome end (λ e. Names e.why e.winner) → moment ≤ 2 ^ 48 → g.ended ≡ None →
     IsSound (record g { ended = end }) → IsSound (with_end desk g moment end)
-IsSound-with_end desk g moment None names timely runs s = subst (λ (e : Option Ended). IsSound (record g { ended = e })) (sym runs) s
+IsSound-with_end desk g moment None names timely runs s =
+    subst (λ (e : Option Ended). IsSound (record g { ended = e })) (sym runs) s
 IsSound-with_end desk g moment (Some e) names timely runs s = IsSound-told_end desk g moment e names timely s
 
-occupant-with_end : (desk : ℕ) (g : GameState) (moment : ℕ) (end : Option Ended) → occupant (with_end desk g moment end) ≡ occupant g
+occupant-with_end : (desk : ℕ) (g : GameState) (moment : ℕ) (end : Option Ended)
+    → occupant (with_end desk g moment end) ≡ occupant g
 occupant-with_end desk g moment None = refl
 occupant-with_end desk g moment (Some e) = refl
 
-pub occupant-finished : (desk : ℕ) (g : GameState) (moment : ℕ) (board : BoardNumber) → occupant (finished desk g moment board) ≡ occupant g
+pub occupant-finished : (desk : ℕ) (g : GameState) (moment : ℕ) (board : BoardNumber)
+    → occupant (finished desk g moment board) ≡ occupant g
 occupant-finished desk g moment board = occupant-with_end desk g moment (end_at g board)
 
 -- a state that brings no end is none
-goes_on-in : (board : BoardNumber) (mover : Colour) (state : State) → end_in board mover state ≡ None → is_end state ≡ false
+goes_on-in : (board : BoardNumber) (mover : Colour) (state : State) → end_in board mover state ≡ None
+    → is_end state ≡ false
 goes_on-in board mover Mate e = absurd cc
 goes_on-in board mover Stalemate e = absurd cc
 goes_on-in board mover Safe e = refl
 goes_on-in board mover Check e = refl
 
-pub goes_on_at : (board : BoardNumber) (on : Option Board) → option_and_then (end_on board) on ≡ None → IfSome on (λ b. is_end (result (position_of b)) ≡ false)
+pub goes_on_at : (board : BoardNumber) (on : Option Board) → option_and_then (end_on board) on ≡ None
+    → IfSome on (λ b. is_end (result (position_of b)) ≡ false)
 goes_on_at board None e = tt
 goes_on_at board (Some b) e = goes_on-in board (to_move b) (result (position_of b)) e

@@ -41,23 +41,28 @@ from_end (x ∷ xs) =
     ]
 
 -- the position of a board of a sound game, by its record
-position_by : (t : Terms) (boards : List Board) (k : ℕ) (b : Board) → AreSoundBoards t boards → slice_get boards k ≡ Some b →
+position_by : (t : Terms) (boards : List Board) (k : ℕ) (b : Board) → AreSoundBoards t boards
+    → slice_get boards k ≡ Some b →
     position_of b ≡ position_on t.variant (halves_of boards) b.number
 unfolding position_of
 position_by t boards k b s there =
     let terms : b.terms ≡ t = All-at (λ (x : Board). x.terms ≡ t) boards k b s.terms there in
-    let all : half_moves (halves_of boards) ≡ b.all = All-at (λ (x : Board). half_moves (halves_of boards) ≡ x.all) boards k b (all_of t boards s) there in
+    let all : half_moves (halves_of boards) ≡ b.all =
+    All-at (λ (x : Board). half_moves (halves_of boards) ≡ x.all) boards k b (all_of t boards s) there in
     (λ i. position_after (terms i).variant (sym all i) b.number)
 
 -- at the start
-start_goes_on : (t : Terms) (k n : ℕ) → slice_get (board_numbers t.variant) k ≡ Some n → GoesOn (position_on t.variant [] n)
+start_goes_on : (t : Terms) (k n : ℕ) → slice_get (board_numbers t.variant) k ≡ Some n
+    → GoesOn (position_on t.variant [] n)
 unfolding position_of
 start_goes_on t k n there =
     All-at (λ (b : Board). GoesOn (position_of b)) (new_boards t 0) k (new_board n t 0) (go_start t 0)
-    (slice_get-map (λ number. new_board number t 0) (board_numbers t.variant) k ∙ ap (option_map (λ number. new_board number t 0)) there)
+    (slice_get-map (λ number. new_board number t 0) (board_numbers t.variant) k
+    ∙ ap (option_map (λ number. new_board number t 0)) there)
 
 -- a half-move on the other board of a pair ends nothing here
-other_goes_on : (front : List Half) (h : Half) (n : ℕ) → n ≡ 3 - h.board → 1 ≤ h.board → h.board ≤ 2 → GoesOn (position_on Bughouse front (3 - h.board)) →
+other_goes_on : (front : List Half) (h : Half) (n : ℕ) → n ≡ 3 - h.board → 1 ≤ h.board → h.board ≤ 2
+    → GoesOn (position_on Bughouse front (3 - h.board)) →
     GoesOn (position_on Bughouse (front ++ h ∷ []) n)
 unfolding position_of
 other_goes_on front h n is low high going =
@@ -67,11 +72,13 @@ other_goes_on front h n is low high going =
     let before : GoesOn (position_of b) = subst (λ (m : ℕ). GoesOn (position_on Bughouse front m)) (sym is) going in
     let after : GoesOn (position_of (learnt b h.what)) = learnt_goes b h.what refl before in
     let made : half_moves front ++ record { board = other_board n; what = h.what } ∷ [] ≡ half_moves (front ++ h ∷ []) =
-    (λ i. half_moves front ++ record { board = other i; what = h.what } ∷ []) ∙ sym (map-append (λ (g : Half). record { board = g.board; what = g.what }) front (h ∷ [])) in
+    (λ i. half_moves front ++ record { board = other i; what = h.what } ∷ [])
+    ∙ sym (map-append (λ (g : Half). record { board = g.board; what = g.what }) front (h ∷ [])) in
     subst (λ (T : List HalfMove). GoesOn (position_after Bughouse T n)) made after
 
 -- a board of a game has that number, or it is the other one of a pair
-own_or_other : (v : Variant) (k n m : ℕ) (board : BoardNumber) → slice_get (board_numbers v) k ≡ Some n → number_of board ≡ m → m ≤ bounds.boards v →
+own_or_other : (v : Variant) (k n m : ℕ) (board : BoardNumber) → slice_get (board_numbers v) k ≡ Some n
+    → number_of board ≡ m → m ≤ bounds.boards v →
     (place board ≡ k) ⊎ ((v ≡ Bughouse) × (n ≡ 3 - m))
 own_or_other Chess zero n m First there is high = inl refl
 own_or_other Chess zero n m Second there is high = absurd (omega (arith, is, high))
@@ -88,7 +95,8 @@ own_or_other Bughouse (suc zero) n m First there is high = let two : 2 ≡ n = c
 own_or_other Bughouse (suc zero) n m Second there is high = inl refl
 own_or_other Bughouse (suc (suc k)) n m board there is high = absurd cc
 
-goes_on_by : (v : Variant) (front : List Half) (h : Half) (n : ℕ) → v ≡ Bughouse → n ≡ 3 - h.board → 1 ≤ h.board → h.board ≤ bounds.boards v → OtherGoesOn v front h.board →
+goes_on_by : (v : Variant) (front : List Half) (h : Half) (n : ℕ) → v ≡ Bughouse → n ≡ 3 - h.board → 1 ≤ h.board
+    → h.board ≤ bounds.boards v → OtherGoesOn v front h.board →
     GoesOn (position_on v (front ++ h ∷ []) n)
 goes_on_by Chess front h n pair is low high going = absurd cc
 goes_on_by Crazyhouse front h n pair is low high going = absurd cc
@@ -100,24 +108,31 @@ abbrev pub GoesOnAt : List Board → Option BoardNumber → Type 0
 GoesOnAt boards None = Unit {0}
 GoesOnAt boards (Some board) = IfSome (slice_get boards (place board)) (λ b. GoesOn (position_of b))
 
-after_last : (t : Terms) (boards : List Board) (front : List Half) (h : Half) (board : BoardNumber) → numbered h.board ≡ Some board → AreSoundBoards t boards → halves_of boards ≡ front ++ h ∷ [] → MayCome t front h → IsHalf t.variant h →
-    IfSome (slice_get boards (place board)) (λ b. GoesOn (position_of b)) → (k : ℕ) (b : Board) → slice_get boards k ≡ Some b → GoesOn (position_of b)
+after_last : (t : Terms) (boards : List Board) (front : List Half) (h : Half) (board : BoardNumber)
+    → numbered h.board ≡ Some board → AreSoundBoards t boards → halves_of boards ≡ front ++ h ∷ [] → MayCome t front h
+    → IsHalf t.variant h →
+    IfSome (slice_get boards (place board)) (λ b. GoesOn (position_of b)) → (k : ℕ) (b : Board)
+    → slice_get boards k ≡ Some b → GoesOn (position_of b)
 after_last t boards front h board on s made comes half here k b there =
-    elim (own_or_other t.variant k b.number h.board board (number_at t.variant boards k b s.numbers there) (number_of-numbered h.board board on) half.last) [
+    elim (own_or_other t.variant k b.number h.board board (number_at t.variant boards k b s.numbers there)
+    (number_of-numbered h.board board on) half.last) [
       | inl same ↦
           let own : slice_get boards (place board) ≡ Some b = ap (slice_get boards) same ∙ there in
           subst (λ (o : Option Board). IfSome o (λ c. GoesOn (position_of c))) own here
       | inr other ↦
           let position : position_of b ≡ position_on t.variant (front ++ h ∷ []) b.number =
           position_by t boards k b s there ∙ ap (λ (hs : List Half). position_on t.variant hs b.number) made in
-          subst GoesOn (sym position) (goes_on_by t.variant front h b.number other.0 other.1 half.first half.last comes.other)
+          subst GoesOn (sym position)
+          (goes_on_by t.variant front h b.number other.0 other.1 half.first half.last comes.other)
     ]
 
-each_at : (P : Board → Type 0) (boards : List Board) → ((k : ℕ) (b : Board) → slice_get boards k ≡ Some b → P b) → All P boards
+each_at : (P : Board → Type 0) (boards : List Board) → ((k : ℕ) (b : Board) → slice_get boards k ≡ Some b → P b)
+    → All P boards
 each_at P [] at = All-nil P
 each_at P (b ∷ boards) at = All-cons P b boards (at 0 b refl) (each_at P boards (λ k c there. at (suc k) c there))
 
-pub replayed_go_on : (t : Terms) (halves : List Half) (boards : List Board) → AllByRecursion (IsHalf t.variant) halves → CanBePlayed t halves → AreSoundBoards t boards →
+pub replayed_go_on : (t : Terms) (halves : List Half) (boards : List Board) → AllByRecursion (IsHalf t.variant) halves
+    → CanBePlayed t halves → AreSoundBoards t boards →
     halves_of boards ≡ halves → GoesOnAt boards (last_board halves) → GoOn boards
 replayed_go_on t halves boards each played s made here =
     each_at (λ b. GoesOn (position_of b)) boards
@@ -129,10 +144,12 @@ replayed_go_on t halves boards each played s made here =
       | inr some ↦
           let front : List Half = some.0 in
           let h : Half = some.1.0 in
-          let half : IsHalf t.variant h = (each-back (IsHalf t.variant) front (h ∷ []) (subst (AllByRecursion (IsHalf t.variant)) some.1.1 each)).0 in
+          let half : IsHalf t.variant h =
+          (each-back (IsHalf t.variant) front (h ∷ []) (subst (AllByRecursion (IsHalf t.variant)) some.1.1 each)).0 in
           let on = board_within t.variant h.board half.first half.last in
           let last : last_board halves ≡ Some on.0 =
           ap last_board some.1.1 ∙ ap (option_and_then (λ (x : Half). numbered x.board)) (last_at front h) ∙ on.1 in
-          after_last t boards front h on.0 on.1 s (made ∙ some.1.1) (by_steps.last t front h (subst (CanBePlayed t) some.1.1 played)) half
+          after_last t boards front h on.0 on.1 s (made ∙ some.1.1)
+          (by_steps.last t front h (subst (CanBePlayed t) some.1.1 played)) half
           (subst (GoesOnAt boards) last here)
     ])

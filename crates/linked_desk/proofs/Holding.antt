@@ -13,7 +13,8 @@ use Rattle.linked_desk.specs.Desk.{GameState}
 use Rattle.linked_desk.specs.Hands.{hold_item, first_hands, ends_with_drop, changes_hands, hands_told, hands_at, partner_told, partner_hands_at}
 use Rattle.linked_desk.specs.Sound.{NamesWinner}
 
-names_if : (told : Bool) (desk : ℕ) (b : Board) (came : Option Kind) → IfSome (if told then Some (hold_item desk b came) else None) NamesWinner
+names_if : (told : Bool) (desk : ℕ) (b : Board) (came : Option Kind)
+    → IfSome (if told then Some (hold_item desk b came) else None) NamesWinner
 names_if true desk b came = tt
 names_if false desk b came = tt
 
@@ -21,22 +22,28 @@ pub names_first : (desk : ℕ) (b : Board) → IfSome (first_hands desk b) Names
 names_first desk b = names_if (has_drops b.terms.variant) desk b None
 
 names_told : (desk : ℕ) (b : Board) (man : Option Man) → IfSome (hands_told desk b man) NamesWinner
-names_told desk b man = names_if (changes_hands b.terms.variant (ends_with_drop (last_played b.list)) man) desk b (option_map handed_kind man)
+names_told desk b man =
+    names_if (changes_hands b.terms.variant (ends_with_drop (last_played b.list)) man) desk b
+    (option_map handed_kind man)
 
-names_of : (desk : ℕ) (b : Option Board) (man : Option Man) → IfSome (option_and_then (λ b. hands_told desk b man) b) NamesWinner
+names_of : (desk : ℕ) (b : Option Board) (man : Option Man)
+    → IfSome (option_and_then (λ b. hands_told desk b man) b) NamesWinner
 names_of desk None man = tt
 names_of desk (Some b) man = names_told desk b man
 
-pub names_hands_at : (desk : ℕ) (g : GameState) (board : BoardNumber) (man : Option Man) → IfSome (hands_at desk g board man) NamesWinner
+pub names_hands_at : (desk : ℕ) (g : GameState) (board : BoardNumber) (man : Option Man)
+    → IfSome (hands_at desk g board man) NamesWinner
 names_hands_at desk g board man = names_of desk (slice_get g.boards (place board)) man
 
 names_partner : (desk : ℕ) (b : Board) (man : Option Man) → IfSome (partner_told desk b man) NamesWinner
 names_partner desk b None = tt
 names_partner desk b (Some man) = tt
 
-names_partner_of : (desk : ℕ) (b : Option Board) (man : Option Man) → IfSome (option_and_then (λ b. partner_told desk b man) b) NamesWinner
+names_partner_of : (desk : ℕ) (b : Option Board) (man : Option Man)
+    → IfSome (option_and_then (λ b. partner_told desk b man) b) NamesWinner
 names_partner_of desk None man = tt
 names_partner_of desk (Some b) man = names_partner desk b man
 
-pub names_partner_hands_at : (desk : ℕ) (g : GameState) (board : BoardNumber) (man : Option Man) → IfSome (partner_hands_at desk g board man) NamesWinner
+pub names_partner_hands_at : (desk : ℕ) (g : GameState) (board : BoardNumber) (man : Option Man)
+    → IfSome (partner_hands_at desk g board man) NamesWinner
 names_partner_hands_at desk g board man = names_partner_of desk (slice_get g.boards (place (other_number board))) man

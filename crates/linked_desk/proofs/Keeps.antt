@@ -28,17 +28,21 @@ pub record Follows (conditions : Type 0) (old new : GameState) : Type 0 where
   pub players : occupant new ≡ occupant old
   pub sound : conditions → IsSound old → IsSound new
 
--- the game after an act follows the one before, where the moment and the act's numbers fit and no cause of a refusal holds;
+-- the game after an act follows the one before, where the moment and the act's numbers fit and no cause of a refusal
+-- holds;
 -- the act tells ends with their winners; and it may run out of memory only where it says so
-pub record Keeps (g : GameState) (moment : ℕ) (fits : Type 0) (needs : Bool) (effect : Effect GameState DeskReply) : Type 0 where
+pub record Keeps (g : GameState) (moment : ℕ) (fits : Type 0) (needs : Bool)
+    (effect : Effect GameState DeskReply) : Type 0 where
   pub step : Follows ((moment ≤ 2 ^ 48) × fits × NoneHolds effect.causes) g effect.after
   pub tells : IsSound g → TellsWinners effect.reply
   pub memory : effect.memory ≡ needs
 
 -- a game stays sound in which nothing changes but what is told and offered, who looks on, and the moment
-pub IsSound-later : (g : GameState) (feed : List Item) (viewers : List Cursor) (remarks last : ℕ) (offers : OfferBook) (tally : List ℕ) →
+pub IsSound-later : (g : GameState) (feed : List Item) (viewers : List Cursor) (remarks last : ℕ) (offers : OfferBook)
+    (tally : List ℕ) →
     g.last ≤ last → last ≤ 2 ^ 48 → All NamesWinner feed → IsSound g →
-    IsSound (record g { feed = feed; viewers = viewers; remarks = remarks; last = last; offers = offers; tally = tally })
+    IsSound
+    (record g { feed = feed; viewers = viewers; remarks = remarks; last = last; offers = offers; tally = tally })
 IsSound-later g feed viewers remarks last offers tally later moment winners s = record {
   seated = s.seated;
   boards = s.boards;
@@ -54,14 +58,17 @@ pub timely_at : (g : GameState) (moment : ℕ) → moment ≤ 2 ^ 48 → IsSound
 timely_at g moment timely s = omega (arith, timely, s.moment)
 
 -- what each board and its players have, the list of them has
-pub All-each_board : {T : Type 0} (P : T → Type 0) (of : Opponents → Board → T) (pairs : List Opponents) (boards : List Board) →
+pub All-each_board : {T : Type 0} (P : T → Type 0) (of : Opponents → Board → T) (pairs : List Opponents)
+    (boards : List Board) →
     ((players : Opponents) (b : Board) → P (of players b)) → All P (each_board of pairs boards)
 All-each_board P of [] boards h = All-nil P
 All-each_board P of (players ∷ pairs) [] h = All-nil P
-All-each_board P of (players ∷ pairs) (b ∷ boards) h = All-cons P (of players b) (each_board of pairs boards) (h players b) (All-each_board P of pairs boards h)
+All-each_board P of (players ∷ pairs) (b ∷ boards) h =
+    All-cons P (of players b) (each_board of pairs boards) (h players b) (All-each_board P of pairs boards h)
 
 -- at the other board of a pair a winner is named exactly where one is named
-names_other : (decisive : Bool) (winner : Option Colour) → (IsSome winner ↔ IsTrue decisive) → IsSome (option_map opposite winner) ↔ IsTrue decisive
+names_other : (decisive : Bool) (winner : Option Colour) → (IsSome winner ↔ IsTrue decisive)
+    → IsSome (option_map opposite winner) ↔ IsTrue decisive
 names_other decisive None h = h
 names_other decisive (Some c) h = h
 
@@ -71,11 +78,13 @@ names_by true decisive winner h = h
 names_by false decisive winner h = names_other decisive winner h
 
 -- an end names its winner at each board
-end_item-names : (desk : ℕ) (e : Ended) → Names e.why e.winner → (players : Opponents) (b : Board) → NamesWinner (end_item desk e players b)
+end_item-names : (desk : ℕ) (e : Ended) → Names e.why e.winner → (players : Opponents) (b : Board)
+    → NamesWinner (end_item desk e players b)
 end_item-names desk e h players b = names_by (b.number == number_of e.board) (is_decisive e.why) e.winner h
 
 -- a game that has ended is sound, whatever stands on its boards
-pub IsSound-over : (g : GameState) (e : Ended) → Names e.why e.winner → IsSound g → IsSound (record g { ended = Some e })
+pub IsSound-over : (g : GameState) (e : Ended) → Names e.why e.winner → IsSound g
+    → IsSound (record g { ended = Some e })
 IsSound-over g e names s = record {
   seated = s.seated;
   boards = s.boards;
@@ -90,14 +99,17 @@ IsSound-over g e names s = record {
 pub IsSound-told_end : (desk : ℕ) (g : GameState) (moment : ℕ) (e : Ended) → Names e.why e.winner → moment ≤ 2 ^ 48 →
     IsSound (record g { ended = Some e }) → IsSound (ended_by desk g moment e)
 IsSound-told_end desk g moment e names timely s =
-    IsSound-later (record g { ended = Some e }) (g.feed ++ end_items desk g e) g.viewers g.remarks (moment_at g moment) g.offers g.tally (omega arith)
+    IsSound-later (record g { ended = Some e }) (g.feed ++ end_items desk g e) g.viewers g.remarks (moment_at g moment)
+    g.offers g.tally (omega arith)
     (omega (arith, timely, s.moment))
     (All-append NamesWinner g.feed (end_items desk g e) s.winners
     (All-each_board NamesWinner (end_item desk e) (pairs_of g.seats) g.boards (end_item-names desk e names))) s
 
-pub IsSound-ended_by : (desk : ℕ) (g : GameState) (moment : ℕ) (e : Ended) → Names e.why e.winner → moment ≤ 2 ^ 48 → IsSound g →
+pub IsSound-ended_by : (desk : ℕ) (g : GameState) (moment : ℕ) (e : Ended) → Names e.why e.winner → moment ≤ 2 ^ 48
+    → IsSound g →
     IsSound (ended_by desk g moment e)
-IsSound-ended_by desk g moment e names timely s = IsSound-told_end desk g moment e names timely (IsSound-over g e names s)
+IsSound-ended_by desk g moment e names timely s =
+    IsSound-told_end desk g moment e names timely (IsSound-over g e names s)
 
 -- ---- steps
 
@@ -107,8 +119,10 @@ module _ {conditions : Type 0} where
   stays = record { players = refl; sound = λ _ s. s }
 
   -- one step is made after the other
-  pub and_then : {one two three : GameState} → Follows conditions one two → Follows conditions two three → Follows conditions one three
-  and_then first second = record { players = second.players ∙ first.players; sound = λ c s. second.sound c (first.sound c s) }
+  pub and_then : {one two three : GameState} → Follows conditions one two → Follows conditions two three
+      → Follows conditions one three
+  and_then first second =
+      record { players = second.players ∙ first.players; sound = λ c s. second.sound c (first.sound c s) }
 
   -- one who has no seat does nothing
   pub if_there : {g : GameState} (after : Option ℕ → GameState) (seat : Option ℕ) → Follows conditions g (after None) →
@@ -116,7 +130,8 @@ module _ {conditions : Type 0} where
   if_there after None none some = none
   if_there after (Some number) none some = some number
 
-  pub either : {g one another : GameState} (b : Bool) → Follows conditions g one → Follows conditions g another → Follows conditions g (if b then one else another)
+  pub either : {g one another : GameState} (b : Bool) → Follows conditions g one → Follows conditions g another
+      → Follows conditions g (if b then one else another)
   either true h k = h
   either false h k = k
 
@@ -126,7 +141,8 @@ module _ {conditions : Type 0} where
   item_follows g (Some x) names = record {
     players = refl;
     sound = λ _ s.
-        IsSound-later g (g.feed ++ x ∷ []) g.viewers g.remarks g.last g.offers g.tally (omega arith) s.moment (All-push NamesWinner g.feed x s.winners names) s;
+        IsSound-later g (g.feed ++ x ∷ []) g.viewers g.remarks g.last g.offers g.tally (omega arith) s.moment
+        (All-push NamesWinner g.feed x s.winners names) s;
   }
 
   pub view_follows : (g : GameState) (view : Option BoardView) → Follows conditions g (with_view g view)
@@ -136,11 +152,15 @@ module _ {conditions : Type 0} where
 module _ {conditions : Type 0} (g : GameState) (moment : ℕ) (timely : conditions → moment ≤ 2 ^ 48) where
   -- the game ends
   pub ended_follows : (desk : ℕ) (e : Ended) → Names e.why e.winner → Follows conditions g (ended_by desk g moment e)
-  ended_follows desk e names = record { players = refl; sound = λ c s. IsSound-ended_by desk g moment e names (timely c) s }
+  ended_follows desk e names =
+      record { players = refl; sound = λ c s. IsSound-ended_by desk g moment e names (timely c) s }
 
   -- others look on
-  pub viewers_follow : (viewers : List Cursor) → Follows conditions g (record g { viewers = viewers; last = moment_at g moment })
+  pub viewers_follow : (viewers : List Cursor)
+      → Follows conditions g (record g { viewers = viewers; last = moment_at g moment })
   viewers_follow viewers = record {
     players = refl;
-    sound = λ c s. IsSound-later g g.feed viewers g.remarks (moment_at g moment) g.offers g.tally (omega arith) (timely_at g moment (timely c) s) s.winners s;
+    sound = λ c s.
+        IsSound-later g g.feed viewers g.remarks (moment_at g moment) g.offers g.tally (omega arith)
+        (timely_at g moment (timely c) s) s.winners s;
   }

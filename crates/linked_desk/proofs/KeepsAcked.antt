@@ -22,9 +22,11 @@ with_boards g moment boards = record g { boards = boards; last = moment_at g mom
 
 IsSound-same : (g : GameState) (moment : ℕ) → moment ≤ 2 ^ 48 → IsSound g → IsSound (with_boards g moment g.boards)
 IsSound-same g moment timely s =
-    IsSound-later g g.feed g.viewers g.remarks (moment_at g moment) g.offers g.tally (omega arith) (timely_at g moment timely s) s.winners s
+    IsSound-later g g.feed g.viewers g.remarks (moment_at g moment) g.offers g.tally (omega arith)
+    (timely_at g moment timely s) s.winners s
 
-IsSound-acked : (g : GameState) (moment : ℕ) (board : BoardNumber) (colour : Colour) (stamp : ℕ) → IsStamp stamp → moment ≤ 2 ^ 48 → IsSound g →
+IsSound-acked : (g : GameState) (moment : ℕ) (board : BoardNumber) (colour : Colour) (stamp : ℕ) → IsStamp stamp
+    → moment ≤ 2 ^ 48 → IsSound g →
     IsSound (with_boards g moment (boards_acked g.boards board colour stamp))
 IsSound-acked g moment board colour stamp stamped timely s =
     let after : Board → Board = λ b. acknowledged b colour stamp in
@@ -34,25 +36,33 @@ IsSound-acked g moment board colour stamp stamped timely s =
       boards = sound_acked g.terms g.boards board colour stamp s.boards stamped;
       going = λ runs. go_acked g.boards board colour stamp (s.going runs);
       order = latest-changed_at g.boards (place board) (moment_at g moment) after
-          (λ b h. let same : (acknowledged b colour stamp).begin ≡ b.begin = same_acknowledged (λ c. c.begin) b colour stamp refl in omega arith) early;
+          (λ b h.
+          let same : (acknowledged b colour stamp).begin ≡ b.begin =
+          same_acknowledged (λ c. c.begin) b colour stamp refl in
+          omega arith)
+          early;
       moment = timely_at g moment timely s;
       winners = s.winners;
       ended = s.ended;
     }
 
-sound_either : (over : Bool) (g : GameState) (moment : ℕ) (boards : List Board) → IsSound (with_boards g moment g.boards) → IsSound (with_boards g moment boards) →
+sound_either : (over : Bool) (g : GameState) (moment : ℕ) (boards : List Board)
+    → IsSound (with_boards g moment g.boards) → IsSound (with_boards g moment boards) →
     IsSound (with_boards g moment (if over then g.boards else boards))
 sound_either true g moment boards s t = s
 sound_either false g moment boards s t = t
 
-sound_acked_by : (g : GameState) (moment : ℕ) (seat : Option ℕ) (stamp : ℕ) → moment ≤ 2 ^ 48 → IsStamp stamp → IsSound g →
+sound_acked_by : (g : GameState) (moment : ℕ) (seat : Option ℕ) (stamp : ℕ) → moment ≤ 2 ^ 48 → IsStamp stamp
+    → IsSound g →
     IsSound (with_boards g moment (acked_by g seat stamp))
 sound_acked_by g moment None stamp timely stamped s = IsSound-same g moment timely s
 sound_acked_by g moment (Some seat) stamp timely stamped s =
-    sound_either (is_some g.ended) g moment (boards_acked g.boards (board_of seat) (colour_at seat) stamp) (IsSound-same g moment timely s)
+    sound_either (is_some g.ended) g moment (boards_acked g.boards (board_of seat) (colour_at seat) stamp)
+    (IsSound-same g moment timely s)
     (IsSound-acked g moment (board_of seat) (colour_at seat) stamp stamped timely s)
 
-pub Keeps-acked_effect : (g : GameState) (session moment stamp : ℕ) → Keeps g moment (IsStamp stamp) false (acked_effect g session moment stamp)
+pub Keeps-acked_effect : (g : GameState) (session moment stamp : ℕ)
+    → Keeps g moment (IsStamp stamp) false (acked_effect g session moment stamp)
 Keeps-acked_effect g session moment stamp = record {
   step = record { players = refl; sound = λ c. sound_acked_by g moment (seat_of g session) stamp c.0 c.1 };
   tells = λ s. tt;

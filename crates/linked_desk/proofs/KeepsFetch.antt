@@ -13,7 +13,8 @@ names_past : (feed : List Item) (cursor : Option Cursor) → All NamesWinner fee
 names_past feed None h = All-nil NamesWinner
 names_past feed (Some cursor) h = All-drop NamesWinner cursor.seen feed h
 
-pub Keeps-fetch_effect : (g : GameState) (session moment : ℕ) → Keeps g moment (Unit {0}) true (fetch_effect g session moment)
+pub Keeps-fetch_effect : (g : GameState) (session moment : ℕ)
+    → Keeps g moment (Unit {0}) true (fetch_effect g session moment)
 Keeps-fetch_effect g session moment = record {
   step = viewers_follow g moment (λ c. c.0) (viewers_after g session);
   tells = λ s. names_past g.feed (cursor_of g.viewers session) s.winners;

@@ -17,19 +17,24 @@ names_either true one another m n = m
 names_either false one another m n = n
 
 leaving_names : (g : GameState) (seat : ℕ) → Names (leaving_end g seat).why (leaving_end g seat).winner
-leaving_names g seat = names_either (waits g) (end_without_winner seat Adjourned) (forfeit seat) (λ e. e, λ e. e) (λ e. e, λ e. e)
+leaving_names g seat =
+    names_either (waits g) (end_without_winner seat Adjourned) (forfeit seat) (λ e. e, λ e. e) (λ e. e, λ e. e)
 
-left_follows : {conditions : Type 0} (desk : ℕ) (g : GameState) (moment : ℕ) (seat : Option ℕ) → (conditions → moment ≤ 2 ^ 48) →
+left_follows : {conditions : Type 0} (desk : ℕ) (g : GameState) (moment : ℕ) (seat : Option ℕ)
+    → (conditions → moment ≤ 2 ^ 48) →
     Follows conditions g (left_by desk g moment seat)
 left_follows desk g moment seat timely =
     if_there (λ s. left_by desk g moment s) seat stays (λ number.
     either (is_some g.ended) stays (ended_follows g moment timely desk (leaving_end g number) (leaving_names g number)))
 
-pub Keeps-leave_effect : (desk : ℕ) (g : GameState) (session moment : ℕ) → Keeps g moment (Unit {0}) false (leave_effect desk g session moment)
+pub Keeps-leave_effect : (desk : ℕ) (g : GameState) (session moment : ℕ)
+    → Keeps g moment (Unit {0}) false (leave_effect desk g session moment)
 Keeps-leave_effect desk g session moment =
     let left : GameState = left_by desk g moment (seat_of g session) in
     record {
-      step = and_then (left_follows desk g moment (seat_of g session) (λ c. c.0)) (viewers_follow left moment (λ c. c.0) (without session left.viewers));
+      step =
+          and_then (left_follows desk g moment (seat_of g session) (λ c. c.0))
+          (viewers_follow left moment (λ c. c.0) (without session left.viewers));
       tells = λ s. tt;
       memory = refl;
     }

@@ -22,7 +22,8 @@ use Rattle.linked_desk.proofs.KeepsOffers.{agreed_follows, count_follows, offer_
 
 -- a claim ends the game as a draw, which names no winner
 names_if : (none fifty third : Bool) → IfSome
-    (granted (if none then Err NothingToClaim else if fifty then Ok why.Fifty else if third then Ok why.Threefold else Err NothingToClaim))
+    (granted (if none then Err NothingToClaim else if fifty then Ok why.Fifty else if third then Ok why.Threefold
+    else Err NothingToClaim))
     (λ cause. Names cause None)
 names_if true fifty third = tt
 names_if false true third = (λ e. e, λ e. e)
@@ -34,30 +35,36 @@ unfolding claim_answer
 claim_names None = tt
 claim_names (Some b) = names_if (not (has_claims b.terms.variant)) (is_fifty (position_of b)) (is_third_time b)
 
-claimed_names : (boards : List Board) (seat : ℕ) (offer : Offer) → IfSome (claimed boards seat offer) (λ cause. Names cause None)
+claimed_names : (boards : List Board) (seat : ℕ) (offer : Offer)
+    → IfSome (claimed boards seat offer) (λ cause. Names cause None)
 claimed_names boards seat Draw = claim_names (slice_get boards (place (board_of seat)))
 claimed_names boards seat Abort = tt
 claimed_names boards seat Adjourn = tt
 claimed_names boards seat (Takeback n) = tt
 
-module _ {conditions : Type 0} (desk : ℕ) (g : GameState) (moment seat : ℕ) (offer : Offer) (timely : conditions → moment ≤ 2 ^ 48) where
+module _ {conditions : Type 0} (desk : ℕ) (g : GameState) (moment seat : ℕ) (offer : Offer)
+    (timely : conditions → moment ≤ 2 ^ 48) where
   stood_follows : Follows conditions g (stood desk g seat moment offer)
   stood_follows =
       let effect = offering g.offers seat offer in
       let after : GameState = with_offers effect.after moment g in
       let ends : GameState = agreed desk after moment seat offer in
       either effect.reply
-      (and_then (offers_follow moment timely g effect.after g.tally) (and_then (agreed_follows moment timely desk after seat offer) (count_follows ends seat)))
+      (and_then (offers_follow moment timely g effect.after g.tally)
+      (and_then (agreed_follows moment timely desk after seat offer) (count_follows ends seat)))
       (told_follows moment timely g effect.after seat (offer_item g seat offer) (offer_item-names g seat offer))
 
-  claim_follows : (cause : Option Why) → IfSome cause (λ c. Names c None) → Follows conditions g (claim_effect desk g seat moment offer cause).after
+  claim_follows : (cause : Option Why) → IfSome cause (λ c. Names c None)
+      → Follows conditions g (claim_effect desk g seat moment offer cause).after
   claim_follows None names = stood_follows
   claim_follows (Some cause) names = ended_follows g moment timely desk (end_without_winner seat cause) names
 
-pub Keeps-make_effect : (desk : ℕ) (g : GameState) (session moment : ℕ) (offer : Offer) → Keeps g moment (Unit {0}) true (make_effect desk g session moment offer)
+pub Keeps-make_effect : (desk : ℕ) (g : GameState) (session moment : ℕ) (offer : Offer)
+    → Keeps g moment (Unit {0}) true (make_effect desk g session moment offer)
 Keeps-make_effect desk g session moment offer = record {
   step = if_there (λ seat. (fitting_effect desk g seat moment offer).after) (seat_of g session) stays (λ seat.
-      claim_follows desk g moment seat offer (λ c. c.0) (claimed g.boards seat offer) (claimed_names g.boards seat offer));
+      claim_follows desk g moment seat offer (λ c. c.0) (claimed g.boards seat offer)
+      (claimed_names g.boards seat offer));
   tells = λ s. tt;
   memory = refl;
 }

@@ -36,7 +36,8 @@ use Rattle.desk_boards.proofs.GoingOn.{go_played}
 use Rattle.collections.proofs.Tests.{none_found}
 
 -- who is to move thinks from no later moment than that of the act
-begin-played : (b : Board) (moment : ℕ) (stamp : Option ℕ) (answer : Result Move Refusal) → b.begin ≤ moment → (play_after b moment stamp answer).begin ≤ moment
+begin-played : (b : Board) (moment : ℕ) (stamp : Option ℕ) (answer : Result Move Refusal) → b.begin ≤ moment
+    → (play_after b moment stamp answer).begin ≤ moment
 begin-played b moment stamp (Ok m) h = omega arith
 begin-played b moment stamp (Err cause) h = h
 
@@ -45,23 +46,31 @@ abbrev pub played : GameState → ℕ → BoardNumber → Option ℕ → Result 
 played g moment board stamp answer =
     record g { boards = boards_after g.boards board (moment_at g moment) stamp answer; last = moment_at g moment }
 
-order_played : (g : GameState) (moment : ℕ) (board : BoardNumber) (stamp : Option ℕ) (answer : Result Move Refusal) → latest g.boards ≤ g.last →
+order_played : (g : GameState) (moment : ℕ) (board : BoardNumber) (stamp : Option ℕ) (answer : Result Move Refusal)
+    → latest g.boards ≤ g.last →
     latest (boards_after g.boards board (moment_at g moment) stamp answer) ≤ moment_at g moment
 order_played g moment board stamp answer order =
     let after : Board → Board = λ b. play_after b (moment_at g moment) stamp answer in
     let tell : Board → Board = λ b. told_answer b answer in
     latest-changed_at (changed_at g.boards (place board) after) (place (other_number board)) (moment_at g moment) tell
-    (λ b h. let same : (told_answer b answer).begin ≡ b.begin = same_told (λ c. c.begin) b answer (λ T. refl) in omega (arith, same, h))
-    (latest-changed_at g.boards (place board) (moment_at g moment) after (λ b. begin-played b (moment_at g moment) stamp answer) (omega (arith, order)))
+    (λ b h.
+    let same : (told_answer b answer).begin ≡ b.begin = same_told (λ c. c.begin) b answer (λ T. refl) in
+    omega (arith, same, h))
+    (latest-changed_at g.boards (place board) (moment_at g moment) after
+    (λ b. begin-played b (moment_at g moment) stamp answer) (omega (arith, order)))
 
 -- the game once a seat's word was played, which goes on or has this end
-IsSound-played : (g : GameState) (moment seat : ℕ) (word : MoveWord) (stamp : Option ℕ) (end : Option Ended) → moment ≤ 2 ^ 48 → IfSome stamp IsStamp → g.ended ≡ None →
+IsSound-played : (g : GameState) (moment seat : ℕ) (word : MoveWord) (stamp : Option ℕ) (end : Option Ended)
+    → moment ≤ 2 ^ 48 → IfSome stamp IsStamp → g.ended ≡ None →
     IfSome end (λ e. Names e.why e.winner) →
-    (end ≡ None → GoOn (boards_after g.boards (board_of seat) (moment_at g moment) stamp (seat_word g seat word))) → IsSound g →
+    (end ≡ None → GoOn (boards_after g.boards (board_of seat) (moment_at g moment) stamp (seat_word g seat word)))
+    → IsSound g →
     IsSound (record (played g moment (board_of seat) stamp (seat_word g seat word)) { ended = end })
 IsSound-played g moment seat word stamp end timely stamped runs names going s = record {
   seated = s.seated;
-  boards = sound_play g.terms g.boards (board_of seat) (moment_at g moment) (colour_at seat) word stamp s.boards (s.going runs) (omega (arith, s.order))
+  boards =
+      sound_play g.terms g.boards (board_of seat) (moment_at g moment) (colour_at seat) word stamp s.boards
+      (s.going runs) (omega (arith, s.order))
       (timely_at g moment timely s) stamped;
   going = going;
   order = order_played g moment (board_of seat) stamp (seat_word g seat word) s.order;
@@ -71,7 +80,8 @@ IsSound-played g moment seat word stamp end timely stamped runs names going s = 
 }
 
 -- a feed with one item more that, if it is an end, names its winner
-names_with : (feed : List Item) (x : Option Item) → IfSome x NamesWinner → All NamesWinner feed → All NamesWinner (feed_with feed x)
+names_with : (feed : List Item) (x : Option Item) → IfSome x NamesWinner → All NamesWinner feed
+    → All NamesWinner (feed_with feed x)
 names_with feed None h all = all
 names_with feed (Some x) h all = All-push NamesWinner feed x all h
 
@@ -79,18 +89,23 @@ names_view : (view : Option BoardView) → IfSome (option_map item.Board view) N
 names_view None = tt
 names_view (Some view) = tt
 
-names_told : (desk : ℕ) (g : GameState) (board : BoardNumber) (man : Option Man) → All NamesWinner g.feed → All NamesWinner (told_of desk g board man).feed
+names_told : (desk : ℕ) (g : GameState) (board : BoardNumber) (man : Option Man) → All NamesWinner g.feed
+    → All NamesWinner (told_of desk g board man).feed
 names_told desk g board man names =
     let shown : List Item = feed_with g.feed (option_map item.Board (slice_get (views_of desk g) (place board))) in
-    names_with (feed_with shown (hands_at desk g board man)) (partner_hands_at desk g board man) (names_partner_hands_at desk g board man)
+    names_with (feed_with shown (hands_at desk g board man)) (partner_hands_at desk g board man)
+    (names_partner_hands_at desk g board man)
     (names_with shown (hands_at desk g board man) (names_hands_at desk g board man)
-    (names_with g.feed (option_map item.Board (slice_get (views_of desk g) (place board))) (names_view (slice_get (views_of desk g) (place board))) names))
+    (names_with g.feed (option_map item.Board (slice_get (views_of desk g) (place board)))
+    (names_view (slice_get (views_of desk g) (place board))) names))
 
 -- a game that is told goes on or has its end as before
-IsSound-told_of : (desk : ℕ) (g : GameState) (board : BoardNumber) (man : Option Man) (end : Option Ended) → IsSound (record g { ended = end }) →
+IsSound-told_of : (desk : ℕ) (g : GameState) (board : BoardNumber) (man : Option Man) (end : Option Ended)
+    → IsSound (record g { ended = end }) →
     IsSound (record (told_of desk g board man) { ended = end })
 IsSound-told_of desk g board man end s =
-    IsSound-later (record g { ended = end }) (told_of desk g board man).feed g.viewers g.remarks g.last g.offers g.tally (omega arith) s.moment
+    IsSound-later (record g { ended = end }) (told_of desk g board man).feed g.viewers g.remarks g.last g.offers g.tally
+    (omega arith) s.moment
     (names_told desk g board man s.winners) s
 
 -- the man that a seat's word captures, if it does
@@ -100,10 +115,13 @@ captured_of g seat word = captured_by (reply_at (slice_get g.boards (place (boar
 -- what is offered has no part in it
 IsSound-with_cleared : (seat : ℕ) (g : GameState) → IsSound g → IsSound (with_cleared seat g)
 IsSound-with_cleared seat g s =
-    IsSound-later g g.feed g.viewers g.remarks g.last (where_stand (after_half_move seat g.offers.standing) g.offers) g.tally (omega arith) s.moment s.winners s
+    IsSound-later g g.feed g.viewers g.remarks g.last (where_stand (after_half_move seat g.offers.standing) g.offers)
+    g.tally (omega arith) s.moment s.winners s
 
-moved_follows : {conditions : Type 0} (desk : ℕ) (g : GameState) (moment seat : ℕ) (word : MoveWord) (stamp : Option ℕ) → (conditions → moment ≤ 2 ^ 48) →
-    (conditions → IfSome stamp IsStamp) → (conditions → g.ended ≡ None) → Follows conditions g (moved desk g moment (board_of seat) stamp (seat_word g seat word))
+moved_follows : {conditions : Type 0} (desk : ℕ) (g : GameState) (moment seat : ℕ) (word : MoveWord) (stamp : Option ℕ)
+    → (conditions → moment ≤ 2 ^ 48) →
+    (conditions → IfSome stamp IsStamp) → (conditions → g.ended ≡ None)
+    → Follows conditions g (moved desk g moment (board_of seat) stamp (seat_word g seat word))
 moved_follows {conditions = conditions} desk g moment seat word stamp timely stamped runs =
     let board : BoardNumber = board_of seat in
     let after : GameState = played g moment board stamp (seat_word g seat word) in
@@ -111,14 +129,17 @@ moved_follows {conditions = conditions} desk g moment seat word stamp timely sta
     let told : GameState = told_of desk after board man in
     let end : Option Ended = end_at after board in
     let names : IfSome end (λ e. Names e.why e.winner) = end_on-names board (slice_get after.boards (place board)) in
-    subst (λ (h : GameState). Follows conditions g (finished desk h moment board)) (sym (with_hands-told desk after board man))
+    subst (λ (h : GameState). Follows conditions g (finished desk h moment board))
+    (sym (with_hands-told desk after board man))
     (record {
       players = occupant-finished desk told moment board;
       sound = λ c s.
           let going : end ≡ None → GoOn after.boards = λ none.
-          go_played g.terms g.boards board (moment_at g moment) (colour_at seat) word stamp s.boards (s.going (runs c)) (goes_on_at board (slice_get after.boards (place board)) none) in
+          go_played g.terms g.boards board (moment_at g moment) (colour_at seat) word stamp s.boards (s.going (runs c))
+          (goes_on_at board (slice_get after.boards (place board)) none) in
           IsSound-with_end desk told moment end names (timely c) (runs c)
-          (IsSound-told_of desk after board man end (IsSound-played g moment seat word stamp end (timely c) (stamped c) (runs c) names going s));
+          (IsSound-told_of desk after board man end
+          (IsSound-played g moment seat word stamp end (timely c) (stamped c) (runs c) names going s));
     })
 
 pub Keeps-move_effect : (desk : ℕ) (g : GameState) (session moment : ℕ) (word : MoveWord) (stamp : Option ℕ) →
@@ -126,7 +147,8 @@ pub Keeps-move_effect : (desk : ℕ) (g : GameState) (session moment : ℕ) (wor
 Keeps-move_effect desk g session moment word stamp = record {
   step = if_there (λ seat. moved_by desk g moment seat word stamp) (seat_of g session) stays (λ seat.
       and_then (record { players = refl; sound = λ _ s. IsSound-with_cleared seat g s })
-      (moved_follows desk (with_cleared seat g) moment seat word stamp (λ c. c.0) (λ c. c.1) (λ c. none_found g.ended g.ended refl c.2.1.0)));
+      (moved_follows desk (with_cleared seat g) moment seat word stamp (λ c. c.0) (λ c. c.1)
+      (λ c. none_found g.ended g.ended refl c.2.1.0)));
   tells = λ s. tt;
   memory = refl;
 }

@@ -31,7 +31,8 @@ use Rattle.desk_boards.proofs.BackSound.{goes_back, sound_back}
 use Rattle.linked_desk.proofs.Keeps.{Follows, IsSound-later, and_then, ended_follows, item_follows, timely_at, view_follows}
 
 -- a line of text is no end
-talk_names : (of : Player → List ℕ) (p : Option Player) → IfSome (option_map (λ (q : Player). item.Talk (of q)) p) NamesWinner
+talk_names : (of : Player → List ℕ) (p : Option Player)
+    → IfSome (option_map (λ (q : Player). item.Talk (of q)) p) NamesWinner
 talk_names of None = tt
 talk_names of (Some p) = tt
 
@@ -41,14 +42,16 @@ offer_item-names g seat offer = talk_names (λ p. offer_text p.name offer) (slic
 pub decline_item-names : (g : GameState) (seat : ℕ) → IfSome (decline_item g seat) NamesWinner
 decline_item-names g seat = talk_names (λ p. decline_text p.name) (slice_get (seat_list g.seats) seat)
 
-begin_either : (few : Bool) (b new : Board) (moment : ℕ) → b.begin ≤ moment → new.begin ≤ moment → (if few then b else new).begin ≤ moment
+begin_either : (few : Bool) (b new : Board) (moment : ℕ) → b.begin ≤ moment → new.begin ≤ moment
+    → (if few then b else new).begin ≤ moment
 begin_either true b new moment h k = h
 begin_either false b new moment h k = k
 
 begin_back : (v : Variant) (b : Board) (n moment : ℕ) → b.begin ≤ moment → (back_by v b n moment).begin ≤ moment
 begin_back Chess b n moment h = begin_either (has_too_few b n) b (taken_back b n moment) moment h (omega arith)
 begin_back Crazyhouse b n moment h = begin_either (has_too_few b n) b (taken_back b n moment) moment h (omega arith)
-begin_back (Fischer number) b n moment h = begin_either (has_too_few b n) b (taken_back b n moment) moment h (omega arith)
+begin_back (Fischer number) b n moment h =
+    begin_either (has_too_few b n) b (taken_back b n moment) moment h (omega arith)
 begin_back Bughouse b n moment h = h
 
 IsSound-with_taken : (g : GameState) (moment n : ℕ) → moment ≤ 2 ^ 48 → IsSound g → IsSound (with_taken g moment n)
@@ -59,7 +62,9 @@ IsSound-with_taken g moment n timely s =
       seated = s.seated;
       boards = sound_back g.terms g.boards n (moment_at g moment) s.boards early;
       going = λ runs. goes_back g.terms g.boards n (moment_at g moment) s.boards early (s.going runs);
-      order = latest-changed_at g.boards 0 (moment_at g moment) after (λ b. begin_back b.terms.variant b n (moment_at g moment)) early;
+      order =
+          latest-changed_at g.boards 0 (moment_at g moment) after
+          (λ b. begin_back b.terms.variant b n (moment_at g moment)) early;
       moment = timely_at g moment timely s;
       winners = s.winners;
       ended = s.ended;
@@ -71,13 +76,17 @@ names_hands desk (Some b) = names_first desk b
 
 module _ {conditions : Type 0} (moment : ℕ) (timely : conditions → moment ≤ 2 ^ 48) where
   -- the game with other offers and counts, since a later moment
-  pub offers_follow : (g : GameState) (offers : OfferBook) (tally : List ℕ) → Follows conditions g (record g { offers = offers; tally = tally; last = moment_at g moment })
+  pub offers_follow : (g : GameState) (offers : OfferBook) (tally : List ℕ)
+      → Follows conditions g (record g { offers = offers; tally = tally; last = moment_at g moment })
   offers_follow g offers tally = record {
     players = refl;
-    sound = λ c s. IsSound-later g g.feed g.viewers g.remarks (moment_at g moment) offers tally (omega arith) (timely_at g moment (timely c) s) s.winners s;
+    sound = λ c s.
+        IsSound-later g g.feed g.viewers g.remarks (moment_at g moment) offers tally (omega arith)
+        (timely_at g moment (timely c) s) s.winners s;
   }
 
-  pub told_follows : (g : GameState) (offers : OfferBook) (seat : ℕ) (x : Option Item) → IfSome x NamesWinner → Follows conditions g (told offers seat moment x g)
+  pub told_follows : (g : GameState) (offers : OfferBook) (seat : ℕ) (x : Option Item) → IfSome x NamesWinner
+      → Follows conditions g (told offers seat moment x g)
   told_follows g offers seat x names = and_then (offers_follow g offers (counted g.tally seat)) (item_follows _ x names)
 
   taken_back_follows : (desk : ℕ) (g : GameState) (n : ℕ) → Follows conditions g (offering.taken_back desk g moment n)
@@ -85,19 +94,29 @@ module _ {conditions : Type 0} (moment : ℕ) (timely : conditions → moment �
       let taken : GameState = with_taken g moment n in
       let line : GameState = with_items taken (item.Talk (taken_text n) ∷ []) in
       let shown : GameState = with_board_item desk First line in
-      let back : Follows conditions g taken = record { players = refl; sound = λ c s. IsSound-with_taken g moment n (timely c) s } in
-      and_then back (and_then (item_follows taken (Some (item.Talk (taken_text n))) tt) (and_then (view_follows line (slice_get (views_of desk line) 0))
-      (item_follows shown (option_and_then (first_hands desk) (slice_get shown.boards 0)) (names_hands desk (slice_get shown.boards 0)))))
+      let back : Follows conditions g taken =
+      record { players = refl; sound = λ c s. IsSound-with_taken g moment n (timely c) s } in
+      and_then back
+      (and_then (item_follows taken (Some (item.Talk (taken_text n))) tt)
+      (and_then (view_follows line (slice_get (views_of desk line) 0))
+      (item_follows shown (option_and_then (first_hands desk) (slice_get shown.boards 0))
+      (names_hands desk (slice_get shown.boards 0)))))
 
-  pub agreed_follows : (desk : ℕ) (g : GameState) (seat : ℕ) (offer : Offer) → Follows conditions g (agreed desk g moment seat offer)
-  agreed_follows desk g seat Draw = ended_follows g moment timely desk (end_without_winner seat why.Agreed) (λ e. e, λ e. e)
-  agreed_follows desk g seat Abort = ended_follows g moment timely desk (end_without_winner seat why.Aborted) (λ e. e, λ e. e)
-  agreed_follows desk g seat Adjourn = ended_follows g moment timely desk (end_without_winner seat why.Adjourned) (λ e. e, λ e. e)
+  pub agreed_follows : (desk : ℕ) (g : GameState) (seat : ℕ) (offer : Offer)
+      → Follows conditions g (agreed desk g moment seat offer)
+  agreed_follows desk g seat Draw =
+      ended_follows g moment timely desk (end_without_winner seat why.Agreed) (λ e. e, λ e. e)
+  agreed_follows desk g seat Abort =
+      ended_follows g moment timely desk (end_without_winner seat why.Aborted) (λ e. e, λ e. e)
+  agreed_follows desk g seat Adjourn =
+      ended_follows g moment timely desk (end_without_winner seat why.Adjourned) (λ e. e, λ e. e)
   agreed_follows desk g seat (Takeback n) = taken_back_follows desk g n
 
 -- how many offers a seat has made is no part of that
 pub count_follows : {conditions : Type 0} (g : GameState) (seat : ℕ) → Follows conditions g (with_count seat g)
 count_follows g seat = record {
   players = refl;
-  sound = λ _ s. IsSound-later g g.feed g.viewers g.remarks g.last g.offers (counted g.tally seat) (omega arith) s.moment s.winners s;
+  sound = λ _ s.
+      IsSound-later g g.feed g.viewers g.remarks g.last g.offers (counted g.tally seat) (omega arith) s.moment s.winners
+      s;
 }

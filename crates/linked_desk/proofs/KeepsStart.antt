@@ -38,7 +38,8 @@ pub names_shown : (desk : ℕ) (pairs : List Opponents) (boards : List Board) �
 names_shown desk [] boards = All-nil NamesWinner
 names_shown desk (players ∷ pairs) [] = All-nil NamesWinner
 names_shown desk (players ∷ pairs) (b ∷ boards) =
-    All-append NamesWinner (first_items desk players b) (flat_map (λ (items : List Item). items) (each_board (first_items desk) pairs boards))
+    All-append NamesWinner (first_items desk players b)
+    (flat_map (λ (items : List Item). items) (each_board (first_items desk) pairs boards))
     (names_first_items desk players b) (names_shown desk pairs boards)
 
 names_opening : (occasion : Occasion) (desk : ℕ) (terms : Terms) (pairs : List Opponents) (boards : List Board) →
@@ -46,10 +47,13 @@ names_opening : (occasion : Occasion) (desk : ℕ) (terms : Terms) (pairs : List
 names_opening occasion desk terms pairs boards =
     All-append NamesWinner (each_board (announced_board occasion desk terms) pairs boards)
     (flat_map (λ (items : List Item). items) (each_board (first_items desk) pairs boards))
-    (All-each_board NamesWinner (announced_board occasion desk terms) pairs boards (λ players b. tt)) (names_shown desk pairs boards)
+    (All-each_board NamesWinner (announced_board occasion desk terms) pairs boards (λ players b. tt))
+    (names_shown desk pairs boards)
 
 -- a game that begins at sound boards is sound, where it goes on or has this end
-pub IsSound-begun : (occasion : Occasion) (desk serial : ℕ) (terms : Terms) (seats : Seats) (boards : List Board) (moment : ℕ) (end : Option Ended) → MayPlay terms seats →
+pub IsSound-begun : (occasion : Occasion) (desk serial : ℕ) (terms : Terms) (seats : Seats) (boards : List Board)
+    (moment : ℕ) (end : Option Ended)
+    → MayPlay terms seats →
     AreSoundBoards terms boards → latest boards ≤ moment → moment ≤ 2 ^ 48 → IfSome end (λ e. Names e.why e.winner) →
     (end ≡ None → GoOn boards) → IsSound (record (begun occasion desk serial terms seats boards moment) { ended = end })
 IsSound-begun occasion desk serial terms seats boards moment end seated sound order timely names going = record {
@@ -62,11 +66,13 @@ IsSound-begun occasion desk serial terms seats boards moment end seated sound or
   ended = names;
 }
 
-latest_from : (numbers : List ℕ) (terms : Terms) (moment : ℕ) → latest (map (λ number. new_board number terms moment) numbers) ≤ moment
+latest_from : (numbers : List ℕ) (terms : Terms) (moment : ℕ)
+    → latest (map (λ number. new_board number terms moment) numbers) ≤ moment
 latest_from [] terms moment = omega arith
 latest_from (n ∷ ns) terms moment = let rest = latest_from ns terms moment in omega arith
 
-pub IsSound-opened : (desk serial : ℕ) (terms : Terms) (seats : Seats) (moment : ℕ) → MayPlay terms seats → moment ≤ 2 ^ 48 → IsSound (opened desk serial terms seats moment)
+pub IsSound-opened : (desk serial : ℕ) (terms : Terms) (seats : Seats) (moment : ℕ) → MayPlay terms seats
+    → moment ≤ 2 ^ 48 → IsSound (opened desk serial terms seats moment)
 IsSound-opened desk serial terms seats moment seated timely =
     IsSound-begun Start desk serial terms seats (new_boards terms moment) moment None seated (sound_start terms moment)
     (latest_from (board_numbers terms.variant) terms moment) timely tt (λ runs. go_start terms moment)

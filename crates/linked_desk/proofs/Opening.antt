@@ -22,15 +22,18 @@ lines_of line (players ∷ pairs) [] = []
 lines_of line (players ∷ pairs) (n ∷ numbers) = line n players ∷ lines_of line pairs numbers
 
 by_numbers : (line : ℕ → Opponents → Item) (pairs : List Opponents) (boards : List Board) →
-    lines_of line pairs (map (λ (b : Board). b.number) boards) ≡ each_board (λ players b. line b.number players) pairs boards
+    lines_of line pairs (map (λ (b : Board). b.number) boards)
+    ≡ each_board (λ players b. line b.number players) pairs boards
 by_numbers line [] boards = refl
 by_numbers line (players ∷ pairs) [] = refl
-by_numbers line (players ∷ pairs) (b ∷ boards) = ap (λ items. line b.number players ∷ items) (by_numbers line pairs boards)
+by_numbers line (players ∷ pairs) (b ∷ boards) =
+    ap (λ items. line b.number players ∷ items) (by_numbers line pairs boards)
 
 -- one line or two, as the variant has boards
 announced_at : (line : ℕ → Opponents → Item) (first : Opponents) (second : Option Opponents) (v : Variant) →
     length (seat_list (record { first = first; second = second })) ≡ 2 * length (board_numbers v) →
-    line 1 first ∷ option_to_list (option_map (line 2) second) ≡ lines_of line (first ∷ option_to_list second) (board_numbers v)
+    line 1 first ∷ option_to_list (option_map (line 2) second)
+    ≡ lines_of line (first ∷ option_to_list second) (board_numbers v)
 announced_at line first None Chess h = refl
 announced_at line first None Crazyhouse h = refl
 announced_at line first None (Fischer number) h = refl
@@ -40,9 +43,11 @@ announced_at line first (Some players) Crazyhouse h = absurd (omega (arith, h))
 announced_at line first (Some players) (Fischer number) h = absurd (omega (arith, h))
 announced_at line first (Some players) Bughouse h = refl
 
-pub announced_first : (occasion : Occasion) (desk : ℕ) (terms : Terms) (seats : Seats) (boards : List Board) → HasPairsFor terms seats →
+pub announced_first : (occasion : Occasion) (desk : ℕ) (terms : Terms) (seats : Seats) (boards : List Board)
+    → HasPairsFor terms seats →
     map (λ (b : Board). b.number) boards ≡ board_numbers terms.variant →
-    announcements occasion desk terms seats ++ shown_items desk (pairs_of seats) boards ≡ opening_items occasion desk terms (pairs_of seats) boards
+    announcements occasion desk terms seats ++ shown_items desk (pairs_of seats) boards
+    ≡ opening_items occasion desk terms (pairs_of seats) boards
 announced_first occasion desk terms seats boards pairs numbers =
     let line : ℕ → Opponents → Item = λ number players. announcement occasion desk terms number players in
     ap (λ lines. lines ++ shown_items desk (pairs_of seats) boards)

@@ -16,9 +16,13 @@ latest_at (b ∷ boards) moment all =
     let rest = latest_at boards moment (All-tail (IsFresh moment) b boards all) in
     omega (arith, here.begin, rest)
 
-pub order_replayed : (g : StoredGame) (moment : ℕ) (boards : List Board) → Replays g → replayed g.terms g.halves moment ≡ Some boards → latest boards ≤ moment
-order_replayed g moment boards r is = latest_at boards moment (replayed_fresh g.terms g.halves moment boards r.spelled.halves.each is)
+pub order_replayed : (g : StoredGame) (moment : ℕ) (boards : List Board) → Replays g
+    → replayed g.terms g.halves moment ≡ Some boards → latest boards ≤ moment
+order_replayed g moment boards r is =
+    latest_at boards moment (replayed_fresh g.terms g.halves moment boards r.spelled.halves.each is)
 
-pub numbers_replayed : (g : StoredGame) (moment : ℕ) (boards : List Board) → Replays g → replayed g.terms g.halves moment ≡ Some boards →
+pub numbers_replayed : (g : StoredGame) (moment : ℕ) (boards : List Board) → Replays g
+    → replayed g.terms g.halves moment ≡ Some boards →
     map (λ (b : Board). b.number) boards ≡ board_numbers g.terms.variant
-numbers_replayed g moment boards r is = (replayed_at g.terms g.halves moment boards r.spelled.halves.each is).sound.numbers
+numbers_replayed g moment boards r is =
+    (replayed_at g.terms g.halves moment boards r.spelled.halves.each is).sound.numbers

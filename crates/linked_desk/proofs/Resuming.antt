@@ -36,32 +36,45 @@ use Rattle.desk_boards.proofs.Replayed.{replayed_at, replayed_exactly, replayed_
 use Rattle.std.proofs.lemmas.Option.{same_Some}
 
 -- an end changes neither the boards nor who plays
-same-with_end : {X : Type 0} (of : GameState → X) (desk : ℕ) (g : GameState) (moment : ℕ) (end : Option Ended) → ((e : Ended) → of (with_end desk g moment (Some e)) ≡ of g) →
+same-with_end : {X : Type 0} (of : GameState → X) (desk : ℕ) (g : GameState) (moment : ℕ) (end : Option Ended)
+    → ((e : Ended) → of (with_end desk g moment (Some e)) ≡ of g) →
     of (with_end desk g moment end) ≡ of g
 same-with_end of desk g moment None same = refl
 same-with_end of desk g moment (Some e) same = same e
 
-same-finished_at : {X : Type 0} (of : GameState → X) (desk : ℕ) (g : GameState) (moment : ℕ) (board : Option BoardNumber) → ((e : Ended) → of (with_end desk g moment (Some e)) ≡ of g) →
+same-finished_at : {X : Type 0} (of : GameState → X) (desk : ℕ) (g : GameState) (moment : ℕ)
+    (board : Option BoardNumber)
+    → ((e : Ended) → of (with_end desk g moment (Some e)) ≡ of g) →
     of (finished_at desk g moment board) ≡ of g
 same-finished_at of desk g moment None same = refl
 same-finished_at of desk g moment (Some board) same = same-with_end of desk g moment (end_at g board) same
 
 -- the boards of a game that replays
-found : (g : StoredGame) (moment : ℕ) → Replays g → (boards : List Board) × (replayed g.terms g.halves moment ≡ Some boards)
-found g moment r = some_is (replayed g.terms g.halves moment) ((replayed_exactly g.terms g.halves moment r.spelled.halves.each).1 r.played)
+found : (g : StoredGame) (moment : ℕ) → Replays g
+    → (boards : List Board) × (replayed g.terms g.halves moment ≡ Some boards)
+found g moment r =
+    some_is (replayed g.terms g.halves moment)
+    ((replayed_exactly g.terms g.halves moment r.spelled.halves.each).1 r.played)
 
-module _ (d : DeskState) (serial : ℕ) (g : StoredGame) (seats : Seats) (moment : ℕ) (boards : List Board) (is : replayed g.terms g.halves moment ≡ Some boards) where
+module _ (d : DeskState) (serial : ℕ) (g : StoredGame) (seats : Seats) (moment : ℕ) (boards : List Board)
+    (is : replayed g.terms g.halves moment ≡ Some boards) where
   abbrev now : GameState
   now = resumed d.number serial g seats moment boards
 
   boards-now : now.boards ≡ boards
-  boards-now = same-finished_at (λ (h : GameState). h.boards) d.number (begun Resumption d.number serial g.terms seats boards moment) moment (last_board g.halves) (λ e. refl)
+  boards-now =
+      same-finished_at (λ (h : GameState). h.boards) d.number
+      (begun Resumption d.number serial g.terms seats boards moment) moment (last_board g.halves) (λ e. refl)
 
   terms-now : now.terms ≡ g.terms
-  terms-now = same-finished_at (λ (h : GameState). h.terms) d.number (begun Resumption d.number serial g.terms seats boards moment) moment (last_board g.halves) (λ e. refl)
+  terms-now =
+      same-finished_at (λ (h : GameState). h.terms) d.number
+      (begun Resumption d.number serial g.terms seats boards moment) moment (last_board g.halves) (λ e. refl)
 
   seats-now : now.seats ≡ seats
-  seats-now = same-finished_at (λ (h : GameState). h.seats) d.number (begun Resumption d.number serial g.terms seats boards moment) moment (last_board g.halves) (λ e. refl)
+  seats-now =
+      same-finished_at (λ (h : GameState). h.seats) d.number
+      (begun Resumption d.number serial g.terms seats boards moment) moment (last_board g.halves) (λ e. refl)
 
   gets : (P : GameState → Type 0) → P now → Gets (restored d serial g seats moment) P
   gets P p = (
@@ -80,49 +93,65 @@ module _ (d : DeskState) (serial : ℕ) (g : StoredGame) (seats : Seats) (moment
         (replayed_fresh g.terms g.halves moment boards r.spelled.halves.each is));
   }
 
-stored : (d : DeskState) (serial : ℕ) (g : StoredGame) (seats : Seats) (moment : ℕ) → Replays g → names_in seats ≡ g.names →
+stored : (d : DeskState) (serial : ℕ) (g : StoredGame) (seats : Seats) (moment : ℕ) → Replays g
+    → names_in seats ≡ g.names →
     Gets (restored d serial g seats moment) (IsOnAgain g moment)
 stored d serial g seats moment r names =
     let boards = found g moment r in
-    gets d serial g seats moment boards.0 boards.1 (IsOnAgain g moment) (on_again d serial g seats moment boards.0 boards.1 r names)
+    gets d serial g seats moment boards.0 boards.1 (IsOnAgain g moment)
+    (on_again d serial g seats moment boards.0 boards.1 r names)
 
 -- two boards in the same place, of games with the same half-moves, on the same terms but for the colour
-position_same : (b c : Board) → c.terms ≡ uncoloured b.terms → c.all ≡ b.all → c.number ≡ b.number → position_of c ≡ position_of b
+position_same : (b c : Board) → c.terms ≡ uncoloured b.terms → c.all ≡ b.all → c.number ≡ b.number
+    → position_of c ≡ position_of b
 unfolding position_of
 position_same b c terms all number = λ i. position_after (terms i).variant (all i) (number i)
 
-clocks_same : (b c : Board) (colour : Colour) → c.terms ≡ uncoloured b.terms → c.list ≡ b.list → remaining_of c colour ≡ remaining_of b colour
+clocks_same : (b c : Board) (colour : Colour) → c.terms ≡ uncoloured b.terms → c.list ≡ b.list
+    → remaining_of c colour ≡ remaining_of b colour
 clocks_same b c colour terms list = λ i. clock.remaining (clock_of (terms i) colour (list i))
 
-as_before : (t : Terms) (before now : List Board) (place : ℕ) (b c : Board) → AreSoundBoards t before → AreSoundBoards (uncoloured t) now → halves_of now ≡ halves_of before →
+as_before : (t : Terms) (before now : List Board) (place : ℕ) (b c : Board) → AreSoundBoards t before
+    → AreSoundBoards (uncoloured t) now → halves_of now ≡ halves_of before →
     slice_get before place ≡ Some b → slice_get now place ≡ Some c → IsAsBefore b c
 as_before t before now place b c s n halves here there =
     let of_b : b.terms ≡ t = All-at (λ (x : Board). x.terms ≡ t) before place b s.terms here in
     let of_c : c.terms ≡ uncoloured t = All-at (λ (x : Board). x.terms ≡ uncoloured t) now place c n.terms there in
     let terms : c.terms ≡ uncoloured b.terms = of_c ∙ sym (ap uncoloured of_b) in
-    let number : c.number ≡ b.number = same_Some c.number b.number (sym (number_at t.variant now place c n.numbers there) ∙ number_at t.variant before place b s.numbers here) in
+    let number : c.number ≡ b.number =
+    same_Some c.number b.number
+    (sym (number_at t.variant now place c n.numbers there) ∙ number_at t.variant before place b s.numbers here) in
     let all : c.all ≡ b.all =
     sym (All-at (λ (x : Board). half_moves (halves_of now) ≡ x.all) now place c (all_of (uncoloured t) now n) there)
     ∙ ap half_moves halves
     ∙ All-at (λ (x : Board). half_moves (halves_of before) ≡ x.all) before place b (all_of t before s) here in
     let list : c.list ≡ b.list =
-    sym (All-at (λ (x : Board). list_on x.number (halves_of now) ≡ x.list) now place c (each_of (uncoloured t) now n) there)
+    sym
+    (All-at (λ (x : Board). list_on x.number (halves_of now) ≡ x.list) now place c (each_of (uncoloured t) now n) there)
     ∙ (λ i. list_on (number i) (halves i))
     ∙ All-at (λ (x : Board). list_on x.number (halves_of before) ≡ x.list) before place b (each_of t before s) here in
-    record { number = number; list = list; position = position_same b c terms all number; clocks = λ colour. clocks_same b c colour terms list }
+    record {
+      number = number;
+      list = list;
+      position = position_same b c terms all number;
+      clocks = λ colour. clocks_same b c colour terms list;
+    }
 
 -- there are as many boards as the variant wants
 as_many : (t : Terms) (boards : List Board) → AreSoundBoards t boards → length boards ≡ length (board_numbers t.variant)
 as_many t boards s = sym (length-map boards (λ (b : Board). b.number)) ∙ ap length s.numbers
 
-kept : (d : DeskState) (serial : ℕ) (g : GameState) (seats : Seats) (moment : ℕ) → IsSound g → names_in seats ≡ names_in g.seats →
+kept : (d : DeskState) (serial : ℕ) (g : GameState) (seats : Seats) (moment : ℕ) → IsSound g
+    → names_in seats ≡ names_in g.seats →
     Gets (restored d serial (shelved g) seats moment) (GoesOnFrom g)
 kept d serial g seats moment s names =
     let r : Replays (shelved g) = shelved_replays g s in
     let there = found (shelved g) moment r in
     let boards : List Board = there.0 in
-    let sound : AreSoundBoards (uncoloured g.terms) boards = (replayed_at (uncoloured g.terms) (halves_of g.boards) moment boards r.spelled.halves.each there.1).sound in
-    let halves : halves_of boards ≡ halves_of g.boards = (replayed_at (uncoloured g.terms) (halves_of g.boards) moment boards r.spelled.halves.each there.1).made in
+    let sound : AreSoundBoards (uncoloured g.terms) boards =
+    (replayed_at (uncoloured g.terms) (halves_of g.boards) moment boards r.spelled.halves.each there.1).sound in
+    let halves : halves_of boards ≡ halves_of g.boards =
+    (replayed_at (uncoloured g.terms) (halves_of g.boards) moment boards r.spelled.halves.each there.1).made in
     let same = boards-now d serial (shelved g) seats moment boards there.1 in
     gets d serial (shelved g) seats moment boards there.1 (GoesOnFrom g)
     (record {
@@ -130,7 +159,8 @@ kept d serial g seats moment s names =
       names = ap names_in (seats-now d serial (shelved g) seats moment boards there.1) ∙ names;
       many = ap length same ∙ as_many (uncoloured g.terms) boards sound ∙ sym (as_many g.terms g.boards s.boards);
       boards = λ place b c here at.
-          as_before g.terms g.boards boards place b c s.boards sound halves here (sym (ap (λ (bs : List Board). slice_get bs place) same) ∙ at);
+          as_before g.terms g.boards boards place b c s.boards sound halves here
+          (sym (ap (λ (bs : List Board). slice_get bs place) same) ∙ at);
     })
 
 pub resuming_restores : ResumingRestores

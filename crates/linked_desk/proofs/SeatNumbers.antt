@@ -9,5 +9,7 @@ below : (b : Bool) (k n : ℕ) → (b ≡ true → k < n) → IfSome (cond b (So
 below true k n h = h refl
 below false k n h = tt
 
-pub seat_number-below : (session : ℕ) (players : List Player) → IfSome (seat_number session players) (λ i. i < length players)
-seat_number-below session players = below _ (position_or_len (plays_as session) players) (length players) (λ h. ltb-true _ _ h)
+pub seat_number-below : (session : ℕ) (players : List Player)
+    → IfSome (seat_number session players) (λ i. i < length players)
+seat_number-below session players =
+    below _ (position_or_len (plays_as session) players) (length players) (λ h. ltb-true _ _ h)

@@ -47,7 +47,8 @@ four Crazyhouse names h = tt
 four (Fischer number) names h = tt
 four Bughouse names h = distinct (map key_of names) h
 
-pub keys_in : (players : List Player) → map (λ (p : Player). key_of p.name) players ≡ map key_of (map (λ (p : Player). p.name) players)
+pub keys_in : (players : List Player)
+    → map (λ (p : Player). key_of p.name) players ≡ map key_of (map (λ (p : Player). p.name) players)
 keys_in [] = refl
 keys_in (p ∷ players) = ap (λ xs. key_of p.name ∷ xs) (keys_in players)
 
@@ -57,7 +58,13 @@ without_colour t halves played = record {
   each = λ before after h e.
       let may : MayCome t before h = played.each before after h e in
       record {
-        follows = record { going = may.follows.going; room = may.follows.room; allowed = may.follows.allowed; charged = may.follows.charged };
+        follows =
+            record {
+              going = may.follows.going;
+              room = may.follows.room;
+              allowed = may.follows.allowed;
+              charged = may.follows.charged;
+            };
         other = may.other;
       };
 }

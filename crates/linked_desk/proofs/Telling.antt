@@ -19,7 +19,8 @@ with_item-feed : (g : GameState) (x : Option Item) → with_item g x ≡ record 
 with_item-feed g None = refl
 with_item-feed g (Some x) = refl
 
-with_view-feed : (g : GameState) (v : Option BoardView) → with_view g v ≡ record g { feed = feed_with g.feed (option_map item.Board v) }
+with_view-feed : (g : GameState) (v : Option BoardView)
+    → with_view g v ≡ record g { feed = feed_with g.feed (option_map item.Board v) }
 with_view-feed g None = refl
 with_view-feed g (Some v) = refl
 
@@ -27,26 +28,34 @@ with_view-feed g (Some v) = refl
 abbrev pub told_of : ℕ → GameState → BoardNumber → Option Man → GameState
 told_of desk g board man = record g {
   feed = feed_with
-      (feed_with (feed_with g.feed (option_map item.Board (slice_get (views_of desk g) (place board)))) (hands_at desk g board man))
+      (feed_with (feed_with g.feed (option_map item.Board (slice_get (views_of desk g) (place board))))
+      (hands_at desk g board man))
       (partner_hands_at desk g board man);
 }
 
 pub with_hands-told : (desk : ℕ) (g : GameState) (board : BoardNumber) (man : Option Man) →
-    with_partner_hands desk board man (with_hands desk board man (with_board_item desk board g)) ≡ told_of desk g board man
+    with_partner_hands desk board man (with_hands desk board man (with_board_item desk board g))
+    ≡ told_of desk g board man
 with_hands-told desk g board man =
-    let shown : GameState = record g { feed = feed_with g.feed (option_map item.Board (slice_get (views_of desk g) (place board))) } in
+    let shown : GameState =
+    record g { feed = feed_with g.feed (option_map item.Board (slice_get (views_of desk g) (place board))) } in
     let held : GameState = record shown { feed = feed_with shown.feed (hands_at desk g board man) } in
-    ap (λ (s : GameState). with_partner_hands desk board man (with_hands desk board man s)) (with_view-feed g (slice_get (views_of desk g) (place board)))
+    ap (λ (s : GameState). with_partner_hands desk board man (with_hands desk board man s))
+    (with_view-feed g (slice_get (views_of desk g) (place board)))
     ∙ ap (λ (s : GameState). with_partner_hands desk board man s) (with_item-feed shown (hands_at desk g board man))
     ∙ with_item-feed held (partner_hands_at desk g board man)
 
 -- the game that stands once a half-move was played and told, and has ended if it brings that
-pub finished-moved : (desk : ℕ) (g base told new : GameState) (moment : ℕ) (board at : BoardNumber) (stamp : Option ℕ) (answer : Result Move Refusal) (man : Option Man) →
+pub finished-moved : (desk : ℕ) (g base told new : GameState) (moment : ℕ) (board at : BoardNumber) (stamp : Option ℕ)
+    (answer : Result Move Refusal) (man : Option Man) →
     new ≡ finished desk told moment at → told ≡ told_of desk base at man →
-    base ≡ record g { boards = boards_after g.boards board (moment_at g moment) stamp answer; last = moment_at g moment } →
-    man ≡ captured_by (reply_at (slice_get g.boards (place board)) answer) → at ≡ board → new ≡ moved desk g moment board stamp answer
+    base
+    ≡ record g { boards = boards_after g.boards board (moment_at g moment) stamp answer; last = moment_at g moment } →
+    man ≡ captured_by (reply_at (slice_get g.boards (place board)) answer) → at ≡ board
+    → new ≡ moved desk g moment board stamp answer
 finished-moved desk g base told new moment board at stamp answer man ends tells plays takes same =
-    let played : GameState = record g { boards = boards_after g.boards board (moment_at g moment) stamp answer; last = moment_at g moment } in
+    let played : GameState =
+    record g { boards = boards_after g.boards board (moment_at g moment) stamp answer; last = moment_at g moment } in
     let captured : Option Man = captured_by (reply_at (slice_get g.boards (place board)) answer) in
     ends
     ∙ ap (λ (s : GameState). finished desk s moment at) tells

@@ -12,7 +12,8 @@ use Rattle.linked_desk.specs.Seats.{board_of, colour_at}
 abbrev pub LeavingEnds : GameState → ℕ → Why → Option Colour → Type 0
 LeavingEnds g seat why winner =
     (desk session moment : ℕ) → seat_of g session ≡ Some seat → g.ended ≡ None →
-    (leave_effect desk g session moment).after.ended ≡ Some (record { why = why; board = board_of seat; winner = winner })
+    (leave_effect desk g session moment).after.ended
+    ≡ Some (record { why = why; board = board_of seat; winner = winner })
 
 -- a game of one board between players with accounts is adjourned, and nobody wins; where somebody is a guest, and at a
 -- pair, who leaves has lost

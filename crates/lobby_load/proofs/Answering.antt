@@ -18,23 +18,28 @@ use Rattle.lobby_load.proofs.Least.{made_good, made_loaded, made_sized}
 use Rattle.std.proofs.lemmas.Result.{IfOk-weaker}
 
 -- the pairs are all of the table, where it is told
-of_told : (told : Option Records) (rows : Pairs) (P : Records → Type 0) → AreAllOf told rows → ((table : Records) → rows ≡ map.entries table → P table) → IfSome told P
+of_told : (told : Option Records) (rows : Pairs) (P : Records → Type 0) → AreAllOf told rows
+    → ((table : Records) → rows ≡ map.entries table → P table) → IfSome told P
 of_told None rows P all f = tt
 of_told (Some table) rows P all f = f table all
 
-pub loaded_told : (told : Option Records) (rows : Pairs) (r : Result LobbyState LoadRefusal) → AreAllOf told rows → IfOk r (HasRows rows)
+pub loaded_told : (told : Option Records) (rows : Pairs) (r : Result LobbyState LoadRefusal) → AreAllOf told rows
+    → IfOk r (HasRows rows)
     → IfOk r (λ lobby. IfSome told (λ table. HasLoaded table lobby))
 loaded_told told rows r all made =
     IfOk-weaker r (HasRows rows) (λ lobby. IfSome told (λ table. HasLoaded table lobby))
-    (λ lobby h. of_told told rows (λ table. HasLoaded table lobby) all (λ table e. made_loaded table lobby rows e h)) made
+    (λ lobby h. of_told told rows (λ table. HasLoaded table lobby) all (λ table e. made_loaded table lobby rows e h))
+    made
 
-pub sized_told : (told : Option Records) (rows : Pairs) (r : Result LobbyState LoadRefusal) → AreAllOf told rows → IfOk r (HasRows rows)
+pub sized_told : (told : Option Records) (rows : Pairs) (r : Result LobbyState LoadRefusal) → AreAllOf told rows
+    → IfOk r (HasRows rows)
     → IfOk r (λ lobby. IfSome told (λ table. HasSizes table lobby))
 sized_told told rows r all made =
     IfOk-weaker r (HasRows rows) (λ lobby. IfSome told (λ table. HasSizes table lobby))
     (λ lobby h. of_told told rows (λ table. HasSizes table lobby) all (λ table e. made_sized table lobby rows e h)) made
 
-pub good_told : (told : Option Records) (rows : Pairs) (r : Result LobbyState LoadRefusal) → IsAscending rows → AreAllOf told rows → IfOk r (HasRows rows)
+pub good_told : (told : Option Records) (rows : Pairs) (r : Result LobbyState LoadRefusal) → IsAscending rows
+    → AreAllOf told rows → IfOk r (HasRows rows)
     → IfOk r (λ lobby. IfSome told IsGoodStore)
 good_told told rows r rise all made =
     IfOk-weaker r (HasRows rows) (λ lobby. IfSome told IsGoodStore)
@@ -47,7 +52,8 @@ on_named A key (BadRecord named) P is h = subst P (sym is) h
 on_named A key KeeperFault P is h = absurd is
 on_named A key Memory P is h = tt
 
-pub named_no_fault : (A : Type 0) (key : List ℕ) (refusal : LoadRefusal) → NamesKey key refusal → OnKeeperFault {A = A} (Err refusal) ⊥
+pub named_no_fault : (A : Type 0) (key : List ℕ) (refusal : LoadRefusal) → NamesKey key refusal
+    → OnKeeperFault {A = A} (Err refusal) ⊥
 named_no_fault A key (BadRecord named) is = tt
 named_no_fault A key KeeperFault is = is
 named_no_fault A key Memory is = tt

@@ -16,14 +16,18 @@ use Rattle.edge_traits.proofs.Rising.{is_less}
 use Rattle.lobby_load.proofs.RowsSorted.{IsBelow-all, all_before, all_behind, turned}
 
 -- one row more
-pub count_cons : (p : Row → Bool) (row : Row) (rows : Pairs) → count_by p (row ∷ rows) ≡ cond (p row) 1 0 + count_by p rows
+pub count_cons : (p : Row → Bool) (row : Row) (rows : Pairs)
+    → count_by p (row ∷ rows) ≡ cond (p row) 1 0 + count_by p rows
 count_cons p row rows = sum_by-cons (λ x. cond (p x) 1 0) row rows
 
-pub count_push_yes : (p : Row → Bool) (rows : Pairs) (row : Row) → p row ≡ true → count_by p (rows ++ row ∷ []) ≡ count_by p rows + 1
+pub count_push_yes : (p : Row → Bool) (rows : Pairs) (row : Row) → p row ≡ true
+    → count_by p (rows ++ row ∷ []) ≡ count_by p rows + 1
 count_push_yes p rows row e = sum_by_push (λ x. cond (p x) 1 0) rows row ∙ ap (λ b. count_by p rows + cond b 1 0) e
 
-pub count_push_no : (p : Row → Bool) (rows : Pairs) (row : Row) → p row ≡ false → count_by p (rows ++ row ∷ []) ≡ count_by p rows
-count_push_no p rows row e = sum_by_push (λ x. cond (p x) 1 0) rows row ∙ ap (λ b. count_by p rows + cond b 1 0) e ∙ omega arith
+pub count_push_no : (p : Row → Bool) (rows : Pairs) (row : Row) → p row ≡ false
+    → count_by p (rows ++ row ∷ []) ≡ count_by p rows
+count_push_no p rows row e =
+    sum_by_push (λ x. cond (p x) 1 0) rows row ∙ ap (λ b. count_by p rows + cond b 1 0) e ∙ omega arith
 
 as_number : {a b : Bool} → a ≡ b → cond {A = ℕ} a 1 0 ≡ cond b 1 0
 as_number e = ap {B = ℕ} (λ b. cond b 1 0) e
@@ -51,13 +55,17 @@ not_Less_itself key l = let tied = tied_itself nat_list_cmp_total key in let bad
 not_before : (one other : List ℕ) → ComesBefore one other → ComesBefore other one → ⊥
 not_before one other less back = not_Less (keys_order other one) (turned one other less) back
 
-not_picked_behind : (pick : Row → Bool) (key : List ℕ) (row : Row) → ComesBefore key row.0 → (pick row ≡ true → ComesBefore row.0 key) → pick row ≡ false
+not_picked_behind : (pick : Row → Bool) (key : List ℕ) (row : Row) → ComesBefore key row.0
+    → (pick row ≡ true → ComesBefore row.0 key) → pick row ≡ false
 not_picked_behind pick key row less before = false_from_ne_true (pick row) (λ so. not_before key row.0 less (before so))
 
 -- rows that come before a key among rows of which that key has one: they are fewer than those of its kind
-pub fewer : (pick : Row → Bool) (kind : List ℕ → Bool) (key bytes : List ℕ) (done rest : Pairs) → IsAscending (done ++ rest)
-    → find keys_order key done ≡ Some bytes → kind key ≡ true → All (λ row. pick row ≡ true → kind row.0 ≡ true) (done ++ rest)
-    → All (λ row. pick row ≡ true → ComesBefore row.0 key) (done ++ rest) → count_by pick (done ++ rest) + 1 ≤ count_of kind done
+pub fewer : (pick : Row → Bool) (kind : List ℕ → Bool) (key bytes : List ℕ) (done rest : Pairs)
+    → IsAscending (done ++ rest)
+    → find keys_order key done ≡ Some bytes → kind key ≡ true
+    → All (λ row. pick row ≡ true → kind row.0 ≡ true) (done ++ rest)
+    → All (λ row. pick row ≡ true → ComesBefore row.0 key) (done ++ rest)
+    → count_by pick (done ++ rest) + 1 ≤ count_of kind done
 fewer pick kind key bytes [] rest rise found is of before = absurd cc
 fewer pick kind key bytes (e ∷ done) rest rise found is of before =
     let P : Row → Type 0 = λ row. pick row ≡ true → kind row.0 ≡ true in
@@ -65,7 +73,8 @@ fewer pick kind key bytes (e ∷ done) rest rise found is of before =
     let all : Pairs = done ++ rest in
     let picked = count_cons pick e all in
     let of_kind = count_cons (λ row. kind row.0) e done in
-    elim (eq_by_cmp keys_order key e.0) as (λ t. eq_by_cmp keys_order key e.0 ≡ t → cond t (Some e.1) (find keys_order key done) ≡ Some bytes
+    elim (eq_by_cmp keys_order key e.0)
+    as (λ t. eq_by_cmp keys_order key e.0 ≡ t → cond t (Some e.1) (find keys_order key done) ≡ Some bytes
     → count_by pick (e ∷ all) + 1 ≤ count_of kind (e ∷ done)) [
       | true ↦ λ same here.
           let own : key ≡ e.0 = tied_same key e.0 same in
@@ -78,7 +87,9 @@ fewer pick kind key bytes (e ∷ done) rest rise found is of before =
           let with_it = as_number (subst (λ l. kind l ≡ true) own is) in
           omega (arith, picked, of_kind, none, without, with_it)
       | false ↦ λ _ there.
-          let rest_of : count_by pick all + 1 ≤ count_of kind done = fewer pick kind key bytes done rest (second_so (below_all keys_order e.0 all) (is_sorted keys_order all) rise) there is (All-tail P e all of) (All-tail Q e all before) in
+          let rest_of : count_by pick all + 1 ≤ count_of kind done =
+          fewer pick kind key bytes done rest (second_so (below_all keys_order e.0 all) (is_sorted keys_order all) rise)
+          there is (All-tail P e all of) (All-tail Q e all before) in
           let one = one_or_none (pick e) (kind e.0) (All-head P e all of) in
           omega (arith, picked, of_kind, rest_of, one)
     ] refl found
@@ -99,18 +110,23 @@ counted kind row (e ∷ done) h =
     let of_kind = count_cons (λ x. kind x.0) e done in
     omega (arith, one, rest, picked, of_kind)
 
-not_picked : (kind : List ℕ → Bool) (row x : Row) (P : Type 0) → (ComesBefore x.0 row.0 → ⊥) → picks kind row x ≡ true → P
+not_picked : (kind : List ℕ → Bool) (row x : Row) (P : Type 0) → (ComesBefore x.0 row.0 → ⊥) → picks kind row x ≡ true
+    → P
 not_picked kind row x P not so = absurd (not (is_less _ (second_so _ _ so)))
 
 -- all that are of a kind in front of a row come before it
-pub enough : (IsOfKind : Row → Type 0) (kind : List ℕ → Bool) (n : ℕ) (done rest : Pairs) (row : Row) → IsAscending (done ++ row ∷ rest)
-    → All (λ x. kind x.0 ≡ true → IsOfKind x) done → n ≤ count_of kind done → HasBefore IsOfKind n (done ++ row ∷ rest) row.0
+pub enough : (IsOfKind : Row → Type 0) (kind : List ℕ → Bool) (n : ℕ) (done rest : Pairs) (row : Row)
+    → IsAscending (done ++ row ∷ rest)
+    → All (λ x. kind x.0 ≡ true → IsOfKind x) done → n ≤ count_of kind done
+    → HasBefore IsOfKind n (done ++ row ∷ rest) row.0
 enough IsOfKind kind n done rest row rise of many =
     let P : Row → Type 0 = λ x. picks kind row x ≡ true → IsOfKind x in
     let behind = all_behind done rest row rise in
     let in_front : All P done = λ k d lt so. of k d lt (first_so _ _ so) in
     let here : P row = not_picked kind row row (IsOfKind row) (not_Less_itself row.0) in
-    let later : All P rest = λ k d lt. not_picked kind row (get_or rest k d) (IsOfKind (get_or rest k d)) (not_before row.0 (get_or rest k d).0 (behind k d lt)) in
+    let later : All P rest = λ k d lt.
+    not_picked kind row (get_or rest k d) (IsOfKind (get_or rest k d))
+    (not_before row.0 (get_or rest k d).0 (behind k d lt)) in
     let front = counted kind row done (all_before done rest row rise) in
     let split = sum_by-append (λ x. cond (picks kind row x) 1 0) done (row ∷ rest) in
     record {

@@ -65,20 +65,25 @@ found_more rows row own text key before own_is text_is before_is new =
     ∙ sym (find-append keys_order nat_list_cmp_total rows row.0 row.1 key new)
 
 -- under the row's key nothing was wanted
-unwanted : (rows : Pairs) (row : Row) (lobby : LobbyState) → HasRows rows lobby → find keys_order row.0 rows ≡ None → wanted_by lobby row.0 ≡ None
+unwanted : (rows : Pairs) (row : Row) (lobby : LobbyState) → HasRows rows lobby → find keys_order row.0 rows ≡ None
+    → wanted_by lobby row.0 ≡ None
 unwanted rows row lobby h new = h.wanted row.0 ∙ new
 
-with_account-filled : (rows : Pairs) (row : Row) (lobby : LobbyState) (account : Account) → HasRows rows lobby → find keys_order row.0 rows ≡ None
-    → IsAccountRow account row → length lobby.accounts < most_accounts → HasRows (rows ++ row ∷ []) (with_account lobby account)
+with_account-filled : (rows : Pairs) (row : Row) (lobby : LobbyState) (account : Account) → HasRows rows lobby
+    → find keys_order row.0 rows ≡ None
+    → IsAccountRow account row → length lobby.accounts < most_accounts
+    → HasRows (rows ++ row ∷ []) (with_account lobby account)
 with_account-filled rows row lobby account h new is room =
     let own = account_key (key_of account.name) in
-    let unwanted_own : wanted_by lobby own ≡ None = subst (λ k. wanted_by lobby k ≡ None) is.own (unwanted rows row lobby h new) in
+    let unwanted_own : wanted_by lobby own ≡ None =
+    subst (λ k. wanted_by lobby k ≡ None) is.own (unwanted rows row lobby h new) in
     let long = length-append lobby.accounts (account ∷ []) in
     let more = count_push_yes (λ x. is_of_account x.0) rows row (ap is_of_account is.own) in
     let same = count_push_no (λ x. is_of_game x.0) rows row (ap is_of_game is.own) in
     record {
       wanted = λ key. wanted_account lobby.accounts lobby.shelf.games account key (no_account_at lobby own unwanted_own)
-          ∙ found_more rows row own (spelling (a.Account account)) key (wanted_by lobby key) is.own is.spelled.text (h.wanted key) new;
+          ∙ found_more rows row own (spelling (a.Account account)) key (wanted_by lobby key) is.own is.spelled.text
+          (h.wanted key) new;
       opening = record {
         nobody = h.opening.nobody;
         no_game = h.opening.no_game;
@@ -86,7 +91,9 @@ with_account-filled rows row lobby account h new is room =
         else_opening = ap (λ l. with_account l account) h.opening.else_opening;
       };
       spelled = record {
-        accounts = All-push (λ x. IsSpelled (a.Account x) (spelling (a.Account x))) lobby.accounts account h.spelled.accounts (own_record (a.Account account) row.1 is.spelled);
+        accounts =
+            All-push (λ x. IsSpelled (a.Account x) (spelling (a.Account x))) lobby.accounts account h.spelled.accounts
+            (own_record (a.Account account) row.1 is.spelled);
         games = h.spelled.games;
       };
       each = All-push (λ x. IsAccount x ⊎ IsGame x) rows row h.each (inl (account, is));
@@ -97,14 +104,16 @@ with_account-filled rows row lobby account h new is room =
       few_games = h.few_games;
     }
 
-with_stored-filled : (rows : Pairs) (row : Row) (lobby : LobbyState) (number : ℕ) (game : StoredGame) → HasRows rows lobby
+with_stored-filled : (rows : Pairs) (row : Row) (lobby : LobbyState) (number : ℕ) (game : StoredGame)
+    → HasRows rows lobby
     → find keys_order row.0 rows ≡ None → IsGameRow number game row → places_taken lobby < most_stored
     → HasRows (rows ++ row ∷ []) (record lobby { shelf = with_stored lobby.shelf number game })
 with_stored-filled rows row lobby number game h new is room =
     let own = game_key number in
     let games = lobby.shelf.games in
     let added : Shelved = record { number = number; game = game } in
-    let unwanted_own : wanted_by lobby own ≡ None = subst (λ k. wanted_by lobby k ≡ None) is.own (unwanted rows row lobby h new) in
+    let unwanted_own : wanted_by lobby own ≡ None =
+    subst (λ k. wanted_by lobby k ≡ None) is.own (unwanted rows row lobby h new) in
     let unused = unused-stored games number (not_stored lobby number unwanted_own) in
     let long = length-with added 0 games unused h.in_order in
     let more = count_push_yes (λ x. is_of_game x.0) rows row (ap is_of_game is.own) in
@@ -112,18 +121,21 @@ with_stored-filled rows row lobby number game h new is room =
     let Q : Shelved → Type 0 = λ x. IsSpelled (a.Game x.game) (spelling (a.Game x.game)) in
     record {
       wanted = λ key. wanted_game lobby.accounts games number game key is.small unused h.in_order
-          ∙ found_more rows row own (spelling (a.Game game)) key (wanted_by lobby key) is.own is.spelled.text (h.wanted key) new;
+          ∙ found_more rows row own (spelling (a.Game game)) key (wanted_by lobby key) is.own is.spelled.text
+          (h.wanted key) new;
       opening = record {
         nobody = h.opening.nobody;
         no_game = h.opening.no_game;
         no_orders = h.opening.no_orders;
-        else_opening = ap (λ (l : LobbyState). record l { shelf = with_stored l.shelf number game }) h.opening.else_opening;
+        else_opening =
+            ap (λ (l : LobbyState). record l { shelf = with_stored l.shelf number game }) h.opening.else_opening;
       };
       spelled = record {
         accounts = h.spelled.accounts;
         games = All-append Q (filter (is_below number) games) (added ∷ filter (is_above number) games)
             (All-filter (is_below number) Q games h.spelled.games)
-            (All-cons Q added (filter (is_above number) games) (own_record (a.Game game) row.1 is.spelled) (All-filter (is_above number) Q games h.spelled.games));
+            (All-cons Q added (filter (is_above number) games) (own_record (a.Game game) row.1 is.spelled)
+            (All-filter (is_above number) Q games h.spelled.games));
       };
       each = All-push (λ x. IsAccount x ⊎ IsGame x) rows row h.each (inr (number, game, is));
       in_order = RiseAbove-with added 0 games is.positive is.small unused h.in_order;
@@ -134,9 +146,12 @@ with_stored-filled rows row lobby number game h new is room =
     }
 
 -- a lobby that was made of rows, and took one more, was made of these
-pub HasRows-more : (rows : Pairs) (row : Row) (old new : LobbyState) → HasRows rows old → find keys_order row.0 rows ≡ None
+pub HasRows-more : (rows : Pairs) (row : Row) (old new : LobbyState) → HasRows rows old
+    → find keys_order row.0 rows ≡ None
     → AddsRow row old new → HasRows (rows ++ row ∷ []) new
 HasRows-more rows row old new h unknown (inl (account, is, adds)) =
-    subst (HasRows (rows ++ row ∷ [])) (sym adds.after) (with_account-filled rows row old account h unknown is adds.room)
+    subst (HasRows (rows ++ row ∷ [])) (sym adds.after)
+    (with_account-filled rows row old account h unknown is adds.room)
 HasRows-more rows row old new h unknown (inr (number, game, is, adds)) =
-    subst (HasRows (rows ++ row ∷ [])) (sym adds.after) (with_stored-filled rows row old number game h unknown is adds.room)
+    subst (HasRows (rows ++ row ∷ [])) (sym adds.after)
+    (with_stored-filled rows row old number game h unknown is adds.room)

@@ -20,12 +20,14 @@ use Rattle.login_handles.proofs.GuestNames.{bytes_eq-self}
 pub wanted_account : (accounts : List Account) (games : List Shelved) (account : Account) (key : List ℕ)
     → find (is_account_at (account_key (key_of account.name))) accounts ≡ None
     → wanted (accounts ++ account ∷ []) games key
-    ≡ cond (bytes_eq (account_key (key_of account.name)) key) (Some (spelling (a.Account account))) (wanted accounts games key)
+    ≡ cond (bytes_eq (account_key (key_of account.name)) key) (Some (spelling (a.Account account)))
+    (wanted accounts games key)
 wanted_account accounts games account key new =
     let shelf : ShelfState = record empty { games = games } in
     sym (orders-lead.account (wanted accounts games) accounts shelf account new (λ k. refl) key)
 
-by_key : {X : Type 0} (own key : List ℕ) (this that : X) (of : X) → (own ≡ key → of ≡ this) → (bytes_eq own key ≡ false → of ≡ that)
+by_key : {X : Type 0} (own key : List ℕ) (this that : X) (of : X) → (own ≡ key → of ≡ this)
+    → (bytes_eq own key ≡ false → of ≡ that)
     → of ≡ cond (bytes_eq own key) this that
 by_key own key this that of same other =
     elim (bytes_eq own key) as (λ t. bytes_eq own key ≡ t → of ≡ cond t this that) [
@@ -45,9 +47,11 @@ wanted_game accounts games number game key fits unused rise =
     let differ = unused-all number games unused in
     let others : All (λ row. is_game_at own row ≡ false) games =
     λ k d lt. no_such_game number (get_or games k d) fits (small k d lt) (differ k d lt) in
-    by_key own key (Some (spelling (a.Game game))) (wanted accounts games key) (wanted accounts (with_game new games) key)
+    by_key own key (Some (spelling (a.Game game))) (wanted accounts games key)
+    (wanted accounts (with_game new games) key)
     (λ same. subst (λ k. wanted accounts (with_game new games) k ≡ Some (spelling (a.Game game))) same
-    (ap (λ r. either_record (account_record r) (game_record (find (is_game_at own) (with_game new games)))) (no_account accounts number)
+    (ap (λ r. either_record (account_record r) (game_record (find (is_game_at own) (with_game new games))))
+    (no_account accounts number)
     ∙ ap game_record (find-with_new (is_game_at own) new 0 games unused rise (bytes_eq-self own) others)))
     (λ other. ap (λ r. either_record (account_record (find (is_account_at key) accounts)) (game_record r))
     (find-with_other (is_game_at key) new 0 games unused rise other))

@@ -14,12 +14,14 @@ one_request [] one = absurd (omega arith)
 one_request (request ∷ []) one = refl
 one_request (request ∷ another ∷ requests) one = absurd (omega arith)
 
-pub order_behind : (orders cell more : List Order) (order : Order) → length cell ≡ 1 → held_order cell ≡ order → more ≡ orders ++ cell
+pub order_behind : (orders cell more : List Order) (order : Order) → length cell ≡ 1 → held_order cell ≡ order
+    → more ≡ orders ++ cell
     → more ≡ orders ++ order ∷ []
 order_behind orders cell more order one held is =
     is ∙ ap (λ zs. orders ++ zs) (one_order cell one) ∙ ap (λ z. orders ++ z ∷ []) held
 
-pub request_behind : (requests cell more : List Request) (request : Request) → length cell ≡ 1 → held_request cell ≡ request
+pub request_behind : (requests cell more : List Request) (request : Request) → length cell ≡ 1
+    → held_request cell ≡ request
     → more ≡ requests ++ cell → more ≡ requests ++ request ∷ []
 request_behind requests cell more request one held is =
     is ∙ ap (λ zs. requests ++ zs) (one_request cell one) ∙ ap (λ z. requests ++ z ∷ []) held

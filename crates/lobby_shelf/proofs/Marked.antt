@@ -25,7 +25,10 @@ use Rattle.lobby_shelf.specs.Players.{has_player, is_of_both, of_player}
 another : (name key : List ℕ) → (mark (key_of name) == mark key) ≡ false → bytes_eq (key_of name) key ≡ false
 another name key differs =
     elim (bytes_eq (key_of name) key) as (λ t. bytes_eq (key_of name) key ≡ t → t ≡ false) [
-      | true ↦ λ same. (let bad : true ≡ false = sym (eq-eqb (mark (key_of name)) (mark key) (ap mark ((bytes_decides (key_of name) key).0 same))) ∙ differs in cc)
+      | true ↦ λ same.
+          (let bad : true ≡ false =
+          sym (eq-eqb (mark (key_of name)) (mark key) (ap mark ((bytes_decides (key_of name) key).0 same))) ∙ differs in
+          cc)
       | false ↦ λ _. refl
     ] refl
 
@@ -38,7 +41,8 @@ by_seats : (key : List ℕ) (names : List (List ℕ)) → ((seat : ℕ) → seat
 unfolding Differs
 by_seats key [] differs = refl
 by_seats key (name ∷ names) differs =
-    or_from (bytes_eq (key_of name) key) _ (another name key (differs 0 (omega arith))) (by_seats key names (λ seat h. differs (suc seat) (omega (arith, h))))
+    or_from (bytes_eq (key_of name) key) _ (another name key (differs 0 (omega arith)))
+    (by_seats key names (λ seat h. differs (suc seat) (omega (arith, h))))
 
 of_four : (P : ℕ → Type 0) (seat : ℕ) → P 0 → P 1 → P 2 → P 3 → seat < 4 → P seat
 of_four P zero a b c d h = a
@@ -59,7 +63,8 @@ unmarked key names few none =
     by_seats key names (λ seat h. of_four (Differs key names) seat one.0 one.1 two.1 three.1 (omega (arith, h, few)))
 
 -- a row beside another, of what is told of each of its items, stays beside it
-pub insert-map : {A B : Type 0} (f : A → B) (xs : List A) (i : ℕ) (x : A) → insert (map f xs) i (f x) ≡ map f (insert xs i x)
+pub insert-map : {A B : Type 0} (f : A → B) (xs : List A) (i : ℕ) (x : A)
+    → insert (map f xs) i (f x) ≡ map f (insert xs i x)
 insert-map f xs i x =
     ap (λ l. l ++ f x ∷ drop i (map f xs)) (take-map f i xs) ∙ ap (λ l. map f (take i xs) ++ f x ∷ l) (drop-map f i xs)
     ∙ sym (map-append f (take i xs) (x ∷ drop i xs))
@@ -73,14 +78,17 @@ remove-map f xs i =
 stepped : {X : Type 0} (p : X → Bool) (xs : List X) (i : ℕ) (x : X) → slice_get xs i ≡ Some x
     → filter p (drop i xs) ≡ cond (p x) (x ∷ filter p (drop (i + 1) xs)) (filter p (drop (i + 1) xs))
 stepped p xs i x at =
-    ap (filter p) (drop-cons xs i x (slice_get_within xs i x at) ∙ ap (λ y. y ∷ drop (suc i) xs) (get_or_from_slice_get xs i x x at)
+    ap (filter p)
+    (drop-cons xs i x (slice_get_within xs i x at) ∙ ap (λ y. y ∷ drop (suc i) xs) (get_or_from_slice_get xs i x x at)
     ∙ ap (λ n. x ∷ drop n xs) (sym (add-one i)))
 
 pub next-passes : {X : Type 0} (p : X → Bool) (xs : List X) (i : ℕ) (x : X) → slice_get xs i ≡ Some x → p x ≡ true
     → filter p (drop i xs) ≡ x ∷ filter p (drop (i + 1) xs)
-next-passes p xs i x at passes = stepped p xs i x at ∙ ap (λ t. cond t (x ∷ filter p (drop (i + 1) xs)) (filter p (drop (i + 1) xs))) passes
+next-passes p xs i x at passes =
+    stepped p xs i x at ∙ ap (λ t. cond t (x ∷ filter p (drop (i + 1) xs)) (filter p (drop (i + 1) xs))) passes
 
-pub next-fails : {X : Type 0} (p : X → Bool) (xs : List X) (i : ℕ) → i < length xs → ((x : X) → slice_get xs i ≡ Some x → false ≡ p x)
+pub next-fails : {X : Type 0} (p : X → Bool) (xs : List X) (i : ℕ) → i < length xs
+    → ((x : X) → slice_get xs i ≡ Some x → false ≡ p x)
     → filter p (drop i xs) ≡ filter p (drop (i + 1) xs)
 next-fails p xs i h fails =
     elim (slice_get_cases xs i).1 [
@@ -90,16 +98,21 @@ next-fails p xs i h fails =
     ]
 
 -- what was read at a place of a row that is this list
-pub row-at : {X : Type 0} {xs now : List X} {x seen : X} (i : ℕ) → xs ≡ now → slice_get now i ≡ Some x → seen ≡ get_or xs i seen → seen ≡ x
-row-at {X} {xs} {now} {x} {seen} i same at is = is ∙ ap (λ l. get_or l i seen) same ∙ get_or_from_slice_get now i x seen at
+pub row-at : {X : Type 0} {xs now : List X} {x seen : X} (i : ℕ) → xs ≡ now → slice_get now i ≡ Some x
+    → seen ≡ get_or xs i seen → seen ≡ x
+row-at {X} {xs} {now} {x} {seen} i same at is =
+    is ∙ ap (λ l. get_or l i seen) same ∙ get_or_from_slice_get now i x seen at
 
 -- and what holds of all holds of it
 pub All-at : {X : Type 0} (P : X → Type 0) (xs : List X) (i : ℕ) (x : X) → All P xs → slice_get xs i ≡ Some x → P x
-All-at P xs i x all at = subst P (get_or_from_slice_get xs i x x at) (All-get_or P xs i x (slice_get_within xs i x at) all)
+All-at P xs i x all at =
+    subst P (get_or_from_slice_get xs i x x at) (All-get_or P xs i x (slice_get_within xs i x at) all)
 
 -- a game at a place, of whose marks none is the handle's
-pub unmarked-at : (key : List ℕ) {games now : List Shelved} {marks : List PlayerMarks} {row : Shelved} {seen : PlayerMarks} (i : ℕ)
-    → games ≡ now → All (λ row. length row.game.names ≤ 4) now → marks ≡ map marks_row games → slice_get now i ≡ Some row → seen ≡ get_or marks i seen
+pub unmarked-at : (key : List ℕ) {games now : List Shelved} {marks : List PlayerMarks} {row : Shelved}
+    {seen : PlayerMarks} (i : ℕ)
+    → games ≡ now → All (λ row. length row.game.names ≤ 4) now → marks ≡ map marks_row games
+    → slice_get now i ≡ Some row → seen ≡ get_or marks i seen
     → has_mark (mark key) seen ≡ false → has_player key row.game ≡ false
 unmarked-at key {games} {now} {marks} {row} {seen} i same few beside at is none =
     let marked = slice_get-map marks_row now i ∙ ap (option_map marks_row) at in
@@ -109,10 +122,12 @@ unmarked-at key {games} {now} {marks} {row} {seen} i same few beside at is none 
 pub of_both-one : (key : List ℕ) (games : List Shelved) → filter (is_of_both key key) games ≡ of_player key games
 of_both-one key [] = refl
 of_both-one key (row ∷ games) =
-    ap (λ t. cond t (row ∷ filter (is_of_both key key) games) (filter (is_of_both key key) games)) (and_self (has_player key row.game))
+    ap (λ t. cond t (row ∷ filter (is_of_both key key) games) (filter (is_of_both key key) games))
+    (and_self (has_player key row.game))
     ∙ ap (λ zs. cond (has_player key row.game) (row ∷ zs) zs) (of_both-one key games)
 
-taken : (row : Shelved) (more rest : List Shelved) (r : Option (Bor Shelved)) → TakesFirst (λ (row : Bor Shelved). row.now) (row ∷ more) r rest
+taken : (row : Shelved) (more rest : List Shelved) (r : Option (Bor Shelved))
+    → TakesFirst (λ (row : Bor Shelved). row.now) (row ∷ more) r rest
     → option_copied r ≡ Some row
 taken row more rest None takes = (let bad : row ∷ more ≡ [] = takes.0 in cc)
 taken row more rest (Some lent) takes = (let same : row ∷ more ≡ lent.now ∷ rest = takes in cc)
@@ -123,7 +138,8 @@ pub first-found : (p : Shelved → Bool) (games rest : List Shelved) (r : Option
 first-found p [] rest None takes = refl
 first-found p [] rest (Some lent) takes = (let bad : [] ≡ lent.now ∷ rest = takes in cc)
 first-found p (row ∷ games) rest r takes =
-    elim (p row) as (λ t. TakesFirst (λ (row : Bor Shelved). row.now) (cond t (row ∷ filter p games) (filter p games)) r rest
+    elim (p row)
+    as (λ t. TakesFirst (λ (row : Bor Shelved). row.now) (cond t (row ∷ filter p games) (filter p games)) r rest
     → option_copied r ≡ cond t (Some row) (find p games)) [
       | true ↦ λ here. taken row (filter p games) rest r here
       | false ↦ λ later. first-found p games rest r later
@@ -142,5 +158,8 @@ few_players game replays =
     let few = seats_few game.terms.variant in
     omega (arith, seated, few)
 
-pub All-few : (games : List Shelved) → All (λ row. Replays row.game) games → All (λ row. length row.game.names ≤ 4) games
-All-few games all = All-weaker (λ (row : Shelved). Replays row.game) (λ row. length row.game.names ≤ 4) (λ row replays. few_players row.game replays) games all
+pub All-few : (games : List Shelved) → All (λ row. Replays row.game) games
+    → All (λ row. length row.game.names ≤ 4) games
+All-few games all =
+    All-weaker (λ (row : Shelved). Replays row.game) (λ row. length row.game.names ≤ 4)
+    (λ row replays. few_players row.game replays) games all

@@ -18,7 +18,8 @@ is_request-turned one other =
     ap (λ (t : Bool). t && (other.game == one.game)) (turned other.by one.by)
     ∙ ap (λ (t : Bool). (one.by == other.by) && t) (turned other.game one.game)
 
-kept : (t : Bool) (x : Request) (rest : List Request) → list_any (is_request x.by x.game) rest ≡ false → AreOnce rest → AreOnce (cond t (x ∷ rest) rest)
+kept : (t : Bool) (x : Request) (rest : List Request) → list_any (is_request x.by x.game) rest ≡ false → AreOnce rest
+    → AreOnce (cond t (x ∷ rest) rest)
 kept true x rest none more = (none, more)
 kept false x rest none more = more
 
@@ -27,7 +28,8 @@ AreOnce-filter p [] once = tt
 AreOnce-filter p (x ∷ xs) once =
     kept (p x) x (filter p xs) (list_any-filter (is_request x.by x.game) p xs once.0) (AreOnce-filter p xs once.1)
 
-pub AreOnce-push : (xs : List Request) (new : Request) → list_any (is_request new.by new.game) xs ≡ false → AreOnce xs → AreOnce (xs ++ new ∷ [])
+pub AreOnce-push : (xs : List Request) (new : Request) → list_any (is_request new.by new.game) xs ≡ false → AreOnce xs
+    → AreOnce (xs ++ new ∷ [])
 AreOnce-push [] new none once = (refl, tt)
 AreOnce-push (x ∷ xs) new none once =
     let both = or_parts (is_request new.by new.game x) (list_any (is_request new.by new.game) xs) none in
@@ -51,7 +53,8 @@ used_behind : (new : Shelved) (games : List Shelved) (n : ℕ) → is_used games
 used_behind new games n there =
     elim (new.number == n) as (λ t. t || is_used games n ≡ true) [ true ↦ refl | false ↦ there ]
 
-pub is_used-with : (new : Shelved) (low : ℕ) (games : List Shelved) (n : ℕ) → is_used games new.number ≡ false → RiseAbove low games
+pub is_used-with : (new : Shelved) (low : ℕ) (games : List Shelved) (n : ℕ) → is_used games new.number ≡ false
+    → RiseAbove low games
     → is_used games n ≡ true → is_used (with_game new games) n ≡ true
 is_used-with new low [] n unused rise there = let bad : false ≡ true = there in cc
 is_used-with new low (row ∷ games) n unused rise there =
@@ -68,14 +71,17 @@ used_kept : (row : Shelved) (games more : List Shelved) (number n : ℕ) → (n 
     → (is_used games n ≡ true → is_used more n ≡ true)
     → is_used (row ∷ games) n ≡ true → is_used (cond (not (has_number number row)) (row ∷ more) more) n ≡ true
 used_kept row games more number n other step there =
-    elim (row.number == number) as (λ t. (row.number == number) ≡ t → is_used (cond (not t) (row ∷ more) more) n ≡ true) [
+    elim (row.number == number)
+    as (λ t. (row.number == number) ≡ t → is_used (cond (not t) (row ∷ more) more) n ≡ true) [
       | true ↦ λ same.
-          let differ : (row.number == n) ≡ false = ne_eqb row.number n (λ e. other (sym e ∙ eqb-true row.number number same)) in
+          let differ : (row.number == n) ≡ false =
+          ne_eqb row.number n (λ e. other (sym e ∙ eqb-true row.number number same)) in
           step (sym (ap (λ (t : Bool). t || is_used games n) differ) ∙ there)
       | false ↦ λ _. used_later row games more n step there
     ] refl
 
-pub is_used-without : (number : ℕ) (games : List Shelved) (n : ℕ) → (n ≡ number → ⊥) → is_used games n ≡ true → is_used (without_game number games) n ≡ true
+pub is_used-without : (number : ℕ) (games : List Shelved) (n : ℕ) → (n ≡ number → ⊥) → is_used games n ≡ true
+    → is_used (without_game number games) n ≡ true
 is_used-without number [] n other there = there
 is_used-without number (row ∷ games) n other there =
     used_kept row games (without_game number games) number n other (λ k. is_used-without number games n other k) there

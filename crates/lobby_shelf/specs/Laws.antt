@@ -6,7 +6,8 @@ use Rattle.lobby_shelf.specs.Players.{IsLeastOf, is_of_both, least_of}
 use Rattle.lobby_shelf.specs.Shelf.{ShelfState, asked, asks, saved, taken_off, with_stored, without_requests}
 use Rattle.lobby_shelf.specs.Wanted.{told_up_to}
 
--- a game that comes is found under its number, a game that goes is found no more, and every other one is found as before;
+-- a game that comes is found under its number, a game that goes is found no more, and every other one is found as
+-- before;
 -- and a game that is adjourned gets the least positive number that no stored game has
 pub record GamesAreFound (shelf : ShelfState) : Type 0 where
   pub put : (number : ℕ) (game : StoredGame) → is_used shelf.games number ≡ false
@@ -39,4 +40,5 @@ pub record RequestsStand (shelf : ShelfState) : Type 0 where
   pub others_off : (by number other : ℕ) → other ≢ number
       → asks (taken_off shelf number) by other ≡ asks shelf by other
   pub gone : (by game : ℕ) → asks (without_requests by shelf) by game ≡ false
-  pub others_gone : (by other game : ℕ) → other ≢ by → asks (without_requests by shelf) other game ≡ asks shelf other game
+  pub others_gone : (by other game : ℕ) → other ≢ by
+      → asks (without_requests by shelf) other game ≡ asks shelf other game

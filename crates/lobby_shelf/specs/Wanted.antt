@@ -41,7 +41,8 @@ either_record (Some bytes) other = Some bytes
 
 -- what a store is to hold for these accounts and stored games: each under its own key, and nothing else
 abbrev pub wanted : List Account → List Shelved → StoreMap
-wanted accounts games key = either_record (account_record (find (is_account_at key) accounts)) (game_record (find (is_game_at key) games))
+wanted accounts games key =
+    either_record (account_record (find (is_account_at key) accounts)) (game_record (find (is_game_at key) games))
 
 -- the table once an order is carried out: under the order's key stands its record, or nothing where it has none
 abbrev pub with_order : StoreMap → Order → StoreMap
@@ -52,7 +53,8 @@ abbrev pub table_with : StoreMap → List Order → StoreMap
 table_with table [] = table
 table_with table (order ∷ orders) = table_with (with_order table order) orders
 
--- the table agrees with these accounts and this shelf: once the orders that stand are carried out it holds what it is to
+-- the table agrees with these accounts and this shelf: once the orders that stand are carried out it holds what it is
+-- to
 -- hold
 abbrev pub Agrees : StoreMap → List Account → ShelfState → Type 0
 Agrees table accounts shelf = (key : List ℕ) → table_with table shelf.orders key ≡ wanted accounts shelf.games key
@@ -61,9 +63,11 @@ Agrees table accounts shelf = (key : List ℕ) → table_with table shelf.orders
 abbrev pub told_up_to : ShelfState → ℕ → List Order
 told_up_to shelf upto = filter (λ order. nat_le order.number upto) shelf.orders
 
--- each change makes the order that leads the store along. A table that agrees with the accounts and the shelf agrees with
+-- each change makes the order that leads the store along. A table that agrees with the accounts and the shelf agrees
+-- with
 -- them after a new account and its order, after a game that goes on the shelf, and after one that is taken off. Once a
--- store has carried out the orders up to a number, and they are told as saved, it still agrees; and to carry some of the
+-- store has carried out the orders up to a number, and they are told as saved, it still agrees; and to carry some of
+-- the
 -- first orders out twice, as after a failure, leads to the same
 pub record OrdersLead : Type 0 where
   pub account : (table : StoreMap) (accounts : List Account) (shelf : ShelfState) (account : Account)

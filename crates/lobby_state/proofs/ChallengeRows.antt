@@ -10,7 +10,8 @@ use Rattle.lobby_state.specs.WellFormed.{AreChallengesOf, IsBetweenMembers}
 use Rattle.lobby_state.proofs.Lists.{All-filter_passing, Contains-filter}
 
 -- some challenges go
-pub AreChallengesOf-filter : (sessions : List ℕ) (p : Challenge → Bool) (challenges : List Challenge) → AreChallengesOf sessions challenges
+pub AreChallengesOf-filter : (sessions : List ℕ) (p : Challenge → Bool) (challenges : List Challenge)
+    → AreChallengesOf sessions challenges
     → AreChallengesOf sessions (filter p challenges)
 AreChallengesOf-filter sessions p challenges h = record {
   pairs = AreChallenges-filter p challenges h.pairs;
@@ -18,16 +19,19 @@ AreChallengesOf-filter sessions p challenges h = record {
 }
 
 -- there are more members
-pub AreChallengesOf-more : (sessions more : List ℕ) (challenges : List Challenge) → ((s : ℕ) → Contains sessions s → Contains more s)
+pub AreChallengesOf-more : (sessions more : List ℕ) (challenges : List Challenge)
+    → ((s : ℕ) → Contains sessions s → Contains more s)
     → AreChallengesOf sessions challenges → AreChallengesOf more challenges
 AreChallengesOf-more sessions more challenges step h = record {
   pairs = h.pairs;
   members = All-weaker (IsBetweenMembers sessions) (IsBetweenMembers more)
-      (λ c b. record { from = step c.from b.from; to = step c.to b.to; differ = b.differ; terms = b.terms }) challenges h.members;
+      (λ c b. record { from = step c.from b.from; to = step c.to b.to; differ = b.differ; terms = b.terms }) challenges
+      h.members;
 }
 
 -- a member goes with its challenges
-pub AreChallengesOf-without : (sessions : List ℕ) (session : ℕ) (challenges : List Challenge) → AreChallengesOf sessions challenges
+pub AreChallengesOf-without : (sessions : List ℕ) (session : ℕ) (challenges : List Challenge)
+    → AreChallengesOf sessions challenges
     → AreChallengesOf (filter (λ s. not (eqb s session)) sessions) (without_challenges_of session challenges)
 AreChallengesOf-without sessions session challenges h =
     let stays : ℕ → Bool = λ s. not (eqb s session) in
@@ -46,7 +50,8 @@ AreChallengesOf-without sessions session challenges h =
     }
 
 -- a member challenges another
-pub AreChallengesOf-with : (sessions : List ℕ) (new : Challenge) (challenges : List Challenge) → IsBetweenMembers sessions new
+pub AreChallengesOf-with : (sessions : List ℕ) (new : Challenge) (challenges : List Challenge)
+    → IsBetweenMembers sessions new
     → AreChallengesOf sessions challenges → AreChallengesOf sessions (with_challenge new challenges)
 AreChallengesOf-with sessions new challenges between h = record {
   pairs = AreChallenges-with new challenges h.pairs;

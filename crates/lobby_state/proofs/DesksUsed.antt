@@ -5,7 +5,8 @@ use Rattle.std.proofs.lemmas.List.Sums.{sum_by-cons}
 use Rattle.lobby_state.specs.declared.game.ListedGame.{ListedGame}
 use Rattle.lobby_state.specs.ShelfRoom.{desks_used}
 
-counted : (slot : Option ListedGame) (games : List (Option ListedGame)) → desks_used (slot ∷ games) ≡ cond (is_some slot) 1 0 + desks_used games
+counted : (slot : Option ListedGame) (games : List (Option ListedGame))
+    → desks_used (slot ∷ games) ≡ cond (is_some slot) 1 0 + desks_used games
 counted slot games = sum_by-cons (λ (s : Option ListedGame). cond (is_some s) 1 0) slot games
 
 -- one more where a free desk is taken
@@ -37,7 +38,8 @@ desks_used-free (slot ∷ games) (suc i) =
     omega (arith, before, after, rest)
 
 -- one less where a desk in use is freed
-pub desks_used-freed : (games : List (Option ListedGame)) (i : ℕ) (game : ListedGame) → slice_get games i ≡ Some (Some game)
+pub desks_used-freed : (games : List (Option ListedGame)) (i : ℕ) (game : ListedGame)
+    → slice_get games i ≡ Some (Some game)
     → desks_used (set games i None) + 1 ≡ desks_used games
 desks_used-freed [] i game there = cc
 desks_used-freed (slot ∷ games) zero game there =

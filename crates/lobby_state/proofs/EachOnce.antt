@@ -25,7 +25,8 @@ abbrev BothDiffer : Member → Member → Type 0
 BothDiffer one another = key_of one.name ≢ key_of another.name
 
 -- of two handles with different keys that stand in order, the first comes before the second
-before_by : (one another : Ordering) → another ≡ ordering_reverse one → is_lt another ≡ false → is_eq one ≡ false → is_lt one ≡ true
+before_by : (one another : Ordering) → another ≡ ordering_reverse one → is_lt another ≡ false → is_eq one ≡ false
+    → is_lt one ≡ true
 before_by Less another turned late differ = refl
 before_by Equal another turned late differ = cc
 before_by Greater another turned late differ = absurd (let bad : true ≡ false = sym (ap is_lt turned) ∙ late in cc)
@@ -43,15 +44,19 @@ rises one another late differ =
     (nat_list_cmp_total.antisymm (key_of another) (key_of one)) late (differ_by (key_of one) (key_of another) differ)
 
 -- a handle whose key differs from those of the others keeps all keys different
-differ_with : (b : Bool) (name other : List ℕ) (names : List (List ℕ)) → All (Differ name) (other ∷ names) → AllPairs Differ (other ∷ names)
-    → AllPairs Differ (with_name name names) → AllPairs Differ (if b then name ∷ other ∷ names else other ∷ with_name name names)
+differ_with : (b : Bool) (name other : List ℕ) (names : List (List ℕ)) → All (Differ name) (other ∷ names)
+    → AllPairs Differ (other ∷ names)
+    → AllPairs Differ (with_name name names)
+    → AllPairs Differ (if b then name ∷ other ∷ names else other ∷ with_name name names)
 differ_with true name other names new apart rest = AllPairs-cons Differ name (other ∷ names) new apart
 differ_with false name other names new apart rest =
     AllPairs-cons Differ other (with_name name names)
-    (All-with_name (Differ other) name names (λ e. All-head (Differ name) other names new (sym e)) (pairs_head Differ other names apart))
+    (All-with_name (Differ other) name names (λ e. All-head (Differ name) other names new (sym e))
+    (pairs_head Differ other names apart))
     rest
 
-differ_more : (name : List ℕ) (names : List (List ℕ)) → All (Differ name) names → AllPairs Differ names → AllPairs Differ (with_name name names)
+differ_more : (name : List ℕ) (names : List (List ℕ)) → All (Differ name) names → AllPairs Differ names
+    → AllPairs Differ (with_name name names)
 differ_more name [] new apart = AllPairs-cons Differ name [] (All-nil (Differ name)) apart
 differ_more name (other ∷ names) new apart =
     differ_with (is_before name other) name other names new apart
@@ -64,26 +69,34 @@ all_differ names [] apart between new = apart
 all_differ names (member ∷ members) apart between new =
     let first : All (Differ member.name) names = All-head (λ m. All (Differ m.name) names) member members new in
     let others : All (BothDiffer member) members = pairs_head BothDiffer member members between in
-    let behind : All (λ m. All (Differ m.name) names) members = All-tail (λ m. All (Differ m.name) names) member members new in
-    all_differ (with_name member.name names) members (differ_more member.name names first apart) (pairs_tail BothDiffer member members between)
+    let behind : All (λ m. All (Differ m.name) names) members =
+    All-tail (λ m. All (Differ m.name) names) member members new in
+    all_differ (with_name member.name names) members (differ_more member.name names first apart)
+    (pairs_tail BothDiffer member members between)
     (λ k d inside. All-with_name (Differ (get_or members k d).name) member.name names
     (λ e. others k d inside (sym e)) (behind k d inside))
 
 -- each handle is there once
-each_once : (names : List (List ℕ)) (members : List Member) → IsPermutation (names ++ map (λ member. member.name) members) (with_names names members)
-each_once names [] = subst (λ (ns : List (List ℕ)). IsPermutation ns names) (sym (append-nil names)) (IsPermutation-refl names)
+each_once : (names : List (List ℕ)) (members : List Member)
+    → IsPermutation (names ++ map (λ member. member.name) members) (with_names names members)
+each_once names [] =
+    subst (λ (ns : List (List ℕ)). IsPermutation ns names) (sym (append-nil names)) (IsPermutation-refl names)
 each_once names (member ∷ members) =
     let rest : List (List ℕ) = map (λ m. m.name) members in
-    IsPermutation-trans (names ++ member.name ∷ rest) (member.name ∷ (names ++ rest)) (with_names (with_name member.name names) members)
+    IsPermutation-trans (names ++ member.name ∷ rest) (member.name ∷ (names ++ rest))
+    (with_names (with_name member.name names) members)
     (IsPermutation-middle names member.name rest)
-    (IsPermutation-trans (member.name ∷ (names ++ rest)) (with_name member.name names ++ rest) (with_names (with_name member.name names) members)
+    (IsPermutation-trans (member.name ∷ (names ++ rest)) (with_name member.name names ++ rest)
+    (with_names (with_name member.name names) members)
     (IsPermutation-append_left rest (member.name ∷ names) (with_name member.name names) (one_more member.name names))
     (each_once (with_name member.name names) members))
 
 -- and in order
-all_in_order : (names : List (List ℕ)) (members : List Member) → AreInOrder names → AreInOrder (with_names names members)
+all_in_order : (names : List (List ℕ)) (members : List Member) → AreInOrder names
+    → AreInOrder (with_names names members)
 all_in_order names [] order = order
-all_in_order names (member ∷ members) order = all_in_order (with_name member.name names) members (stays_in_order member.name names order)
+all_in_order names (member ∷ members) order =
+    all_in_order (with_name member.name names) members (stays_in_order member.name names order)
 
 pub lists_each : (members : List Member) → AllPairs BothDiffer members → ListsEach members (with_names [] members)
 lists_each members between =
@@ -96,5 +109,6 @@ lists_each members between =
     }
 
 -- so also where some of them are left out
-pub lists_each_of : (p : Member → Bool) (members : List Member) → AllPairs BothDiffer members → ListsEach (filter p members) (with_names [] (filter p members))
+pub lists_each_of : (p : Member → Bool) (members : List Member) → AllPairs BothDiffer members
+    → ListsEach (filter p members) (with_names [] (filter p members))
 lists_each_of p members between = lists_each (filter p members) (AllPairs-filter BothDiffer p members between)

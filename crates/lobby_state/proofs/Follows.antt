@@ -28,8 +28,10 @@ ForStore = List Account × List Shelved × List Order
 abbrev pub for_store : LobbyState → ForStore
 for_store lobby = (lobby.accounts, lobby.shelf.games, lobby.shelf.orders)
 
--- under these conditions the new lobby is well-formed where the old one is; each desk is in use for the game for which it
--- was; the lines that waited for a member are the first that do; and where nothing is said to a store it is to hold the same
+-- under these conditions the new lobby is well-formed where the old one is; each desk is in use for the game for which
+-- it
+-- was; the lines that waited for a member are the first that do; and where nothing is said to a store it is to hold the
+-- same
 pub record Follows (conditions silent : Type 0) (old new : LobbyState) : Type 0 where
   pub formed : conditions → IsWellFormed old → IsWellFormed new
   pub games : new.games ≡ old.games
@@ -41,7 +43,8 @@ pub stays : {conditions silent : Type 0} {lobby : LobbyState} → Follows condit
 stays = record { formed = λ _ h. h; games = refl; lines = λ _. begins_same _; store = λ _. refl }
 
 -- one step is made after the other
-pub and_then : {conditions silent : Type 0} {one two three : LobbyState} → Follows conditions silent one two → Follows conditions silent two three
+pub and_then : {conditions silent : Type 0} {one two three : LobbyState} → Follows conditions silent one two
+    → Follows conditions silent two three
     → Follows conditions silent one three
 and_then first second = record {
   formed = λ fits h. second.formed fits (first.formed fits h);
@@ -51,8 +54,10 @@ and_then first second = record {
 }
 
 -- what is done with somebody or something that is looked for isn't done where there is none
-pub if_there : {conditions silent : Type 0} {lobby : LobbyState} {X : Type 0} (after : Option X → LobbyState) (found : Option X)
-    → Follows conditions silent lobby (after None) → ((x : X) → found ≡ Some x → Follows conditions silent lobby (after (Some x)))
+pub if_there : {conditions silent : Type 0} {lobby : LobbyState} {X : Type 0} (after : Option X → LobbyState)
+    (found : Option X)
+    → Follows conditions silent lobby (after None)
+    → ((x : X) → found ≡ Some x → Follows conditions silent lobby (after (Some x)))
     → Follows conditions silent lobby (after found)
 if_there after None none some = none
 if_there after (Some x) none some = some x refl
@@ -72,13 +77,19 @@ pub record Alike (old new : Member) : Type 0 where
   pub lines : BeginsWith old.waiting new.waiting
 
 -- one member is changed
-pub changed : {conditions silent : Type 0} (lobby : LobbyState) (test : Member → Bool) (change : Member → Member) → ((m : Member) → Alike m (change m))
+pub changed : {conditions silent : Type 0} (lobby : LobbyState) (test : Member → Bool) (change : Member → Member)
+    → ((m : Member) → Alike m (change m))
     → Follows conditions silent lobby (record lobby { members = change_first test change lobby.members })
 changed lobby test change alike = record {
-  formed = λ _ h. member_changed lobby test change (λ m. ap (λ (k : KnownAs). k.0) (alike m).same) (λ m. ap (λ (k : KnownAs). k.1) (alike m).same)
+  formed = λ _ h.
+      member_changed lobby test change (λ m. ap (λ (k : KnownAs). k.0) (alike m).same)
+      (λ m. ap (λ (k : KnownAs). k.1) (alike m).same)
       (λ m seats. subst (λ (k : KnownAs). All (IsSeatOf lobby.games k.0) k.2.rows) (sym (alike m).same) seats) h;
   games = refl;
-  lines = λ session. kept_change test change (λ m. record { session = ap (λ (k : KnownAs). k.0) (alike m).same; lines = (alike m).lines }) session lobby.members;
+  lines = λ session.
+      kept_change test change
+      (λ m. record { session = ap (λ (k : KnownAs). k.0) (alike m).same; lines = (alike m).lines }) session
+      lobby.members;
   store = λ _. refl;
 }
 
@@ -100,23 +111,51 @@ all_told test line = record {
 -- ---- the other lists
 
 module _ {conditions silent : Type 0} (lobby : LobbyState) where
-  pub other_challenges : (challenges : List Challenge) → (conditions → IsWellFormed lobby → AreChallengesOf (sessions_of lobby.members) challenges)
+  pub other_challenges : (challenges : List Challenge)
+      → (conditions → IsWellFormed lobby → AreChallengesOf (sessions_of lobby.members) challenges)
       → Follows conditions silent lobby (record lobby { challenges = challenges })
   other_challenges challenges are =
-      record { formed = λ fits h. with_challenges lobby challenges (are fits h) h; games = refl; lines = λ _. begins_same _; store = λ _. refl }
+      record {
+        formed = λ fits h. with_challenges lobby challenges (are fits h) h;
+        games = refl;
+        lines = λ _. begins_same _;
+        store = λ _. refl;
+      }
 
-  pub fewer_challenges : (test : Challenge → Bool) → Follows conditions silent lobby (record lobby { challenges = filter test lobby.challenges })
+  pub fewer_challenges : (test : Challenge → Bool)
+      → Follows conditions silent lobby (record lobby { challenges = filter test lobby.challenges })
   fewer_challenges test =
-      other_challenges (filter test lobby.challenges) (λ _ h. AreChallengesOf-filter (sessions_of lobby.members) test lobby.challenges h.challenges)
+      other_challenges (filter test lobby.challenges)
+      (λ _ h. AreChallengesOf-filter (sessions_of lobby.members) test lobby.challenges h.challenges)
 
-  pub other_seeks : (seeks : List Seek) → (conditions → IsWellFormed lobby → AreSeeksOf (sessions_of lobby.members) seeks)
+  pub other_seeks : (seeks : List Seek)
+      → (conditions → IsWellFormed lobby → AreSeeksOf (sessions_of lobby.members) seeks)
       → Follows conditions silent lobby (record lobby { seeks = seeks })
-  other_seeks seeks are = record { formed = λ fits h. with_seeks lobby seeks (are fits h) h; games = refl; lines = λ _. begins_same _; store = λ _. refl }
+  other_seeks seeks are =
+      record {
+        formed = λ fits h. with_seeks lobby seeks (are fits h) h;
+        games = refl;
+        lines = λ _. begins_same _;
+        store = λ _. refl;
+      }
 
-  pub other_partners : (partners : PartnerLists) → (conditions → IsWellFormed lobby → ArePartnersOf (sessions_of lobby.members) partners)
+  pub other_partners : (partners : PartnerLists)
+      → (conditions → IsWellFormed lobby → ArePartnersOf (sessions_of lobby.members) partners)
       → Follows conditions silent lobby (record lobby { partners = partners })
   other_partners partners are =
-      record { formed = λ fits h. with_partners lobby partners (are fits h) h; games = refl; lines = λ _. begins_same _; store = λ _. refl }
+      record {
+        formed = λ fits h. with_partners lobby partners (are fits h) h;
+        games = refl;
+        lines = λ _. begins_same _;
+        store = λ _. refl;
+      }
 
-  pub other_channels : (channels : List Membership) → Follows conditions silent lobby (record lobby { channels = channels })
-  other_channels channels = record { formed = λ _ h. with_channels lobby channels h; games = refl; lines = λ _. begins_same _; store = λ _. refl }
+  pub other_channels : (channels : List Membership)
+      → Follows conditions silent lobby (record lobby { channels = channels })
+  other_channels channels =
+      record {
+        formed = λ _ h. with_channels lobby channels h;
+        games = refl;
+        lines = λ _. begins_same _;
+        store = λ _. refl;
+      }

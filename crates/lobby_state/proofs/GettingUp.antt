@@ -27,10 +27,12 @@ idle desk m none = ap (λ places. record m { places = places }) (sym (nothing_le
 -- and so does who has left
 twice : (desk : ℕ) (m : Member) → off_desk desk (off_desk desk m) ≡ off_desk desk m
 twice desk m =
-    idle desk (off_desk desk m) (any-filter_same (is_at desk) (is_elsewhere desk) false (λ place at. ap not at) m.places.rows)
+    idle desk (off_desk desk m)
+    (any-filter_same (is_at desk) (is_elsewhere desk) false (λ place at. ap not at) m.places.rows)
 
 -- the seat's player plays in the desk's game
-plays : (games : List (Option ListedGame)) (desk session : ℕ) (place : Place) → IsSeatOf games session place → IsTrue (is_at desk place)
+plays : (games : List (Option ListedGame)) (desk session : ℕ) (place : Place) → IsSeatOf games session place
+    → IsTrue (is_at desk place)
     → IsTrue (plays_in (game_in (slice_get games (desk - 1))) session)
 plays games desk session place h at =
     let here : slice_get games (desk - 1) ≡ Some (Some h.game) =
@@ -39,10 +41,12 @@ plays games desk session place h at =
     let within = slice_get_within seats place.seat h.seat h.sits in
     let is_seat = get_or_from_slice_get seats place.seat h.seat h.seat h.sits in
     ap (λ o. plays_in (game_in o) session) here
-    ∙ list_any_at (plays_as session) seats place.seat h.seat within (ap (plays_as session) is_seat ∙ eq-eqb h.seat.session session h.theirs)
+    ∙ list_any_at (plays_as session) seats place.seat h.seat within
+    (ap (plays_as session) is_seat ∙ eq-eqb h.seat.session session h.theirs)
 
 -- one of the places at the desk is enough
-some_plays : (games : List (Option ListedGame)) (desk session : ℕ) (places : List Place) → All (IsSeatOf games session) places
+some_plays : (games : List (Option ListedGame)) (desk session : ℕ) (places : List Place)
+    → All (IsSeatOf games session) places
     → IsTrue (list_any (is_at desk) places) → IsTrue (plays_in (game_in (slice_get games (desk - 1))) session)
 some_plays games desk session places seats there =
     let one = Any-from_list_any (is_at desk) places there in
@@ -55,12 +59,14 @@ all_play games desk members seats =
     All-weaker (HasSeats games) (PlaysThere desk (game_in (slice_get games (desk - 1))))
     (λ m has. some_plays games desk m.session m.places.rows has) members seats
 
-stays : (desk : ℕ) (game : Option ListedGame) (m : Member) → PlaysThere desk game m → plays_in game m.session ≡ false → off_desk desk m ≡ m
+stays : (desk : ℕ) (game : Option ListedGame) (m : Member) → PlaysThere desk game m → plays_in game m.session ≡ false
+    → off_desk desk m ≡ m
 stays desk game m there none = idle desk m (false_from_ne_true _ (λ at. true≢false (sym (there at) ∙ none)))
 
 -- where the players of that game get up, nobody has a place at the desk any more
 pub all_up : (desk : ℕ) (game : Option ListedGame) (players : List Player) (members : List Member)
-    → ((session : ℕ) → plays_in game session ≡ list_any (plays_as session) players) → IsDistinct eqb (map (λ (m : Member). m.session) members)
+    → ((session : ℕ) → plays_in game session ≡ list_any (plays_as session) players)
+    → IsDistinct eqb (map (λ (m : Member). m.session) members)
     → All (PlaysThere desk game) members → change_players (off_desk desk) players members ≡ map (off_desk desk) members
 all_up desk game players members are apart there =
     all_once (off_desk desk) (λ _. refl) (twice desk) players members apart

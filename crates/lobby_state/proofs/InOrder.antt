@@ -36,28 +36,34 @@ pub one_more : (name : List ℕ) (names : List (List ℕ)) → IsPermutation (na
 one_more name [] = IsPermutation-refl (name ∷ [])
 one_more name (other ∷ names) = more_by (is_before name other) name other names (one_more name names)
 
-pub All-with_name : (P : List ℕ → Type 0) (name : List ℕ) (names : List (List ℕ)) → P name → All P names → All P (with_name name names)
-All-with_name P name names head tail = All-permutation P (name ∷ names) (with_name name names) (one_more name names) (All-cons P name names head tail)
+pub All-with_name : (P : List ℕ → Type 0) (name : List ℕ) (names : List (List ℕ)) → P name → All P names
+    → All P (with_name name names)
+All-with_name P name names head tail =
+    All-permutation P (name ∷ names) (with_name name names) (one_more name names) (All-cons P name names head tail)
 
 -- they stay in order
 abbrev NotBehind : List ℕ → List ℕ → Type 0
 NotBehind one another = is_before another one ≡ false
 
-order_by : (b : Bool) (name other : List ℕ) (names : List (List ℕ)) → is_before name other ≡ b → AreInOrder (other ∷ names)
+order_by : (b : Bool) (name other : List ℕ) (names : List (List ℕ)) → is_before name other ≡ b
+    → AreInOrder (other ∷ names)
     → AreInOrder (with_name name names) → AreInOrder (if b then name ∷ other ∷ names else other ∷ with_name name names)
 order_by true name other names e order rest =
     let first : NotBehind name other = keys_rank.one_way name other e in
     AllPairs-cons NotBehind name (other ∷ names)
     (All-cons (NotBehind name) other names first
-    (All-weaker (NotBehind other) (NotBehind name) (λ y h. keys_rank.chain y other name h first) names (pairs_head NotBehind other names order)))
+    (All-weaker (NotBehind other) (NotBehind name) (λ y h. keys_rank.chain y other name h first) names
+    (pairs_head NotBehind other names order)))
     order
 order_by false name other names e order rest =
-    AllPairs-cons NotBehind other (with_name name names) (All-with_name (NotBehind other) name names e (pairs_head NotBehind other names order)) rest
+    AllPairs-cons NotBehind other (with_name name names)
+    (All-with_name (NotBehind other) name names e (pairs_head NotBehind other names order)) rest
 
 pub stays_in_order : (name : List ℕ) (names : List (List ℕ)) → AreInOrder names → AreInOrder (with_name name names)
 stays_in_order name [] order = AllPairs-cons NotBehind name [] (All-nil (NotBehind name)) order
 stays_in_order name (other ∷ names) order =
-    order_by (is_before name other) name other names refl order (stays_in_order name names (pairs_tail NotBehind other names order))
+    order_by (is_before name other) name other names refl order
+    (stays_in_order name names (pairs_tail NotBehind other names order))
 
 -- no handle at all is in order
 pub none_in_order : AreInOrder []

@@ -14,24 +14,38 @@ use Rattle.lobby_state.specs.Play.{play_effect}
 use Rattle.lobby_state.specs.Tell.{tell_effect}
 use Rattle.fics_words.proofs.Causes.{none_holds}
 
-first_refused : (first second : Option Member) (member other : Member) (rest : List Cause) → first ≡ Some member → second ≡ Some other
+first_refused : (first second : Option Member) (member other : Member) (rest : List Cause) → first ≡ Some member
+    → second ≡ Some other
     → censors (Some member) other ≡ true
-    → first_cause ((is_none first, NotIn) ∷ (is_none second, NoSuchPlayer) ∷ (holds (censors first) second, Refuses) ∷ rest) ≡ Some Refuses
+    → first_cause
+    ((is_none first, NotIn) ∷ (is_none second, NoSuchPlayer) ∷ (holds (censors first) second, Refuses) ∷ rest)
+    ≡ Some Refuses
 first_refused first second member other rest one two listed =
-    ap (λ (f : Option Member). first_cause ((is_none f, NotIn) ∷ (is_none second, NoSuchPlayer) ∷ (holds (censors f) second, Refuses) ∷ rest)) one
-    ∙ ap (λ (s : Option Member). first_cause ((is_none s, NoSuchPlayer) ∷ (holds (censors (Some member)) s, Refuses) ∷ rest)) two
+    ap (λ (f : Option Member).
+    first_cause ((is_none f, NotIn) ∷ (is_none second, NoSuchPlayer) ∷ (holds (censors f) second, Refuses) ∷ rest))
+    one
+    ∙ ap
+    (λ (s : Option Member). first_cause ((is_none s, NoSuchPlayer) ∷ (holds (censors (Some member)) s, Refuses) ∷ rest))
+    two
     ∙ ap (λ (b : Bool). cond b (Some Refuses) (first_cause rest)) listed
 
-tell_refused : (lobby : LobbyState) (session : ℕ) (to text : List ℕ) (member other : Member) → member_of lobby session ≡ Some member → named lobby to ≡ Some other
+tell_refused : (lobby : LobbyState) (session : ℕ) (to text : List ℕ) (member other : Member)
+    → member_of lobby session ≡ Some member → named lobby to ≡ Some other
     → censors (Some member) other ≡ true → first_cause (tell_effect lobby session to text).causes ≡ Some Refuses
 tell_refused lobby session to text member other one two listed =
-    first_refused (member_of lobby session) (named lobby to) member other ((holds is_full (named lobby to), QueueFull) ∷ []) one two listed
+    first_refused (member_of lobby session) (named lobby to) member other
+    ((holds is_full (named lobby to), QueueFull) ∷ []) one two listed
 
-unheard : (lobby : LobbyState) (session : ℕ) (to : List ℕ) (member other : Member) → member_of lobby session ≡ Some member → named lobby to ≡ Some other
+unheard : (lobby : LobbyState) (session : ℕ) (to : List ℕ) (member other : Member)
+    → member_of lobby session ≡ Some member → named lobby to ≡ Some other
     → censors (Some member) other ≡ true → IsUnheard lobby session to
 unheard lobby session to member other one two listed = record {
-  refused = λ text. ap (λ (c : Option Refusal). answered c (tell_effect lobby session to text).reply) (tell_refused lobby session to text member other one two listed);
-  nothing = λ text. ap (λ (c : Option Refusal). unless c lobby (tell_effect lobby session to text).after) (tell_refused lobby session to text member other one two listed);
+  refused = λ text.
+      ap (λ (c : Option Refusal). answered c (tell_effect lobby session to text).reply)
+      (tell_refused lobby session to text member other one two listed);
+  nothing = λ text.
+      ap (λ (c : Option Refusal). unless c lobby (tell_effect lobby session to text).after)
+      (tell_refused lobby session to text member other one two listed);
 }
 
 pub none_where_done : {R : Type 0} (c : Option Refusal) (reply other : R) → answered c reply ≡ Ok other → c ≡ None

@@ -1,4 +1,5 @@
--- What each lobby act keeps, in one table; and what follows of its answer and of the lobby afterwards, for all acts alike.
+-- What each lobby act keeps, in one table; and what follows of its answer and of the lobby afterwards, for all acts
+-- alike.
 use Rattle.std.proofs.Common.{◌≡◌, ◌≢◌, ℕ, not, List, Some, None, refl}
 use Rattle.std.specs.Prelude.{IfOk}
 use Rattle.fics_words.specs.Effect.{NoneHolds}
@@ -54,7 +55,8 @@ LeavesStore (Register digest) = ⊥
 LeavesStore (Saved upto) = ⊥
 LeavesStore _ = Unit {0}
 
--- what an act of a session keeps: what holds of every act; the lines that wait for a member, but for its own Fetch and Bye;
+-- what an act of a session keeps: what holds of every act; the lines that wait for a member, but for its own Fetch and
+-- Bye;
 -- and what a store is to hold
 pub record ActKeeps (lobby : LobbyState) (by : ℕ) (act : LobbyAct) : Type 0 where
   pub kept : KeepsWhere (FitsLobby act) lobby (lobby_effect lobby by act)
@@ -64,7 +66,8 @@ pub record ActKeeps (lobby : LobbyState) (by : ℕ) (act : LobbyAct) : Type 0 wh
 
 -- mostly what stands afterwards follows what stood before
 keeps : {lobby : LobbyState} {by : ℕ} {act : LobbyAct}
-    → Follows (FitsLobby act × NoneHolds (lobby_effect lobby by act).causes) (LeavesStore act) lobby (lobby_effect lobby by act).after
+    → Follows (FitsLobby act × NoneHolds (lobby_effect lobby by act).causes) (LeavesStore act) lobby
+    (lobby_effect lobby by act).after
     → (IsWellFormed lobby → TellsDesks (lobby_effect lobby by act).reply) → ActKeeps lobby by act
 keeps step tells = record {
   kept = record { formed = λ fits none h. step.formed (fits, none) h; games = step.games; tells = tells };
@@ -88,32 +91,45 @@ keeps_act lobby by (Unpost number) =
     keeps (other_seeks lobby _ (λ _ h.
     AreSeeksOf-filter (sessions_of lobby.members) (λ seek. not (is_by by number seek)) lobby.seeks h.seeks)) (λ _. tt)
 keeps_act lobby by (Var which on) =
-    keeps (changed lobby (is_session by) (with_var which on) (λ m. record { same = refl; lines = begins_same m.waiting })) (λ _. tt)
+    keeps
+    (changed lobby (is_session by) (with_var which on) (λ m. record { same = refl; lines = begins_same m.waiting }))
+    (λ _. tt)
 keeps_act lobby by (OnList which name on) =
     keeps (changed lobby (is_session by) (λ m. (listing which name on m).after) (λ m. listed which _ m)) (λ _. tt)
 keeps_act lobby by (Tell to text) =
-    keeps (if_there (λ caller. told lobby caller to text) (member_of lobby by) stays (λ caller _. one_told (is_named to) _)) (λ _. tt)
+    keeps
+    (if_there (λ caller. told lobby caller to text) (member_of lobby by) stays (λ caller _. one_told (is_named to) _))
+    (λ _. tt)
 keeps_act lobby by (Shout text) =
-    keeps (if_there (λ caller. shouted lobby by caller text) (member_of lobby by) stays (λ caller _. all_told (hears_shouts by) _)) (λ _. tt)
-keeps_act lobby by (Channel channel on) = keeps (other_channels lobby (change_of lobby.channels by channel on).after) (λ _. tt)
+    keeps (if_there (λ caller. shouted lobby by caller text) (member_of lobby by) stays
+    (λ caller _. all_told (hears_shouts by) _))
+    (λ _. tt)
+keeps_act lobby by (Channel channel on) =
+    keeps (other_channels lobby (change_of lobby.channels by channel on).after) (λ _. tt)
 keeps_act lobby by (TellChannel channel text) =
     keeps (if_there (λ caller. channel_told lobby by channel caller text) (member_of lobby by) stays (λ caller _.
     all_told (hears_channel lobby.channels by channel) _)) (λ _. tt)
 keeps_act lobby by (Decline name) =
     keeps (if_there (λ caller. declined lobby caller (offer_of lobby by name)) (member_of lobby by) stays (λ caller _.
     if_there (λ offer. declined lobby (Some caller) offer) (offer_of lobby by name) stays (λ offer _.
-    and_then (fewer_challenges lobby (λ other. not (is_between offer.from offer.to other))) (all_told (is_session offer.from) _)))) (λ _. tt)
+    and_then (fewer_challenges lobby (λ other. not (is_between offer.from offer.to other)))
+    (all_told (is_session offer.from) _))))
+    (λ _. tt)
 keeps_act lobby by (Withdraw name) =
     keeps (if_there (λ own. withdrawn lobby own) (own_of lobby by name) stays (λ own _.
     fewer_challenges lobby (λ other. not (is_between own.from own.to other)))) (λ _. tt)
 keeps_act lobby by (Partner None) = keeps (single_follows lobby by) (λ _. tt)
-keeps_act lobby by (Partner (Some to)) = keeps (partnered_follows lobby by to) (λ _. tells_asked (holds (is_asked_by lobby by) (named lobby to)))
+keeps_act lobby by (Partner (Some to)) =
+    keeps (partnered_follows lobby by to) (λ _. tells_asked (holds (is_asked_by lobby by) (named lobby to)))
 keeps_act lobby by (Ptell text) =
     keeps (if_there (λ caller. confided lobby caller (partner_in lobby by) text) (member_of lobby by) stays (λ caller _.
-    if_there (λ partner. confided lobby (Some caller) partner text) (partner_in lobby by) stays (λ partner _. all_told (is_session partner) _))) (λ _. tt)
+    if_there (λ partner. confided lobby (Some caller) partner text) (partner_in lobby by) stays
+    (λ partner _. all_told (is_session partner) _)))
+    (λ _. tt)
 keeps_act lobby by SimOpen = keeps (placed_follows lobby by (switching (places_of lobby by)).after refl) (λ _. tt)
 keeps_act lobby by SimNext = keeps (placed_follows lobby by (turning Next (places_of lobby by)).after refl) (λ _. tt)
-keeps_act lobby by SimPrev = keeps (placed_follows lobby by (turning Previous (places_of lobby by)).after refl) (λ _. tt)
+keeps_act lobby by SimPrev =
+    keeps (placed_follows lobby by (turning Previous (places_of lobby by)).after refl) (λ _. tt)
 keeps_act lobby by (GoBoard name) =
     let places = places_of lobby by in
     keeps (placed_follows lobby by _ (rows_gone (first_against lobby (named lobby name) places.rows) places)) (λ _. tt)
@@ -133,7 +149,9 @@ keeps_act lobby by Going =
     keeps (record {
       formed = λ _ h. formed_going lobby by h;
       games = refl;
-      lines = λ session. kept_change (is_session by) leaving_member (λ m. same_lines m (leaving_member m) refl refl) session lobby.members;
+      lines = λ session.
+          kept_change (is_session by) leaving_member (λ m. same_lines m (leaving_member m) refl refl) session
+          lobby.members;
       store = λ _. refl;
     }) (places_at_desks lobby by)
 keeps_act lobby by Bye = record {
@@ -155,14 +173,18 @@ keeps_act lobby by _ = keeps stays (λ _. tt)
 pub IsWellFormed-lobby_after : (lobby : LobbyState) (session : ℕ) (act : LobbyAct) → FitsLobby act → IsWellFormed lobby
     → IsWellFormed (lobby_after lobby session act)
 IsWellFormed-lobby_after lobby session act fits h =
-    holds_after IsWellFormed lobby (lobby_effect lobby session act) h (λ none. (keeps_act lobby session act).kept.formed fits none h)
+    holds_after IsWellFormed lobby (lobby_effect lobby session act) h
+    (λ none. (keeps_act lobby session act).kept.formed fits none h)
 
 -- no lobby act starts or ends a game
-pub games-lobby_after : (lobby : LobbyState) (session : ℕ) (act : LobbyAct) → (lobby_after lobby session act).games ≡ lobby.games
+pub games-lobby_after : (lobby : LobbyState) (session : ℕ) (act : LobbyAct)
+    → (lobby_after lobby session act).games ≡ lobby.games
 games-lobby_after lobby session act =
-    holds_after (λ (after : LobbyState). after.games ≡ lobby.games) lobby (lobby_effect lobby session act) refl (λ _. (keeps_act lobby session act).kept.games)
+    holds_after (λ (after : LobbyState). after.games ≡ lobby.games) lobby (lobby_effect lobby session act) refl
+    (λ _. (keeps_act lobby session act).kept.games)
 
 -- the answer to an act tells of desks alone
-pub tells-lobby_answer : (lobby : LobbyState) (session : ℕ) (act : LobbyAct) → IsWellFormed lobby → IfOk (lobby_answer lobby session act) TellsDesks
+pub tells-lobby_answer : (lobby : LobbyState) (session : ℕ) (act : LobbyAct) → IsWellFormed lobby
+    → IfOk (lobby_answer lobby session act) TellsDesks
 tells-lobby_answer lobby session act h =
     holds_of_answer TellsDesks (lobby_effect lobby session act) (λ _. (keeps_act lobby session act).kept.tells h)

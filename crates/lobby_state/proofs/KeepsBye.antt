@@ -21,28 +21,34 @@ use Rattle.partner_link.specs.Partners.{without}
 use Rattle.seek_match.specs.Matches.{concerns, without_challenges_of}
 use Rattle.seek_match.specs.Seeks.{is_by, without_seeks_of}
 
-pub formed_going : (lobby : LobbyState) (session : ℕ) → IsWellFormed lobby → IsWellFormed (going_effect lobby session).after
+pub formed_going : (lobby : LobbyState) (session : ℕ) → IsWellFormed lobby
+    → IsWellFormed (going_effect lobby session).after
 formed_going lobby session h =
     let gone : LobbyState = record lobby { members = change_first (is_session session) leaving_member lobby.members } in
     let left : LobbyState = without_seeks session (without_challenges session gone) in
-    let formed : IsWellFormed left = seeks_gone (without_challenges session gone) (λ seek. not (is_by session None seek))
+    let formed : IsWellFormed left =
+    seeks_gone (without_challenges session gone) (λ seek. not (is_by session None seek))
     (challenges_gone gone (λ c. not (concerns session c))
     (member_changed lobby (is_session session) leaving_member (λ _. refl) (λ _. refl) (λ _ seats. seats) h)) in
     resumes_gone (without_partner session left) (λ request. not (eqb request.by session))
-    (with_partners left (without left.partners session) (ArePartnersOf-forgotten (sessions_of left.members) session left.partners formed.partners) formed)
+    (with_partners left (without left.partners session)
+    (ArePartnersOf-forgotten (sessions_of left.members) session left.partners formed.partners) formed)
 
-pub formed_gone : (lobby : LobbyState) (session : ℕ) → IsWellFormed lobby → IsWellFormed (bye_effect lobby session).after
+pub formed_gone : (lobby : LobbyState) (session : ℕ) → IsWellFormed lobby
+    → IsWellFormed (bye_effect lobby session).after
 formed_gone lobby session h =
     let others : Member → Bool = λ m. not (is_session session m) in
     let stays : ℕ → Bool = λ s. not (eqb s session) in
     let left : List ℕ = filter stays (sessions_of lobby.members) in
-    let sessions : sessions_of (filter others lobby.members) ≡ left = map-filter (λ (m : Member). m.session) stays lobby.members in
+    let sessions : sessions_of (filter others lobby.members) ≡ left =
+    map-filter (λ (m : Member). m.session) stays lobby.members in
     record {
       accounts = h.accounts;
       hall = omega (arith, length-filter others lobby.members, count_by-le-length others lobby.members, h.hall);
       sessions = AllPairs-filter (λ a b. a.session ≢ b.session) others lobby.members h.sessions;
       handles = AllPairs-filter (λ a b. key_of a.name ≢ key_of b.name) others lobby.members h.handles;
-      challenges = subst (λ (ss : List ℕ). AreChallengesOf ss (without_challenges_of session lobby.challenges)) (sym sessions)
+      challenges =
+          subst (λ (ss : List ℕ). AreChallengesOf ss (without_challenges_of session lobby.challenges)) (sym sessions)
           (AreChallengesOf-without (sessions_of lobby.members) session lobby.challenges h.challenges);
       seeks = subst (λ (ss : List ℕ). AreSeeksOf ss (without_seeks_of session lobby.seeks)) (sym sessions)
           (AreSeeksOf-without (sessions_of lobby.members) session lobby.seeks h.seeks);

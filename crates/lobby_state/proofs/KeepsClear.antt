@@ -35,14 +35,16 @@ formed_freed lobby session desk h =
     (λ m has. All-filter (is_elsewhere desk) (IsSeatOf lobby.games m.session) m.places.rows has) h
 
 -- a place at another desk stays a seat where a desk is freed
-IsSeatOf-cleared : (games : List (Option ListedGame)) (desk session : ℕ) (place : Place) → IsDesk desk → is_elsewhere desk place ≡ true
+IsSeatOf-cleared : (games : List (Option ListedGame)) (desk session : ℕ) (place : Place) → IsDesk desk
+    → is_elsewhere desk place ≡ true
     → IsSeatOf games session place → IsSeatOf (set games (desk - 1) None) session place
 IsSeatOf-cleared games desk session place is_desk else h =
     let apart : place.desk ≢ desk = eqb-false place.desk desk (not-true (eqb place.desk desk) else) in
     record {
       desk = h.desk;
       game = h.game;
-      in_use = get-set_other games (desk - 1) (place.desk - 1) None (λ e. apart (omega (arith, is_desk, h.desk))) ∙ h.in_use;
+      in_use =
+          get-set_other games (desk - 1) (place.desk - 1) None (λ e. apart (omega (arith, is_desk, h.desk))) ∙ h.in_use;
       serial = h.serial;
       seat = h.seat;
       sits = h.sits;
@@ -74,7 +76,8 @@ used_game (Some None) there = absurd (let bad : false ≡ true = there in cc)
 used_game (Some (Some game)) there = (game, refl)
 
 -- the desk's game goes on the shelf
-formed_shelved : (lobby : LobbyState) (desk : ℕ) (game : StoredGame) → IsDesk desk → Replays game → IsSome (game_at lobby desk) → IsWellFormed lobby
+formed_shelved : (lobby : LobbyState) (desk : ℕ) (game : StoredGame) → IsDesk desk → Replays game
+    → IsSome (game_at lobby desk) → IsWellFormed lobby
     → IsWellFormed (record (cleared lobby desk) { shelf = shelved lobby.shelf game })
 formed_shelved lobby desk game is_desk replays there h =
     let left = formed_cleared lobby desk is_desk h in
@@ -91,26 +94,34 @@ formed_shelved lobby desk game is_desk replays there h =
     record { few = h.counted.few; room = omega (arith, fewer, long, room); orders = omega (arith, fewer, orders) } in
     assumption (stored, left.shelf.members, counted, left)
 
-formed_by : (lobby : LobbyState) (session desk serial : ℕ) → IsDesk desk → (game : Option StoredGame) (is_cleared : Bool)
-    → CanShelve lobby (Clear session desk serial) game → IsWellFormed lobby → IsWellFormed (committed lobby (Clear session desk serial) game is_cleared)
+formed_by : (lobby : LobbyState) (session desk serial : ℕ) → IsDesk desk
+    → (game : Option StoredGame) (is_cleared : Bool)
+    → CanShelve lobby (Clear session desk serial) game → IsWellFormed lobby
+    → IsWellFormed (committed lobby (Clear session desk serial) game is_cleared)
 formed_by lobby session desk serial is_desk None true can h = formed_cleared lobby desk is_desk h
-formed_by lobby session desk serial is_desk (Some game) true can h = formed_shelved lobby desk game is_desk can.0 can.1 h
+formed_by lobby session desk serial is_desk (Some game) true can h =
+    formed_shelved lobby desk game is_desk can.0 can.1 h
 formed_by lobby session desk serial is_desk game false can h = formed_freed lobby session desk h
 
 -- the games of the lobby don't ask whether one goes on the shelf
-games-put_away : (lobby : LobbyState) (desk : ℕ) (game : Option StoredGame) → (put_away lobby desk game).games ≡ set lobby.games (desk - 1) None
+games-put_away : (lobby : LobbyState) (desk : ℕ) (game : Option StoredGame)
+    → (put_away lobby desk game).games ≡ set lobby.games (desk - 1) None
 games-put_away lobby desk None = refl
 games-put_away lobby desk (Some game) = refl
 
-others_by : (lobby : LobbyState) (session desk serial : ℕ) → IsDesk desk → (game : Option StoredGame) (is_cleared : Bool) (number : ℕ) → 1 ≤ number
+others_by : (lobby : LobbyState) (session desk serial : ℕ) → IsDesk desk
+    → (game : Option StoredGame) (is_cleared : Bool) (number : ℕ) → 1 ≤ number
     → Some desk ≢ Some number
-    → slice_get (committed lobby (Clear session desk serial) game is_cleared).games (number - 1) ≡ slice_get lobby.games (number - 1)
+    → slice_get (committed lobby (Clear session desk serial) game is_cleared).games (number - 1)
+    ≡ slice_get lobby.games (number - 1)
 others_by lobby session desk serial is_desk game true number low other =
     ap (λ games. slice_get games (number - 1)) (games-put_away lobby desk game)
     ∙ get-set_other lobby.games (desk - 1) (number - 1) None (λ e. other (ap Some (omega (arith, is_desk))))
 others_by lobby session desk serial is_desk game false number low other = refl
 
-own_by : (lobby : LobbyState) (session desk serial : ℕ) (game : Option StoredGame) (is_cleared : Bool) (number : ℕ) (before : Option ListedGame) → desk ≡ number
+own_by : (lobby : LobbyState) (session desk serial : ℕ) (game : Option StoredGame) (is_cleared : Bool) (number : ℕ)
+    (before : Option ListedGame)
+    → desk ≡ number
     → slice_get lobby.games (number - 1) ≡ Some before
     → slice_get (committed lobby (Clear session desk serial) game is_cleared).games (number - 1)
     ≡ Some (game_after (Clear session desk serial) is_cleared before)
@@ -120,16 +131,19 @@ own_by lobby session desk serial game true number before same there =
     (get-set_same lobby.games (number - 1) None (slice_get_within lobby.games (number - 1) before there))
 own_by lobby session desk serial game false number before same there = there
 
-pub keeps_cleared : (lobby : LobbyState) (session desk serial : ℕ) → IsDesk desk → KeepsPlan lobby (Clear session desk serial)
+pub keeps_cleared : (lobby : LobbyState) (session desk serial : ℕ) → IsDesk desk
+    → KeepsPlan lobby (Clear session desk serial)
 keeps_cleared lobby session desk serial is_desk = record {
   is_desk = is_desk;
   formed = formed_by lobby session desk serial is_desk;
-  own = λ game is_cleared number before e there. own_by lobby session desk serial game is_cleared number before (same_Some desk number e) there;
+  own = λ game is_cleared number before e there.
+      own_by lobby session desk serial game is_cleared number before (same_Some desk number e) there;
   others = others_by lobby session desk serial is_desk;
 }
 
 -- there is a place on the shelf for the game of the desk that is cleared
-pub place-left : (lobby : LobbyState) (session desk serial : ℕ) (game : Option StoredGame) → CanShelve lobby (Clear session desk serial) game
+pub place-left : (lobby : LobbyState) (session desk serial : ℕ) (game : Option StoredGame)
+    → CanShelve lobby (Clear session desk serial) game
     → IsWellFormed lobby → IfSome game (λ _. length lobby.shelf.games < most_stored)
 place-left lobby session desk serial None can h = tt
 place-left lobby session desk serial (Some game) can h =

@@ -34,7 +34,8 @@ same_key a b e same =
     let yes : bytes_eq a a ≡ true = nat_list_eq_equiv.refl a in
     let bad : true ≡ false = sym yes ∙ ap (bytes_eq a) same ∙ e in cc
 
-with_one_more : (lobby : LobbyState) (session : ℕ) (name : List ℕ) → length lobby.members < 256 → member_of lobby session ≡ None
+with_one_more : (lobby : LobbyState) (session : ℕ) (name : List ℕ) → length lobby.members < 256
+    → member_of lobby session ≡ None
     → holder_of lobby (key_of name) ≡ None → IsWellFormed lobby → IsWellFormed (with_new_member lobby session name)
 with_one_more lobby session name few alone free h =
     let others : List ℕ = sessions_of lobby.members in
@@ -48,13 +49,23 @@ with_one_more lobby session name few alone free h =
           (λ k d inside. eqb-false _ session (find-none (is_session session) lobby.members alone k d inside));
       handles = all_pairs_push (λ a b. key_of a.name ≢ key_of b.name) lobby.members (new_member session name) h.handles
           (λ k d inside. same_key _ (key_of name) (find-none (has_handle (key_of name)) lobby.members free k d inside));
-      challenges = subst (λ (ss : List ℕ). AreChallengesOf ss lobby.challenges) (sym more) (AreChallengesOf-more others all lobby.challenges wider h.challenges);
-      seeks = subst (λ (ss : List ℕ). AreSeeksOf ss lobby.seeks) (sym more) (AreSeeksOf-more others all lobby.seeks wider h.seeks);
-      partners = subst (λ (ss : List ℕ). ArePartnersOf ss lobby.partners) (sym more) (ArePartnersOf-more others all lobby.partners wider h.partners);
+      challenges =
+          subst (λ (ss : List ℕ). AreChallengesOf ss lobby.challenges) (sym more)
+          (AreChallengesOf-more others all lobby.challenges wider h.challenges);
+      seeks =
+          subst (λ (ss : List ℕ). AreSeeksOf ss lobby.seeks) (sym more)
+          (AreSeeksOf-more others all lobby.seeks wider h.seeks);
+      partners =
+          subst (λ (ss : List ℕ). ArePartnersOf ss lobby.partners) (sym more)
+          (ArePartnersOf-more others all lobby.partners wider h.partners);
       games = h.games;
       serials = h.serials;
-      places = All-push (HasSeats lobby.games) lobby.members (new_member session name) h.places (All-nil (IsSeatOf lobby.games session));
-      shelf = subst (λ (ss : List ℕ). IsShelfOf ss lobby.shelf) (sym more) (IsShelfOf-more others all lobby.shelf wider h.shelf);
+      places =
+          All-push (HasSeats lobby.games) lobby.members (new_member session name) h.places
+          (All-nil (IsSeatOf lobby.games session));
+      shelf =
+          subst (λ (ss : List ℕ). IsShelfOf ss lobby.shelf) (sym more)
+          (IsShelfOf-more others all lobby.shelf wider h.shelf);
       counted = h.counted;
     }
 
@@ -64,16 +75,24 @@ entered_by : {conditions silent : Type 0} (check : Check) (lobby : LobbyState) (
     → Follows conditions silent lobby (welcomed check lobby session name)
 entered_by MissesPassword lobby session name formed = stays
 entered_by _ lobby session name formed =
-    record { formed = formed; games = refl; lines = λ own. kept_behind own lobby.members (new_member session name); store = λ _. refl }
+    record {
+      formed = formed;
+      games = refl;
+      lines = λ own. kept_behind own lobby.members (new_member session name);
+      store = λ _. refl;
+    }
 
 -- nobody comes in whose session or handle is there
 pub entered_follows : (lobby : LobbyState) (session : ℕ) (name digest : Option (List ℕ))
-    → Follows (Unit {0} × NoneHolds (enter_effect lobby session name digest).causes) (Unit {0}) lobby (enter_effect lobby session name digest).after
+    → Follows (Unit {0} × NoneHolds (enter_effect lobby session name digest).causes) (Unit {0}) lobby
+    (enter_effect lobby session name digest).after
 entered_follows lobby session name digest =
     let entrant = entrant_of lobby name digest in
     entered_by entrant.check lobby session entrant.name (λ fits h.
-    let parts = or_parts (is_some (member_of lobby session)) (is_some (holder_of lobby (key_of entrant.name))) fits.1.1.0 in
-    with_one_more lobby session entrant.name (leb-false 256 (length lobby.members) fits.1.0) (none_some (member_of lobby session) parts.0)
+    let parts =
+    or_parts (is_some (member_of lobby session)) (is_some (holder_of lobby (key_of entrant.name))) fits.1.1.0 in
+    with_one_more lobby session entrant.name (leb-false 256 (length lobby.members) fits.1.0)
+    (none_some (member_of lobby session) parts.0)
     (none_some (holder_of lobby (key_of entrant.name)) parts.1) h)
 
 pub tells_welcome : (check : Check) (name : List ℕ) → TellsDesks (welcome check name)
@@ -81,10 +100,13 @@ tells_welcome MissesPassword name = tt
 tells_welcome _ name = tt
 
 -- fewer names are taken than there are guests
-pub guest_is_least : (lobby : LobbyState) → IsWellFormed lobby → length lobby.members < 256 → IsLeastFree (names_taken lobby) (guest_in lobby)
+pub guest_is_least : (lobby : LobbyState) → IsWellFormed lobby → length lobby.members < 256
+    → IsLeastFree (names_taken lobby) (guest_in lobby)
 guest_is_least lobby h few =
     let front = length-map lobby.members (λ (m : Member). key_of m.name) in
     let back = length-map lobby.accounts (λ (a : Account). key_of a.name) in
-    let both = length-append (map (λ (m : Member). key_of m.name) lobby.members) (map (λ (a : Account). key_of a.name) lobby.accounts) in
+    let both =
+    length-append (map (λ (m : Member). key_of m.name) lobby.members)
+    (map (λ (a : Account). key_of a.name) lobby.accounts) in
     let most = h.accounts.1 in
     guests_are_least (names_taken lobby) (omega (arith, front, back, both, most))

@@ -18,11 +18,13 @@ found_is None h = tt
 found_is (Some place) h = h
 
 -- the places of a named member are at desks
-named_at_desks : (lobby : LobbyState) (name : List ℕ) (member : Option Member) → named lobby name ≡ member → IsWellFormed lobby
+named_at_desks : (lobby : LobbyState) (name : List ℕ) (member : Option Member) → named lobby name ≡ member
+    → IsWellFormed lobby
     → AreAtDesks (places_in member).rows
 named_at_desks lobby name None is h = All-nil (λ place. IsDesk place.desk)
 named_at_desks lobby name (Some member) is h =
-    All-weaker (IsSeatOf lobby.games member.session) (λ place. IsDesk place.desk) (λ place seat. seat.desk) member.places.rows
+    All-weaker (IsSeatOf lobby.games member.session) (λ place. IsDesk place.desk) (λ place seat. seat.desk)
+    member.places.rows
     (find-has (HasSeats lobby.games) (is_named name) lobby.members member h.places is)
 
 row_at_desk : (rows : List Place) (at : ℕ) → AreAtDesks rows → IfSome (slice_get rows at) (λ p. IsDesk p.desk)
@@ -30,7 +32,9 @@ row_at_desk [] at h = tt
 row_at_desk (p ∷ rows) zero h = h 0 p (omega arith)
 row_at_desk (p ∷ rows) (suc at) h = row_at_desk rows at (All-tail (λ place. IsDesk place.desk) p rows h)
 
-pub tells_found : (lobby : LobbyState) (name : List ℕ) → IsWellFormed lobby → TellsDesks (found (present_of (named lobby name)))
+pub tells_found : (lobby : LobbyState) (name : List ℕ) → IsWellFormed lobby
+    → TellsDesks (found (present_of (named lobby name)))
 tells_found lobby name h =
     found_is (present_of (named lobby name))
-    (row_at_desk (places_in (named lobby name)).rows (places_in (named lobby name)).at (named_at_desks lobby name (named lobby name) refl h))
+    (row_at_desk (places_in (named lobby name)).rows (places_in (named lobby name)).at
+    (named_at_desks lobby name (named lobby name) refl h))

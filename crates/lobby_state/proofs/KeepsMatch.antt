@@ -16,10 +16,12 @@ use Rattle.seek_match.specs.declared.challenge.Challenge.{Challenge}
 use Rattle.seek_match.specs.Matches.{with_challenge}
 
 new_between : (lobby : LobbyState) (session : ℕ) (to : List ℕ) (terms : Terms) (caller other : Member) → AreTerms terms
-    → member_of lobby session ≡ Some caller → named lobby to ≡ Some other → holds (is_session session) (named lobby to) ≡ false
+    → member_of lobby session ≡ Some caller → named lobby to ≡ Some other
+    → holds (is_session session) (named lobby to) ≡ false
     → IsBetweenMembers (sessions_of lobby.members) (record { from = caller.session; to = other.session; terms = terms })
 new_between lobby session to terms caller other bounds first second apart =
-    let own : caller.session ≡ session = eqb-true caller.session session (find-passes (is_session session) lobby.members caller first) in
+    let own : caller.session ≡ session =
+    eqb-true caller.session session (find-passes (is_session session) lobby.members caller first) in
     let differ = subst (λ (o : Option Member). holds (is_session session) o ≡ false) second apart in
     record {
       from = find-contained (λ m. m.session) (is_session session) lobby.members caller first;
@@ -32,7 +34,8 @@ pub challenged_follows : (lobby : LobbyState) (session : ℕ) (to : List ℕ) (t
     → Follows (AreTerms terms × NoneHolds (match_effect lobby session to terms).causes) (Unit {0}) lobby
     (challenged lobby (member_of lobby session) (named lobby to) to terms)
 challenged_follows lobby session to terms =
-    if_there (λ caller. challenged lobby caller (named lobby to) to terms) (member_of lobby session) stays (λ caller first.
+    if_there (λ caller. challenged lobby caller (named lobby to) to terms) (member_of lobby session) stays
+    (λ caller first.
     if_there (λ other. challenged lobby (Some caller) other to terms) (named lobby to) stays (λ other second.
     let challenge : Challenge = record { from = caller.session; to = other.session; terms = terms } in
     and_then

@@ -17,9 +17,11 @@ use Rattle.lobby_state.proofs.PartnerRows.{ArePartnersOf-asking, ArePartnersOf-p
 
 -- an ask
 pub partnered_follows : (lobby : LobbyState) (session : ℕ) (to : List ℕ)
-    → Follows (Unit {0} × NoneHolds (ask_effect lobby session to).causes) (Unit {0}) lobby (partnered lobby session (member_of lobby session) (named lobby to))
+    → Follows (Unit {0} × NoneHolds (ask_effect lobby session to).causes) (Unit {0}) lobby
+    (partnered lobby session (member_of lobby session) (named lobby to))
 partnered_follows lobby session to =
-    if_there (λ caller. partnered lobby session caller (named lobby to)) (member_of lobby session) stays (λ caller first.
+    if_there (λ caller. partnered lobby session caller (named lobby to)) (member_of lobby session) stays
+    (λ caller first.
     if_there (λ other. partnered lobby session (Some caller) other) (named lobby to) stays (λ other second.
     and_then
     (other_partners lobby (asking lobby.partners session other.session).after (λ fits h.
@@ -27,7 +29,8 @@ partnered_follows lobby session to =
     let alone = no_partner (partner_in lobby session) (partner_in lobby session) refl free.0 in
     let other_alone = no_partner (partner_in lobby other.session) (partner_in lobby other.session) refl
     (sym (ap (λ (o : Option Member). holds (has_partner lobby) o) second) ∙ free.1) in
-    ArePartnersOf-asking (sessions_of lobby.members) lobby.partners session other.session (is_there lobby session caller first)
+    ArePartnersOf-asking (sessions_of lobby.members) lobby.partners session other.session
+    (is_there lobby session caller first)
     (find-contained (λ (m : Member). m.session) (is_named to) lobby.members other second) alone other_alone h.partners))
     (all_told (is_session other.session) _)))
 
@@ -39,8 +42,10 @@ tells_asked false = tt
 pub single_follows : {conditions silent : Type 0} (lobby : LobbyState) (session : ℕ)
     → Follows conditions silent lobby (single lobby session (member_of lobby session) (partner_in lobby session))
 single_follows lobby session =
-    if_there (λ caller. single lobby session caller (partner_in lobby session)) (member_of lobby session) stays (λ caller _.
+    if_there (λ caller. single lobby session caller (partner_in lobby session)) (member_of lobby session) stays
+    (λ caller _.
     if_there (λ partner. single lobby session (Some caller) partner) (partner_in lobby session) stays (λ partner _.
     and_then
-    (other_partners lobby (parted lobby.partners session) (λ _ h. ArePartnersOf-parted (sessions_of lobby.members) session lobby.partners h.partners))
+    (other_partners lobby (parted lobby.partners session)
+    (λ _ h. ArePartnersOf-parted (sessions_of lobby.members) session lobby.partners h.partners))
     (all_told (is_session partner) _)))

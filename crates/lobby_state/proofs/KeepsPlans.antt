@@ -24,7 +24,8 @@ use Rattle.lobby_state.proofs.Refusals.{holds_of_answer}
 use Rattle.lobby_state.proofs.StartPlans.{CanPlan}
 
 -- the table: what each pair act keeps
-pub keeps_pair : (lobby : LobbyState) (session : ℕ) (act : PairAct) → NamesDesk act → CanPlan lobby (plan_effect lobby session act)
+pub keeps_pair : (lobby : LobbyState) (session : ℕ) (act : PairAct) → NamesDesk act
+    → CanPlan lobby (plan_effect lobby session act)
 keeps_pair lobby session (Accept name) names = keeps_accept lobby session name
 keeps_pair lobby session (Play number) names = keeps_play lobby session number
 keeps_pair lobby session (Clear desk serial) names = λ _ _. names
@@ -38,9 +39,11 @@ keeps_plan lobby (Resuming desk serial number terms seats) can = keeps_resumed l
 keeps_plan lobby (Ask from to number) can = keeps_asked lobby from to number can
 
 -- a plan that the lobby gave can be carried out in it
-pub IfOk-plan_of : (lobby : LobbyState) (session : ℕ) (act : PairAct) → NamesDesk act → IsWellFormed lobby → IfOk (plan_of lobby session act) (IsPlanned lobby)
+pub IfOk-plan_of : (lobby : LobbyState) (session : ℕ) (act : PairAct) → NamesDesk act → IsWellFormed lobby
+    → IfOk (plan_of lobby session act) (IsPlanned lobby)
 IfOk-plan_of lobby session act names h =
-    holds_of_answer (IsPlanned lobby) (plan_effect lobby session act) (λ none. keeps_pair lobby session act names none h)
+    holds_of_answer (IsPlanned lobby) (plan_effect lobby session act)
+    (λ none. keeps_pair lobby session act names none h)
 
 pub plan_of-is : (lobby : LobbyState) (session : ℕ) (act : PairAct) (plan : Plan) → IsWellFormed lobby → NamesDesk act
     → plan_of lobby session act ≡ Ok plan → IsPlanned lobby plan
@@ -51,11 +54,14 @@ plan_of-is lobby session act plan h names e =
 pub desk_of-is : (lobby : LobbyState) (plan : Plan) → IsPlanned lobby plan → IfSome (desk_of plan) IsDesk
 desk_of-is lobby plan can = (keeps_plan lobby plan can).is_desk
 
-pub IfOk-desk_of : (lobby : LobbyState) (r : Result Plan Refusal) → IfOk r (IsPlanned lobby) → IfOk r (λ plan. IfSome (desk_of plan) IsDesk)
+pub IfOk-desk_of : (lobby : LobbyState) (r : Result Plan Refusal) → IfOk r (IsPlanned lobby)
+    → IfOk r (λ plan. IfSome (desk_of plan) IsDesk)
 IfOk-desk_of lobby (Ok plan) can = desk_of-is lobby plan can
 IfOk-desk_of lobby (Err cause) can = tt
 
 -- a lobby in which a plan was carried out is well-formed
-pub IsWellFormed-committed : (lobby : LobbyState) (plan : Plan) (game : Option StoredGame) (is_cleared : Bool) → IsPlanned lobby plan
+pub IsWellFormed-committed : (lobby : LobbyState) (plan : Plan) (game : Option StoredGame) (is_cleared : Bool)
+    → IsPlanned lobby plan
     → CanShelve lobby plan game → IsWellFormed lobby → IsWellFormed (committed lobby plan game is_cleared)
-IsWellFormed-committed lobby plan game is_cleared can shelving h = (keeps_plan lobby plan can).formed game is_cleared shelving h
+IsWellFormed-committed lobby plan game is_cleared can shelving h =
+    (keeps_plan lobby plan can).formed game is_cleared shelving h

@@ -24,28 +24,40 @@ none_there None e = refl
 none_there (Some account) e = cc
 
 -- an account of a handle without one, where there is room for it
-with_one_account : (lobby : LobbyState) (account : Account) → has_account lobby.accounts account.name ≡ false → leb 4096 (length lobby.accounts) ≡ false
+with_one_account : (lobby : LobbyState) (account : Account) → has_account lobby.accounts account.name ≡ false
+    → leb 4096 (length lobby.accounts) ≡ false
     → IsWellFormed lobby → IsWellFormed (with_account lobby account)
 with_one_account lobby account free room h =
-    let fresh = HasOneEach-append lobby.accounts account h.accounts.0 (none_there (account_of lobby.accounts (key_of account.name)) free) in
+    let fresh =
+    HasOneEach-append lobby.accounts account h.accounts.0
+    (none_there (account_of lobby.accounts (key_of account.name)) free) in
     let few = length-one_more lobby.accounts account (leb-false 4096 (length lobby.accounts) room) in
-    assumption (fresh, few, AreCounted-account lobby.accounts account lobby.games lobby.started lobby.shelf h.counted, h)
+    assumption
+    (fresh, few, AreCounted-account lobby.accounts account lobby.games lobby.started lobby.shelf h.counted, h)
 
 -- and with the order that puts it into the store
-with_new_one : (lobby : LobbyState) (account : Account) → has_account lobby.accounts account.name ≡ false → leb 4096 (length lobby.accounts) ≡ false
+with_new_one : (lobby : LobbyState) (account : Account) → has_account lobby.accounts account.name ≡ false
+    → leb 4096 (length lobby.accounts) ≡ false
     → IsWellFormed lobby → IsWellFormed (with_new_account lobby account)
 with_new_one lobby account free room h =
     let more = with_one_account lobby account free room h in
     let counted = AreCounted-new_account lobby.accounts account lobby.games lobby.started lobby.shelf h.counted in
-    assumption (more.accounts, IsShelfOf-ordered (sessions_of lobby.members) lobby.shelf (account_order lobby.shelf account) refl h.shelf, counted, h)
+    assumption (
+      more.accounts,
+      IsShelfOf-ordered (sessions_of lobby.members) lobby.shelf (account_order lobby.shelf account) refl h.shelf,
+      counted,
+      h,
+    )
 
 pub registered_follows : (lobby : LobbyState) (session : ℕ) (digest : List ℕ)
-    → Follows (Unit {0} × NoneHolds (registration_effect lobby session digest).causes) ⊥ lobby (registered lobby (member_of lobby session) digest)
+    → Follows (Unit {0} × NoneHolds (registration_effect lobby session digest).causes) ⊥ lobby
+    (registered lobby (member_of lobby session) digest)
 registered_follows lobby session digest =
     if_there (λ member. registered lobby member digest) (member_of lobby session) stays (λ member found.
     record {
       formed = λ fits h.
-          let unknown = subst (λ (o : Option Member). holds (is_registered lobby.accounts) o ≡ false) found fits.1.1.0 in
+          let unknown =
+          subst (λ (o : Option Member). holds (is_registered lobby.accounts) o ≡ false) found fits.1.1.0 in
           with_new_one lobby (record { name = member.name; digest = digest }) unknown fits.1.1.1.0 h;
       games = refl;
       lines = λ _. begins_same _;
@@ -56,4 +68,5 @@ registered_follows lobby session digest =
 pub IsWellFormed-loaded : (lobby : LobbyState) (account : Account) (new : LobbyState) (result : Result (Unit {0}) Fail)
     → IsWellFormed lobby → Takes (loading_effect lobby account) lobby new result → IsWellFormed new
 IsWellFormed-loaded lobby account new result h =
-    holds_taken IsWellFormed lobby (loading_effect lobby account) new result h (λ allowed. with_one_account lobby account allowed.0 allowed.1.0 h)
+    holds_taken IsWellFormed lobby (loading_effect lobby account) new result h
+    (λ allowed. with_one_account lobby account allowed.0 allowed.1.0 h)

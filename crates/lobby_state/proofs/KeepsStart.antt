@@ -43,18 +43,23 @@ record Sits (session : ℕ) (seats : Seats) (number : ℕ) : Type 0 where
   sits : slice_get (seat_list seats) number ≡ Some seat
   theirs : seat.session ≡ session
 
-Sits-seat_number : (session : ℕ) (seats : Seats) (number : ℕ) → seat_number session (seat_list seats) ≡ Some number → Sits session seats number
+Sits-seat_number : (session : ℕ) (seats : Seats) (number : ℕ) → seat_number session (seat_list seats) ≡ Some number
+    → Sits session seats number
 Sits-seat_number session seats number e =
     let p = plays_as session in
     let found = at_place (seat_list seats) number (position-within p (seat_list seats) number e) in
     record {
       seat = found.0;
       sits = found.1;
-      theirs = eqb-true found.0.session session (find-passes p (seat_list seats) found.0 (find-found p (seat_list seats) number e ∙ found.1));
+      theirs =
+          eqb-true found.0.session session
+          (find-passes p (seat_list seats) found.0 (find-found p (seat_list seats) number e ∙ found.1));
     }
 
 -- a place stays a seat where a game starts at a free desk
-IsSeatOf-started : (games : List (Option ListedGame)) (slot : ℕ) (game : Option ListedGame) (session : ℕ) (place : Place) → slice_get games slot ≡ Some None
+IsSeatOf-started : (games : List (Option ListedGame)) (slot : ℕ) (game : Option ListedGame) (session : ℕ)
+    (place : Place)
+    → slice_get games slot ≡ Some None
     → IsSeatOf games session place → IsSeatOf (set games slot game) session place
 IsSeatOf-started games slot game session place free h = record {
   desk = h.desk;
@@ -73,13 +78,19 @@ rows_by_test : (P : Place → Type 0) (b : Bool) (places : PlaceList) (place : P
 rows_by_test P true places place new h = h
 rows_by_test P false places place new h = All-push P places.rows place h new
 
-HasSeats-in_seat : (games : List (Option ListedGame)) (desk serial : ℕ) (terms : Terms) (seats : Seats) (member : Member) (number : Option ℕ)
+HasSeats-in_seat : (games : List (Option ListedGame)) (desk serial : ℕ) (terms : Terms) (seats : Seats)
+    (member : Member) (number : Option ℕ)
     → IsDesk desk → slice_get games (desk - 1) ≡ Some (Some (record { serial = serial; terms = terms; seats = seats }))
-    → seat_number member.session (seat_list seats) ≡ number → HasSeats games member → HasSeats games (in_seat desk serial number member)
+    → seat_number member.session (seat_list seats) ≡ number → HasSeats games member
+    → HasSeats games (in_seat desk serial number member)
 HasSeats-in_seat games desk serial terms seats member None is_desk in_use e h = h
 HasSeats-in_seat games desk serial terms seats member (Some number) is_desk in_use e h =
     let sits = Sits-seat_number member.session seats number e in
-    rows_by_test (IsSeatOf games member.session) (is_full member.places) member.places (record { desk = desk; serial = serial; seat = number })
+    rows_by_test (IsSeatOf games member.session) (is_full member.places) member.places (record {
+      desk = desk;
+      serial = serial;
+      seat = number;
+    })
     (record {
       desk = is_desk;
       game = record { serial = serial; terms = terms; seats = seats };
@@ -97,7 +108,8 @@ IsStarted-later started (Some game) h =
     record { positive = h.positive; given_out = omega (arith, before); terms = h.terms; boards = h.boards }
 
 -- as many boards as the variant wants
-boards_by : (variant : Variant) (seats : Seats) → FitsVariant variant seats → is_some seats.second ≡ needs_partners variant
+boards_by : (variant : Variant) (seats : Seats) → FitsVariant variant seats
+    → is_some seats.second ≡ needs_partners variant
 boards_by Bughouse seats h = h
 boards_by Chess seats h = h
 boards_by Crazyhouse seats h = h
@@ -108,10 +120,16 @@ in_seat_name desk serial None m = refl
 in_seat_name desk serial (Some number) m = refl
 
 -- a game starts at a free desk, with this shelf
-pub formed_at : (lobby : LobbyState) (shelf : ShelfState) (desk serial : ℕ) (terms : Terms) (seats : Seats) → IsDesk desk
-    → slice_get lobby.games (desk - 1) ≡ Some None → serial ≡ lobby.started + 1 → AreTerms terms → FitsVariant terms.variant seats
+pub formed_at : (lobby : LobbyState) (shelf : ShelfState) (desk serial : ℕ) (terms : Terms) (seats : Seats)
+    → IsDesk desk
+    → slice_get lobby.games (desk - 1) ≡ Some None → serial ≡ lobby.started + 1 → AreTerms terms
+    → FitsVariant terms.variant seats
     → IsShelfOf (sessions_of lobby.members) shelf
-    → AreCounted lobby.accounts (set lobby.games (desk - 1) (Some (record { serial = serial; terms = terms; seats = seats }))) serial shelf
+    → AreCounted lobby.accounts (set lobby.games (desk - 1) (Some (record {
+      serial = serial;
+      terms = terms;
+      seats = seats;
+    }))) serial shelf
     → IsWellFormed lobby → IsWellFormed (seated (record lobby { shelf = shelf }) desk serial terms seats)
 formed_at lobby shelf desk serial terms seats is_desk is_free is_next are_terms fits stored counted h =
     let game : ListedGame = record { serial = serial; terms = terms; seats = seats } in
@@ -120,7 +138,9 @@ formed_at lobby shelf desk serial terms seats is_desk is_free is_next are_terms 
     let inside : desk - 1 < length lobby.games = slice_get_within lobby.games (desk - 1) None is_free in
     let in_use = get-set_same lobby.games (desk - 1) (Some game) inside in
     let rising : All (IsStarted serial) lobby.games =
-    subst (λ (n : ℕ). All (IsStarted n) lobby.games) (sym is_next) (All-weaker (IsStarted lobby.started) (IsStarted (lobby.started + 1)) (IsStarted-later lobby.started) lobby.games h.serials) in
+    subst (λ (n : ℕ). All (IsStarted n) lobby.games) (sym is_next)
+    (All-weaker (IsStarted lobby.started) (IsStarted (lobby.started + 1)) (IsStarted-later lobby.started) lobby.games
+    h.serials) in
     let new : IsStarted serial (Some game) = record {
       positive = omega (arith, is_next);
       given_out = omega arith;
@@ -137,43 +157,66 @@ formed_at lobby shelf desk serial terms seats is_desk is_free is_next are_terms 
     let left : LobbyState = record others { seeks = filter (λ seek. not (is_by_seated seats seek)) lobby.seeks } in
     resumes_gone left (λ request. not (asks_seated seats request))
     (seeks_gone others (λ seek. not (is_by_seated seats seek))
-    (kept lobby (map sit lobby.members) (filter (λ c. not (is_settled lobby.members seats c)) lobby.challenges) games serial shelf
-    (map-map_same (λ m. m.session) sit (λ m. in_seat_session desk serial (seat_number m.session (seat_list seats)) m) lobby.members)
-    (map-map_same (λ m. key_of m.name) sit (λ m. ap key_of (in_seat_name desk serial (seat_number m.session (seat_list seats)) m)) lobby.members)
-    (AreChallengesOf-filter (sessions_of lobby.members) (λ c. not (is_settled lobby.members seats c)) lobby.challenges h.challenges)
+    (kept lobby (map sit lobby.members) (filter (λ c. not (is_settled lobby.members seats c)) lobby.challenges) games
+    serial shelf
+    (map-map_same (λ m. m.session) sit (λ m. in_seat_session desk serial (seat_number m.session (seat_list seats)) m)
+    lobby.members)
+    (map-map_same (λ m. key_of m.name) sit
+    (λ m. ap key_of (in_seat_name desk serial (seat_number m.session (seat_list seats)) m)) lobby.members)
+    (AreChallengesOf-filter (sessions_of lobby.members) (λ c. not (is_settled lobby.members seats c)) lobby.challenges
+    h.challenges)
     (length-set lobby.games (desk - 1) (Some game) ∙ h.games)
     (All-set (IsStarted serial) lobby.games (desk - 1) (Some game) new rising)
     (All-map_each (HasSeats lobby.games) (HasSeats games) sit
-    (λ m has. HasSeats-in_seat games desk serial terms seats m (seat_number m.session (seat_list seats)) is_desk in_use refl
-    (All-weaker (IsSeatOf lobby.games m.session) (IsSeatOf games m.session) (λ p. IsSeatOf-started lobby.games (desk - 1) (Some game) m.session p is_free) m.places.rows has))
+    (λ m has.
+    HasSeats-in_seat games desk serial terms seats m (seat_number m.session (seat_list seats)) is_desk in_use refl
+    (All-weaker (IsSeatOf lobby.games m.session) (IsSeatOf games m.session)
+    (λ p. IsSeatOf-started lobby.games (desk - 1) (Some game) m.session p is_free) m.places.rows has))
     lobby.members h.places) stored counted h))
 
-formed_seated : (lobby : LobbyState) (desk serial : ℕ) (terms : Terms) (seats : Seats) → CanStart lobby desk serial terms seats
+formed_seated : (lobby : LobbyState) (desk serial : ℕ) (terms : Terms) (seats : Seats)
+    → CanStart lobby desk serial terms seats
     → IsWellFormed lobby → IsWellFormed (seated lobby desk serial terms seats)
 formed_seated lobby desk serial terms seats can h =
-    let more = desks_used-taken lobby.games (desk - 1) (record { serial = serial; terms = terms; seats = seats }) can.is_free in
+    let more =
+    desks_used-taken lobby.games (desk - 1) (record { serial = serial; terms = terms; seats = seats }) can.is_free in
     let room = can.room in
     let few = can.few in
     let next = can.is_next in
     let orders = h.counted.orders in
-    formed_at lobby lobby.shelf desk serial terms seats can.is_desk can.is_free can.is_next can.are_terms can.boards h.shelf
-    (record { few = omega (arith, few, next); room = omega (arith, more, room); orders = omega (arith, more, next, orders) }) h
+    formed_at lobby lobby.shelf desk serial terms seats can.is_desk can.is_free can.is_next can.are_terms can.boards
+    h.shelf
+    (record {
+      few = omega (arith, few, next);
+      room = omega (arith, more, room);
+      orders = omega (arith, more, next, orders);
+    }) h
 
-pub own_started : (lobby : LobbyState) (desk number : ℕ) (game : ListedGame) (before : Option ListedGame) → desk ≡ number → slice_get lobby.games (number - 1) ≡ Some before
+pub own_started : (lobby : LobbyState) (desk number : ℕ) (game : ListedGame) (before : Option ListedGame)
+    → desk ≡ number → slice_get lobby.games (number - 1) ≡ Some before
     → slice_get (set lobby.games (desk - 1) (Some game)) (number - 1) ≡ Some (Some game)
 own_started lobby desk number game before same there =
     subst (λ (n : ℕ). slice_get (set lobby.games (n - 1) (Some game)) (number - 1) ≡ Some (Some game)) (sym same)
     (get-set_same lobby.games (number - 1) (Some game) (slice_get_within lobby.games (number - 1) before there))
 
-pub keeps_started : (lobby : LobbyState) (desk serial : ℕ) (terms : Terms) (seats : Seats) → CanStart lobby desk serial terms seats
+pub keeps_started : (lobby : LobbyState) (desk serial : ℕ) (terms : Terms) (seats : Seats)
+    → CanStart lobby desk serial terms seats
     → KeepsPlan lobby (Start desk serial terms seats)
 keeps_started lobby desk serial terms seats can = record {
   is_desk = can.is_desk;
   formed = λ _ _ _ h. formed_seated lobby desk serial terms seats can h;
   own = λ _ _ number before e there.
-      own_started lobby desk number (record { serial = serial; terms = terms; seats = seats }) before (same_Some desk number e) there;
+      own_started lobby desk number (record {
+        serial = serial;
+        terms = terms;
+        seats = seats;
+      }) before (same_Some desk number e) there;
   others = λ _ _ number low other.
       let d = can.is_desk in
-      get-set_other lobby.games (desk - 1) (number - 1) (Some (record { serial = serial; terms = terms; seats = seats }))
+      get-set_other lobby.games (desk - 1) (number - 1) (Some (record {
+        serial = serial;
+        terms = terms;
+        seats = seats;
+      }))
       (λ e. other (ap Some (omega (arith, d))));
 }

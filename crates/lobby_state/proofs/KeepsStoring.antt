@@ -14,8 +14,10 @@ use Rattle.lobby_state.specs.ShelfRoom.{is_shelf_full, places_taken, storing_eff
 use Rattle.lobby_state.specs.WellFormed.{AreCounted, IsWellFormed}
 use Rattle.lobby_state.proofs.Refusals.{holds_taken}
 
-formed_storing : (lobby : LobbyState) (number : ℕ) (game : StoredGame) → 0 < number → number < 2 ^ 64 → is_used lobby.shelf.games number ≡ false
-    → Replays game → is_shelf_full lobby ≡ false → IsWellFormed lobby → IsWellFormed (record lobby { shelf = with_stored lobby.shelf number game })
+formed_storing : (lobby : LobbyState) (number : ℕ) (game : StoredGame) → 0 < number → number < 2 ^ 64
+    → is_used lobby.shelf.games number ≡ false
+    → Replays game → is_shelf_full lobby ≡ false → IsWellFormed lobby
+    → IsWellFormed (record lobby { shelf = with_stored lobby.shelf number game })
 formed_storing lobby number game positive fits unused replays room h =
     let sound = h.shelf.sound in
     let left = leb-false 10000 (places_taken lobby) room in
@@ -26,8 +28,11 @@ formed_storing lobby number game positive fits unused replays room h =
     record { few = h.counted.few; room = omega (arith, long, left); orders = h.counted.orders } in
     assumption (stored, h.shelf.members, counted, h)
 
-pub IsWellFormed-storing : (lobby : LobbyState) (number : ℕ) (game : StoredGame) (new : LobbyState) (result : Result (Unit {0}) Fail) → 0 < number → number < 2 ^ 64
-    → is_used lobby.shelf.games number ≡ false → Replays game → IsWellFormed lobby → Takes (storing_effect lobby number game) lobby new result → IsWellFormed new
+pub IsWellFormed-storing : (lobby : LobbyState) (number : ℕ) (game : StoredGame) (new : LobbyState)
+    (result : Result (Unit {0}) Fail)
+    → 0 < number → number < 2 ^ 64
+    → is_used lobby.shelf.games number ≡ false → Replays game → IsWellFormed lobby
+    → Takes (storing_effect lobby number game) lobby new result → IsWellFormed new
 IsWellFormed-storing lobby number game new result positive fits unused replays h =
     holds_taken IsWellFormed lobby (storing_effect lobby number game) new result h
     (λ allowed. formed_storing lobby number game positive fits unused replays allowed.0 h)

@@ -24,7 +24,8 @@ pub takes_nowhere : (members : List Member) (session : ℕ) (which : WhichList) 
     → position (is_session session) members ≡ None
     → Takes (change_among session which key on members) members members (Ok tt)
 takes_nowhere members session which key on nowhere = (
-  ap (λ (m : Option Member). first_cause (list_causes which key on m)) (find-missing (is_session session) members nowhere),
+  ap (λ (m : Option Member). first_cause (list_causes which key on m))
+      (find-missing (is_session session) members nowhere),
   refl,
   sym (change_first-missing (is_session session) (λ m. (listing which key on m).after) members nowhere),
 )
@@ -35,19 +36,26 @@ same_names Censor m = refl
 same_names Noplay m = refl
 
 -- else the list of that member changes, at its place
-taken : (members : List Member) (session : ℕ) (which : WhichList) (key : List ℕ) (on : Bool) (place : ℕ) (m : Member) (new : List (List ℕ))
-    (result : Result (Unit {0}) Fail) → position (is_session session) members ≡ Some place → slice_get members place ≡ Some m
+taken : (members : List Member) (session : ℕ) (which : WhichList) (key : List ℕ) (on : Bool) (place : ℕ) (m : Member)
+    (new : List (List ℕ))
+    (result : Result (Unit {0}) Fail) → position (is_session session) members ≡ Some place
+    → slice_get members place ≡ Some m
     → Takes (naming (names_on which m) key on) (names_on which m) new result
-    → Takes (change_among session which key on members) members (change_at place (with_names_on which new) members) result
+    → Takes (change_among session which key on members) members (change_at place (with_names_on which new) members)
+    result
 taken members session which key on place m new (Ok reply) here at t = (
-  ap (λ (m : Option Member). first_cause (list_causes which key on m)) (find-found (is_session session) members place here ∙ at) ∙ t.0,
+  ap (λ (m : Option Member). first_cause (list_causes which key on m))
+      (find-found (is_session session) members place here ∙ at)
+      ∙ t.0,
   t.1,
   change_at-set (with_names_on which new) members place m at
       ∙ ap (λ (names : List (List ℕ)). set members place (with_names_on which names m)) t.2
       ∙ sym (change_first-found (is_session session) (λ m. (listing which key on m).after) members place m here at),
 )
 taken members session which key on place m new (Err (Refused cause)) here at t = (
-  ap (λ (m : Option Member). first_cause (list_causes which key on m)) (find-found (is_session session) members place here ∙ at) ∙ t.0,
+  ap (λ (m : Option Member). first_cause (list_causes which key on m))
+      (find-found (is_session session) members place here ∙ at)
+      ∙ t.0,
   change_at-set (with_names_on which new) members place m at
       ∙ ap (λ (names : List (List ℕ)). set members place (with_names_on which names m)) t.1
       ∙ ap (set members place) (same_names which m) ∙ set-same members place m at,
@@ -59,10 +67,13 @@ taken members session which key on place m new (Err Memory) here at t = (
       ∙ ap (set members place) (same_names which m) ∙ set-same members place m at,
 )
 
-pub takes_there : (members : List Member) (session : ℕ) (which : WhichList) (key : List ℕ) (on : Bool) (place : ℕ) (old new : List (List ℕ))
+pub takes_there : (members : List Member) (session : ℕ) (which : WhichList) (key : List ℕ) (on : Bool) (place : ℕ)
+    (old new : List (List ℕ))
     (result : Result (Unit {0}) Fail) → Some place ≡ position (is_session session) members
-    → ((m : Member) → slice_get members place ≡ Some m → old ≡ names_on which m) → Takes (naming old key on) old new result
-    → Takes (change_among session which key on members) members (change_at place (with_names_on which new) members) result
+    → ((m : Member) → slice_get members place ≡ Some m → old ≡ names_on which m)
+    → Takes (naming old key on) old new result
+    → Takes (change_among session which key on members) members (change_at place (with_names_on which new) members)
+    result
 takes_there members session which key on place old new result here reads t =
     let found = at_place members place (position-within (is_session session) members place (sym here)) in
     taken members session which key on place found.0 new result (sym here) found.1

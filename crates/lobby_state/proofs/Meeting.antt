@@ -32,8 +32,11 @@ position-is p xs i d inside before here =
 pub position-nowhere : {X : Type 0} (p : X → Bool) (xs : List X) (i : ℕ) (d : X) → length xs ≤ i
     → ((k : ℕ) → k < i → p (get_or xs k d) ≡ false) → position p xs ≡ None
 position-nowhere p xs i d past before =
-    let at : position_or_len p xs ≡ length xs = position_or_len_is p xs (length xs) d (omega arith) (λ k h. before k (omega arith)) (λ h. absurd (omega (arith, h))) in
-    ap (λ n. cond (ltb n (length xs)) (Some n) None) at ∙ ap (λ b. cond b (Some (length xs)) None) (le-ltb (length xs) (length xs) (omega arith))
+    let at : position_or_len p xs ≡ length xs =
+    position_or_len_is p xs (length xs) d (omega arith) (λ k h. before k (omega arith))
+    (λ h. absurd (omega (arith, h))) in
+    ap (λ n. cond (ltb n (length xs)) (Some n) None) at
+    ∙ ap (λ b. cond b (Some (length xs)) None) (le-ltb (length xs) (length xs) (omega arith))
 
 -- the item that was found passes, and those before it don't
 found_is : (t : Bool) (n i : ℕ) → cond t (Some n) None ≡ Some i → n ≡ i
@@ -43,12 +46,15 @@ found_is false n i e = cc
 position-place : {X : Type 0} (p : X → Bool) (xs : List X) (i : ℕ) → position p xs ≡ Some i → position_or_len p xs ≡ i
 position-place p xs i e = found_is _ (position_or_len p xs) i e
 
-position-passes : {X : Type 0} (p : X → Bool) (xs : List X) (i : ℕ) (d : X) → position p xs ≡ Some i → p (get_or xs i d) ≡ true
+position-passes : {X : Type 0} (p : X → Bool) (xs : List X) (i : ℕ) (d : X) → position p xs ≡ Some i
+    → p (get_or xs i d) ≡ true
 position-passes p xs i d e =
     let at = position-place p xs i e in
-    subst (λ (n : ℕ). p (get_or xs n d) ≡ true) at (passes_at_first p xs d (omega (arith, at, position-within p xs i e)))
+    subst (λ (n : ℕ). p (get_or xs n d) ≡ true) at
+    (passes_at_first p xs d (omega (arith, at, position-within p xs i e)))
 
-position-before : {X : Type 0} (p : X → Bool) (xs : List X) (i : ℕ) → position p xs ≡ Some i → All (λ x. p x ≡ false) (take i xs)
+position-before : {X : Type 0} (p : X → Bool) (xs : List X) (i : ℕ) → position p xs ≡ Some i
+    → All (λ x. p x ≡ false) (take i xs)
 position-before p xs i e k d inside =
     let at = position-place p xs i e in
     let within = position-within p xs i e in
@@ -57,7 +63,8 @@ position-before p xs i e k d inside =
 
 -- a change that the test doesn't see changes what is found, and nothing else
 changed-step : {X : Type 0} (p : X → Bool) (f : X → X) (x : X) (xs ys : List X) (t : Bool) → p x ≡ t → p (f x) ≡ t
-    → find p ys ≡ option_map f (find p xs) → find p (cond t (f x ∷ xs) (x ∷ ys)) ≡ option_map f (cond t (Some x) (find p xs))
+    → find p ys ≡ option_map f (find p xs)
+    → find p (cond t (f x ∷ xs) (x ∷ ys)) ≡ option_map f (cond t (Some x) (find p xs))
 changed-step p f x xs ys true here there rest = ap (λ b. cond b (Some (f x)) (find p xs)) there
 changed-step p f x xs ys false here there rest = ap (λ b. cond b (Some x) (find p ys)) here ∙ rest
 
@@ -80,28 +87,35 @@ module _ (lobby : LobbyState) (session : ℕ) (name : List ℕ) (caller other : 
 
   -- the member that has gone there
   went : member_of (placed lobby session gone) session ≡ Some (with_places gone caller)
-  went = find-changed (is_session session) (with_places gone) (λ _. refl) lobby.members ∙ ap (option_map (with_places gone)) own
+  went =
+      find-changed (is_session session) (with_places gone) (λ _. refl) lobby.members
+      ∙ ap (option_map (with_places gone)) own
 
   -- the place at which it stands now
   met : (d : Place) (after : LobbyState) → after ≡ placed lobby session gone → MeetsPlayer lobby after session name
   met d after is =
       let p = is_against lobby other.session in
       let rows = caller.places.rows in
-      let there : member_of after session ≡ Some (with_places gone caller) = ap (λ (l : LobbyState). member_of l session) is ∙ went in
+      let there : member_of after session ≡ Some (with_places gone caller) =
+      ap (λ (l : LobbyState). member_of l session) is ∙ went in
       let places : places_of after session ≡ gone = ap places_in there in
-      let same : (row : Place) → is_against after other.session row ≡ p row = λ row. ap (λ (l : LobbyState). is_against l other.session row) is in
+      let same : (row : Place) → is_against after other.session row ≡ p row = λ row.
+      ap (λ (l : LobbyState). is_against l other.session row) is in
       record {
         other = other;
         is_named = named_so;
         place = get_or rows at d;
         is_present = ap present_of there ∙ slice_get-get_or rows at d (position-within p rows at found);
         meets = same (get_or rows at d) ∙ position-passes p rows at d found;
-        earlier = subst (λ (l : PlaceList). All (λ row. is_against after other.session row ≡ false) (take l.at l.rows)) (sym places)
+        earlier =
+            subst (λ (l : PlaceList). All (λ row. is_against after other.session row ≡ false) (take l.at l.rows))
+            (sym places)
             (λ k e inside. same (get_or (take at rows) k e) ∙ position-before p rows at found k e inside);
         same = ap (λ (l : PlaceList). l.rows) places ∙ ap (λ (l : PlaceList). l.rows) (sym (ap places_in own));
       }
 
-pub meets_player : (lobby : LobbyState) (session : ℕ) (name : List ℕ) → answer_of (go_board_effect lobby session name) ≡ Ok Done
+pub meets_player : (lobby : LobbyState) (session : ℕ) (name : List ℕ)
+    → answer_of (go_board_effect lobby session name) ≡ Ok Done
     → MeetsPlayer lobby (state_of lobby (go_board_effect lobby session name)) session name
 meets_player lobby session name done =
     let effect = go_board_effect lobby session name in
@@ -109,12 +123,18 @@ meets_player lobby session name done =
     let none = none_holds effect.causes first in
     let caller = some_of (member_of lobby session) none.0 in
     let other = some_of (named lobby name) none.1.0 in
-    let rows : (places_of lobby session).rows ≡ caller.0.places.rows = ap (λ (m : Option Member). (places_in m).rows) caller.1 in
+    let rows : (places_of lobby session).rows ≡ caller.0.places.rows =
+    ap (λ (m : Option Member). (places_in m).rows) caller.1 in
     let at = some_of (first_against lobby (named lobby name) (places_of lobby session).rows) none.1.1.1.0 in
     let found : position (is_against lobby other.0.session) caller.0.places.rows ≡ Some at.0 =
-    ap (position (is_against lobby other.0.session)) (sym rows) ∙ ap (λ (m : Option Member). first_against lobby m (places_of lobby session).rows) (sym other.1) ∙ at.1 in
+    ap (position (is_against lobby other.0.session)) (sym rows)
+    ∙ ap (λ (m : Option Member). first_against lobby m (places_of lobby session).rows) (sym other.1) ∙ at.1 in
     let after : state_of lobby effect ≡ placed lobby session (present_at at.0 caller.0.places) =
     ap (λ (c : Option Refusal). unless c lobby effect.after) first
     ∙ ap (λ (o : Option ℕ). placed lobby session (gone_to o (places_of lobby session))) at.1
     ∙ ap (λ (m : Option Member). placed lobby session (present_at at.0 (places_in m))) caller.1 in
-    met lobby session name caller.0 other.0 at.0 caller.1 other.1 found (record { desk = 0; serial = 0; seat = 0 }) (state_of lobby effect) after
+    met lobby session name caller.0 other.0 at.0 caller.1 other.1 found (record {
+      desk = 0;
+      serial = 0;
+      seat = 0;
+    }) (state_of lobby effect) after

@@ -19,33 +19,43 @@ by_rows : (rows : List NameRow) (members : List Member) → with_rows rows membe
 by_rows rows [] = refl
 by_rows rows (m ∷ members) = by_rows (with_row (row_of m) rows) members
 
-pub rows_kept : (members others : List Member) → map row_of others ≡ map row_of members → with_rows [] others ≡ with_rows [] members
+pub rows_kept : (members others : List Member) → map row_of others ≡ map row_of members
+    → with_rows [] others ≡ with_rows [] members
 rows_kept members others same = by_rows [] others ∙ ap (put_all []) same ∙ sym (by_rows [] members)
 
 -- and so does that they are named apart
 abbrev AreApart : List NameRow → Type 0
 AreApart [] = Unit {0}
-AreApart (row ∷ rows) = (find (λ (other : NameRow). bytes_eq (key_of other.name) (key_of row.name)) rows ≡ None) × AreApart rows
+AreApart (row ∷ rows) =
+    (find (λ (other : NameRow). bytes_eq (key_of other.name) (key_of row.name)) rows ≡ None) × AreApart rows
 
 row_found : (key : List ℕ) (members : List Member)
-    → find (λ (row : NameRow). bytes_eq (key_of row.name) key) (map row_of members) ≡ option_map row_of (find (has_handle key) members)
+    → find (λ (row : NameRow). bytes_eq (key_of row.name) key) (map row_of members)
+    ≡ option_map row_of (find (has_handle key) members)
 row_found key [] = refl
 row_found key (m ∷ members) =
-    elim (bytes_eq (key_of m.name) key) as (λ t. cond t (Some (row_of m)) (find (λ (row : NameRow). bytes_eq (key_of row.name) key) (map row_of members)) ≡ option_map row_of (cond t (Some m) (find (has_handle key) members))) [
+    elim (bytes_eq (key_of m.name) key)
+    as (λ t.
+    cond t (Some (row_of m)) (find (λ (row : NameRow). bytes_eq (key_of row.name) key) (map row_of members))
+    ≡ option_map row_of (cond t (Some m) (find (has_handle key) members))) [
       | true ↦ refl
       | false ↦ row_found key members
     ]
 
 to_rows : (members : List Member) → AreNamedApart members → AreApart (map row_of members)
 to_rows [] apart = tt
-to_rows (m ∷ members) apart = (row_found (key_of m.name) members ∙ ap (option_map row_of) apart.0, to_rows members apart.1)
+to_rows (m ∷ members) apart =
+    (row_found (key_of m.name) members ∙ ap (option_map row_of) apart.0, to_rows members apart.1)
 
 from_rows : (members : List Member) → AreApart (map row_of members) → AreNamedApart members
 from_rows [] apart = tt
-from_rows (m ∷ members) apart =
-    (of_none (find (has_handle (key_of m.name)) members) (sym (row_found (key_of m.name) members) ∙ apart.0), from_rows members apart.1)
+from_rows (m ∷ members) apart = (
+  of_none (find (has_handle (key_of m.name)) members) (sym (row_found (key_of m.name) members) ∙ apart.0),
+  from_rows members apart.1,
+)
 
-pub apart_kept : (members others : List Member) → map row_of others ≡ map row_of members → AreNamedApart members → AreNamedApart others
+pub apart_kept : (members others : List Member) → map row_of others ≡ map row_of members → AreNamedApart members
+    → AreNamedApart others
 apart_kept members others same apart = from_rows others (subst AreApart (sym same) (to_rows members apart))
 
 -- the rows of members of whom one changed

@@ -18,7 +18,8 @@ use Rattle.lobby_state.proofs.WellFormed.{find-has, kept}
 use Rattle.simul_control.specs.declared.place.Place.{Place}
 
 -- the member of the session has other places, which are seats of its own
-formed_placed : (lobby : LobbyState) (session : ℕ) (places : PlaceList) → All (IsSeatOf lobby.games session) places.rows → IsWellFormed lobby
+formed_placed : (lobby : LobbyState) (session : ℕ) (places : PlaceList) → All (IsSeatOf lobby.games session) places.rows
+    → IsWellFormed lobby
     → IsWellFormed (placed lobby session places)
 formed_placed lobby session places seats h =
     let own = is_session session in
@@ -28,11 +29,13 @@ formed_placed lobby session places seats h =
     (map-change_first_same (λ m. key_of m.name) own put (λ _. refl) lobby.members)
     h.challenges h.games h.serials
     (All-change_first_passing (HasSeats lobby.games) own put
-    (λ m passes _. subst (λ (s : ℕ). All (IsSeatOf lobby.games s) places.rows) (sym (eqb-true m.session session passes)) seats)
+    (λ m passes _.
+    subst (λ (s : ℕ). All (IsSeatOf lobby.games s) places.rows) (sym (eqb-true m.session session passes)) seats)
     lobby.members h.places) h.shelf h.counted h
 
 -- the places that the session has are seats of its own
-own_seats : (lobby : LobbyState) (session : ℕ) (found : Option Member) → member_of lobby session ≡ found → IsWellFormed lobby
+own_seats : (lobby : LobbyState) (session : ℕ) (found : Option Member) → member_of lobby session ≡ found
+    → IsWellFormed lobby
     → All (IsSeatOf lobby.games session) (places_in found).rows
 own_seats lobby session None is h = All-nil (IsSeatOf lobby.games session)
 own_seats lobby session (Some member) is h =
@@ -40,13 +43,18 @@ own_seats lobby session (Some member) is h =
     (eqb-true member.session session (find-passes (is_session session) lobby.members member is))
     (find-has (HasSeats lobby.games) (is_session session) lobby.members member h.places is)
 
-pub placed_follows : {conditions silent : Type 0} (lobby : LobbyState) (session : ℕ) (places : PlaceList) → places.rows ≡ (places_of lobby session).rows
+pub placed_follows : {conditions silent : Type 0} (lobby : LobbyState) (session : ℕ) (places : PlaceList)
+    → places.rows ≡ (places_of lobby session).rows
     → Follows conditions silent lobby (placed lobby session places)
 placed_follows lobby session places same = record {
   formed = λ _ h. formed_placed lobby session places
-      (subst (λ (rows : List Place). All (IsSeatOf lobby.games session) rows) (sym same) (own_seats lobby session (member_of lobby session) refl h)) h;
+      (subst (λ (rows : List Place). All (IsSeatOf lobby.games session) rows) (sym same)
+      (own_seats lobby session (member_of lobby session) refl h))
+      h;
   games = refl;
-  lines = λ own. kept_change (is_session session) (with_places places) (λ m. same_lines m (with_places places m) refl refl) own lobby.members;
+  lines = λ own.
+      kept_change (is_session session) (with_places places) (λ m. same_lines m (with_places places m) refl refl) own
+      lobby.members;
   store = λ _. refl;
 }
 

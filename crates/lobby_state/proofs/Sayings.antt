@@ -21,9 +21,12 @@ shouting lobby session own text = record {
 }
 
 -- a member that shouts, and so many hear it
-pub shouts : (lobby new : LobbyState) (session count : ℕ) (text line : List ℕ) (caller : Member) → member_of lobby session ≡ Some caller
+pub shouts : (lobby new : LobbyState) (session count : ℕ) (text line : List ℕ) (caller : Member)
+    → member_of lobby session ≡ Some caller
     → count ≡ heard (hears_shouts session) lobby.members → line ≡ text
-    → new ≡ record lobby { members = broadcast (hears_shouts session) (said caller.name (codes " shouts: ") line) lobby.members }
+    → new
+    ≡ record lobby
+    { members = broadcast (hears_shouts session) (said caller.name (codes " shouts: ") line) lobby.members }
     → Takes (shout_effect lobby session text) lobby new (Ok (Told count))
 shouts lobby new session count text line caller own hearers same went =
     let here : Takes (shouting lobby session (Some caller) text) lobby new (Ok (Told count)) = (
@@ -31,7 +34,8 @@ shouts lobby new session count text line caller own hearers same went =
       ap (λ (n : ℕ). Told n) hearers,
       went ∙ ap (λ (l : List ℕ). shouted lobby session (Some caller) l) same,
     ) in
-    subst (λ (member : Option Member). Takes (shouting lobby session member text) lobby new (Ok (Told count))) (sym own) here
+    subst (λ (member : Option Member). Takes (shouting lobby session member text) lobby new (Ok (Told count))) (sym own)
+    here
 
 -- the act, by the member and its partner
 abbrev confiding : LobbyState → Option Member → Option ℕ → List ℕ → Effect LobbyState LobbyReply
@@ -43,9 +47,14 @@ confiding lobby own partner text = record {
 }
 
 -- a member that tells its partner something
-pub confides : (lobby new : LobbyState) (session partner : ℕ) (text line : List ℕ) (caller : Member) → member_of lobby session ≡ Some caller
+pub confides : (lobby new : LobbyState) (session partner : ℕ) (text line : List ℕ) (caller : Member)
+    → member_of lobby session ≡ Some caller
     → partner_in lobby session ≡ Some partner → is_partner_full lobby (Some partner) ≡ false → line ≡ text
-    → new ≡ record lobby { members = broadcast (is_session partner) (said caller.name (codes " (your partner) tells you: ") line) lobby.members }
+    → new
+    ≡ record lobby {
+      members =
+          broadcast (is_session partner) (said caller.name (codes " (your partner) tells you: ") line) lobby.members;
+    }
     → Takes (ptell_effect lobby session text) lobby new (Ok (Told 1))
 confides lobby new session partner text line caller own other room same went =
     let here : Takes (confiding lobby (Some caller) (Some partner) text) lobby new (Ok (Told 1)) = (
@@ -53,5 +62,7 @@ confides lobby new session partner text line caller own other room same went =
       refl,
       went ∙ ap (λ (l : List ℕ). confided lobby (Some caller) (Some partner) l) same,
     ) in
-    subst (λ (member : Option Member). Takes (confiding lobby member (partner_in lobby session) text) lobby new (Ok (Told 1))) (sym own)
+    subst
+    (λ (member : Option Member). Takes (confiding lobby member (partner_in lobby session) text) lobby new (Ok (Told 1)))
+    (sym own)
     (subst (λ (p : Option ℕ). Takes (confiding lobby (Some caller) p text) lobby new (Ok (Told 1))) (sym other) here)

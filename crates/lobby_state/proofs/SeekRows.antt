@@ -16,19 +16,23 @@ use Rattle.lobby_state.proofs.Lists.{All-filter_passing, Contains-filter}
 
 -- ---- counting
 
-counted : {X : Type 0} (b : Bool) (n c : ℕ) (x : X) (us : List X) → n ≡ c + length us → suc n ≡ (cond b 1 0 + c) + length (cond (not b) (x ∷ us) us)
+counted : {X : Type 0} (b : Bool) (n c : ℕ) (x : X) (us : List X) → n ≡ c + length us
+    → suc n ≡ (cond b 1 0 + c) + length (cond (not b) (x ∷ us) us)
 counted true n c x us e = omega (arith, e)
 counted false n c x us e = omega (arith, e)
 
 -- a list is as long as what passes and what doesn't
-length-parted : {X : Type 0} (p : X → Bool) (xs : List X) → length xs ≡ count_by p xs + length (filter (λ x. not (p x)) xs)
+length-parted : {X : Type 0} (p : X → Bool) (xs : List X)
+    → length xs ≡ count_by p xs + length (filter (λ x. not (p x)) xs)
 length-parted p [] = refl
 length-parted p (x ∷ xs) =
     counted (p x) (length xs) (count_by p xs) x (filter (λ x. not (p x)) xs) (length-parted p xs)
     ∙ ap (λ n. n + length (filter (λ x. not (p x)) (x ∷ xs))) (sym (sum_by-cons (λ y. cond (p y) 1 0) x xs))
 
-kept_less : {X : Type 0} (p : X → Bool) (b : Bool) (x : X) (us : List X) (n : ℕ) → count_by p us ≤ n → count_by p (cond b (x ∷ us) us) ≤ cond (p x) 1 0 + n
-kept_less p true x us n h = subst (λ m. m ≤ cond (p x) 1 0 + n) (sym (sum_by-cons (λ y. cond (p y) 1 0) x us)) (omega (arith, h))
+kept_less : {X : Type 0} (p : X → Bool) (b : Bool) (x : X) (us : List X) (n : ℕ) → count_by p us ≤ n
+    → count_by p (cond b (x ∷ us) us) ≤ cond (p x) 1 0 + n
+kept_less p true x us n h =
+    subst (λ m. m ≤ cond (p x) 1 0 + n) (sym (sum_by-cons (λ y. cond (p y) 1 0) x us)) (omega (arith, h))
 kept_less p false x us n h = omega (arith, h)
 
 -- no more pass of what is kept
@@ -41,7 +45,8 @@ count_by-filter p q (x ∷ xs) =
 -- ---- what changes
 
 -- some seeks go
-pub AreSeeksOf-filter : (sessions : List ℕ) (p : Seek → Bool) (seeks : List Seek) → AreSeeksOf sessions seeks → AreSeeksOf sessions (filter p seeks)
+pub AreSeeksOf-filter : (sessions : List ℕ) (p : Seek → Bool) (seeks : List Seek) → AreSeeksOf sessions seeks
+    → AreSeeksOf sessions (filter p seeks)
 AreSeeksOf-filter sessions p seeks h = record {
   numbers = RiseAbove-filter p 0 seeks h.numbers;
   members = All-filter p (IsByMember sessions) seeks h.members;
@@ -52,11 +57,14 @@ AreSeeksOf-filter sessions p seeks h = record {
 }
 
 -- there are more members
-pub AreSeeksOf-more : (sessions more : List ℕ) (seeks : List Seek) → ((s : ℕ) → Contains sessions s → Contains more s) → AreSeeksOf sessions seeks
+pub AreSeeksOf-more : (sessions more : List ℕ) (seeks : List Seek) → ((s : ℕ) → Contains sessions s → Contains more s)
+    → AreSeeksOf sessions seeks
     → AreSeeksOf more seeks
 AreSeeksOf-more sessions more seeks step h = record {
   numbers = h.numbers;
-  members = All-weaker (IsByMember sessions) (IsByMember more) (λ seek by. record { by = step seek.by by.by; for_two = by.for_two; terms = by.terms }) seeks h.members;
+  members =
+      All-weaker (IsByMember sessions) (IsByMember more)
+      (λ seek by. record { by = step seek.by by.by; for_two = by.for_two; terms = by.terms }) seeks h.members;
   few = h.few;
 }
 
@@ -68,8 +76,12 @@ AreSeeksOf-without sessions session seeks h =
     let left = AreSeeksOf-filter sessions (λ seek. not (is_by session None seek)) seeks h in
     record {
       numbers = left.numbers;
-      members = All-filter_passing (IsByMember sessions) (IsByMember (filter stays sessions)) (λ seek. not (is_by session None seek))
-          (λ seek passes by. record { by = Contains-filter stays sessions seek.by passes by.by; for_two = by.for_two; terms = by.terms }) seeks h.members;
+      members =
+          All-filter_passing (IsByMember sessions) (IsByMember (filter stays sessions))
+          (λ seek. not (is_by session None seek))
+          (λ seek passes by.
+          record { by = Contains-filter stays sessions seek.by passes by.by; for_two = by.for_two; terms = by.terms })
+          seeks h.members;
       few = left.few;
     }
 
@@ -86,7 +98,8 @@ none_of_nobody (seek ∷ seeks) h =
     absurd (omega (arith, nowhere.1))
 
 -- where each of so many has at most three, there are at most three times as many
-length-few : (sessions : List ℕ) (seeks : List Seek) → All (λ seek. Contains sessions seek.by) seeks → ((s : ℕ) → count_by (is_by s None) seeks ≤ 3)
+length-few : (sessions : List ℕ) (seeks : List Seek) → All (λ seek. Contains sessions seek.by) seeks
+    → ((s : ℕ) → count_by (is_by s None) seeks ≤ 3)
     → length seeks ≤ length sessions * 3
 length-few [] seeks by few = none_of_nobody seeks by
 length-few (s ∷ ss) seeks by few =
@@ -94,15 +107,25 @@ length-few (s ∷ ss) seeks by few =
     let parts = length-parted (is_by s None) seeks in
     let own = few s in
     let theirs : All (λ seek. Contains ss seek.by) others =
-    All-filter_passing (λ (seek : Seek). Contains (s ∷ ss) seek.by) (λ (seek : Seek). Contains ss seek.by) (λ seek. not (is_by s None seek))
-    (λ seek passes there. Contains-behind s seek.by ss (eqb-false seek.by s (not-true (eqb seek.by s) passes)) there) seeks by in
-    let rest = length-few ss others theirs (λ t. let less = count_by-filter (is_by t None) (λ seek. not (is_by s None seek)) seeks in let most = few t in omega (arith, less, most)) in
+    All-filter_passing (λ (seek : Seek). Contains (s ∷ ss) seek.by) (λ (seek : Seek). Contains ss seek.by)
+    (λ seek. not (is_by s None seek))
+    (λ seek passes there. Contains-behind s seek.by ss (eqb-false seek.by s (not-true (eqb seek.by s) passes)) there)
+    seeks by in
+    let rest =
+    length-few ss others theirs
+    (λ t.
+    let less = count_by-filter (is_by t None) (λ seek. not (is_by s None seek)) seeks in let most = few t in
+    omega (arith, less, most)) in
     omega (arith, parts, own, rest)
 
 -- and so there is always a number left
-pub has_numbers_left : (sessions : List ℕ) (seeks : List Seek) → length sessions ≤ 256 → AreSeeksOf sessions seeks → length seeks < 65535
+pub has_numbers_left : (sessions : List ℕ) (seeks : List Seek) → length sessions ≤ 256 → AreSeeksOf sessions seeks
+    → length seeks < 65535
 has_numbers_left sessions seeks full h =
-    let all = length-few sessions seeks (All-weaker (IsByMember sessions) (λ (seek : Seek). Contains sessions seek.by) (λ seek by. by.by) seeks h.members) h.few in
+    let all =
+    length-few sessions seeks
+    (All-weaker (IsByMember sessions) (λ (seek : Seek). Contains sessions seek.by) (λ seek by. by.by) seeks h.members)
+    h.few in
     omega (arith, full, all)
 
 -- ---- one more
@@ -115,8 +138,10 @@ one_more true n m e most less = let few = less refl in omega (arith, e, few)
 one_more false n m e most less = omega (arith, e, most)
 
 -- a member who has fewer than three seeks posts another, of a game that two can play
-pub AreSeeksOf-posted : (sessions : List ℕ) (session : ℕ) (terms : Terms) (seeks : List Seek) → length sessions ≤ 256 → Contains sessions session
-    → needs_partners terms.variant ≡ false → AreTerms terms → leb 3 (count_by (is_by session None) seeks) ≡ false → AreSeeksOf sessions seeks
+pub AreSeeksOf-posted : (sessions : List ℕ) (session : ℕ) (terms : Terms) (seeks : List Seek) → length sessions ≤ 256
+    → Contains sessions session
+    → needs_partners terms.variant ≡ false → AreTerms terms → leb 3 (count_by (is_by session None) seeks) ≡ false
+    → AreSeeksOf sessions seeks
     → AreSeeksOf sessions (posting seeks session terms).after
 AreSeeksOf-posted sessions session terms seeks full there two bounds room h =
     let number = next_number seeks in
@@ -129,10 +154,16 @@ AreSeeksOf-posted sessions session terms seeks full there two bounds room h =
       numbers = RiseAbove-insert seeks 0 (number - 1) new h.numbers place (omega (arith, left, within)) refl;
       members = All-append (IsByMember sessions) (take (number - 1) seeks) (new ∷ drop (number - 1) seeks)
           (All-take (IsByMember sessions) (number - 1) seeks h.members)
-          (All-cons (IsByMember sessions) new (drop (number - 1) seeks) (record { by = there; for_two = two; terms = bounds })
+          (All-cons (IsByMember sessions) new (drop (number - 1) seeks) (record {
+            by = there;
+            for_two = two;
+            terms = bounds;
+          })
           (All-drop (IsByMember sessions) (number - 1) seeks h.members));
       few = λ s.
-          one_more (is_by s None new) (count_by (is_by s None) seeks) (count_by (is_by s None) (insert seeks (number - 1) new))
+          one_more (is_by s None new) (count_by (is_by s None) seeks)
+          (count_by (is_by s None) (insert seeks (number - 1) new))
           (sum_by-insert (λ seek. cond (is_by s None seek) 1 0) seeks (number - 1) new) (h.few s)
-          (λ own. fewer_than_three _ (ap (λ t. leb 3 (count_by (is_by t None) seeks)) (sym (eqb-true session s own)) ∙ room));
+          (λ own.
+          fewer_than_three _ (ap (λ t. leb 3 (count_by (is_by t None) seeks)) (sym (eqb-true session s own)) ∙ room));
     }

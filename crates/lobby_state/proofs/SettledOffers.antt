@@ -12,26 +12,30 @@ use Rattle.lobby_state.proofs.Lists.{Contains-filter}
 use Rattle.std.proofs.lemmas.Bool.{not-true}
 
 -- a challenge that stays, by whether each of the two plays and gives
-stays_from : (from to giver other : Bool) → not ((from && to) || ((from && not giver) || (to && not other))) ≡ true → from ≡ true
+stays_from : (from to giver other : Bool) → not ((from && to) || ((from && not giver) || (to && not other))) ≡ true
+    → from ≡ true
     → (giver ≡ true) × (to ≡ false)
 stays_from false to giver other e h = (cc, cc)
 stays_from true true giver other e h = (cc, cc)
 stays_from true false false other e h = (cc, cc)
 stays_from true false true other e h = (refl, refl)
 
-stays_to : (from to giver other : Bool) → not ((from && to) || ((from && not giver) || (to && not other))) ≡ true → to ≡ true
+stays_to : (from to giver other : Bool) → not ((from && to) || ((from && not giver) || (to && not other))) ≡ true
+    → to ≡ true
     → (other ≡ true) × (from ≡ false)
 stays_to from false giver other e h = (cc, cc)
 stays_to true true giver other e h = (cc, cc)
 stays_to false true giver false e h = (cc, cc)
 stays_to false true giver true e h = (refl, refl)
 
-neither : (from to giver other : Bool) → from ≡ false → to ≡ false → not ((from && to) || ((from && not giver) || (to && not other))) ≡ true
+neither : (from to giver other : Bool) → from ≡ false → to ≡ false
+    → not ((from && to) || ((from && not giver) || (to && not other))) ≡ true
 neither true to giver other e h = cc
 neither false true giver other e h = cc
 neither false false giver other e h = refl
 
-pub settle_offers : (lobby : LobbyState) (desk serial : ℕ) (terms : Terms) (seats : Seats) → SettleOffers lobby seats (seated lobby desk serial terms seats)
+pub settle_offers : (lobby : LobbyState) (desk serial : ℕ) (terms : Terms) (seats : Seats)
+    → SettleOffers lobby seats (seated lobby desk serial terms seats)
 settle_offers lobby desk serial terms seats =
     let plays : ℕ → Bool = is_seated seats in
     let giver : ℕ → Bool = is_giver lobby.members in

@@ -35,25 +35,31 @@ IsShelfOf-without sessions session shelf h =
     let stays : ℕ → Bool = λ s. not (eqb s session) in
     record {
       sound = IsShelf-fewer shelf (λ request. not (eqb request.by session)) h.sound;
-      members = All-filter_passing (λ (request : Request). Contains sessions request.by) (λ request. Contains (filter stays sessions) request.by)
+      members =
+          All-filter_passing (λ (request : Request). Contains sessions request.by)
+          (λ request. Contains (filter stays sessions) request.by)
           (λ request. not (eqb request.by session))
           (λ request passes there. Contains-filter stays sessions request.by passes there) shelf.requests h.members;
     }
 
 -- an order is made
-pub IsShelfOf-ordered : (sessions : List ℕ) (shelf : ShelfState) (order : Order) → order.number ≡ shelf.made + 1 → IsShelfOf sessions shelf
+pub IsShelfOf-ordered : (sessions : List ℕ) (shelf : ShelfState) (order : Order) → order.number ≡ shelf.made + 1
+    → IsShelfOf sessions shelf
     → IsShelfOf sessions (ordered shelf order)
-IsShelfOf-ordered sessions shelf order next h = record { sound = IsShelf-ordered shelf order next h.sound; members = h.members }
+IsShelfOf-ordered sessions shelf order next h =
+    record { sound = IsShelf-ordered shelf order next h.sound; members = h.members }
 
 -- an account comes, with an order or without
-pub AreCounted-account : (accounts : List Account) (account : Account) (games : List (Option ListedGame)) (started : ℕ) (shelf : ShelfState)
+pub AreCounted-account : (accounts : List Account) (account : Account) (games : List (Option ListedGame)) (started : ℕ)
+    (shelf : ShelfState)
     → AreCounted accounts games started shelf → AreCounted (accounts ++ account ∷ []) games started shelf
 AreCounted-account accounts account games started shelf h =
     let long = length-append accounts (account ∷ []) in
     let orders = h.orders in
     record { few = h.few; room = h.room; orders = omega (arith, long, orders) }
 
-pub AreCounted-new_account : (accounts : List Account) (account : Account) (games : List (Option ListedGame)) (started : ℕ) (shelf : ShelfState)
+pub AreCounted-new_account : (accounts : List Account) (account : Account) (games : List (Option ListedGame))
+    (started : ℕ) (shelf : ShelfState)
     → AreCounted accounts games started shelf
     → AreCounted (accounts ++ account ∷ []) games started (ordered shelf (account_order shelf account))
 AreCounted-new_account accounts account games started shelf h =

@@ -42,14 +42,16 @@ none_there None e = refl
 none_there (Some x) e = cc
 
 -- the slot that was found is free
-pub free-is : (games : List (Option ListedGame)) (slot : ℕ) → position is_none games ≡ Some slot → slice_get games slot ≡ Some None
+pub free-is : (games : List (Option ListedGame)) (slot : ℕ) → position is_none games ≡ Some slot
+    → slice_get games slot ≡ Some None
 free-is games slot e =
     let item = at_place games slot (position-within is_none games slot e) in
     let passes = find-passes is_none games item.0 (find-found is_none games slot e ∙ item.1) in
     item.1 ∙ ap (λ g. Some g) (none_there item.0 passes)
 
 -- two members of different sessions have different handles
-keys_apart : (members : List Member) (p q : Member → Bool) (a b : Member) → AllPairs (λ one another. key_of one.name ≢ key_of another.name) members
+keys_apart : (members : List Member) (p q : Member → Bool) (a b : Member)
+    → AllPairs (λ one another. key_of one.name ≢ key_of another.name) members
     → find p members ≡ Some a → find q members ≡ Some b → a.session ≢ b.session → key_of a.name ≢ key_of b.name
 keys_apart members p q a b h first second apart = λ same.
     let i = position_or_len p members in
@@ -66,10 +68,13 @@ keys_apart members p q a b h first second apart = λ same.
           let one : a ≡ b = cc in
           apart (ap (λ (m : Member). m.session) one)
       | inr differ ↦ elim (cases_lt i j) [
-        | inl before ↦ h i j a before in_j (ap (λ (m : Member). key_of m.name) get_i ∙ same ∙ sym (ap (λ (m : Member). key_of m.name) get_j))
+        | inl before ↦
+            h i j a before in_j
+            (ap (λ (m : Member). key_of m.name) get_i ∙ same ∙ sym (ap (λ (m : Member). key_of m.name) get_j))
         | inr after ↦
             let below : j < i = let ne = differ.1 in omega arith in
-            h j i a below in_i (ap (λ (m : Member). key_of m.name) get_j ∙ sym same ∙ sym (ap (λ (m : Member). key_of m.name) get_i))
+            h j i a below in_i
+            (ap (λ (m : Member). key_of m.name) get_j ∙ sym same ∙ sym (ap (λ (m : Member). key_of m.name) get_i))
       ]
     ]
 
@@ -79,13 +84,16 @@ keys_apart members p q a b h first second apart = λ same.
 abbrev pub IsThere : LobbyState → Member → Type 0
 IsThere lobby member = member_of lobby member.session ≡ Some member
 
-pub found_there : (lobby : LobbyState) (session : ℕ) (member : Member) → member_of lobby session ≡ Some member → (member.session ≡ session) × IsThere lobby member
+pub found_there : (lobby : LobbyState) (session : ℕ) (member : Member) → member_of lobby session ≡ Some member
+    → (member.session ≡ session) × IsThere lobby member
 found_there lobby session member found =
     let own : member.session ≡ session = eqb-true _ _ (find-passes (is_session session) lobby.members member found) in
     (own, subst (λ (s : ℕ). member_of lobby s ≡ Some member) (sym own) found)
 
-member_there : (lobby : LobbyState) (member : Member) → IsThere lobby member → IsMember lobby (player_of lobby.accounts member)
-member_there lobby member there = find-contained (λ (m : Member). m.session) (is_session member.session) lobby.members member there
+member_there : (lobby : LobbyState) (member : Member) → IsThere lobby member
+    → IsMember lobby (player_of lobby.accounts member)
+member_there lobby member there =
+    find-contained (λ (m : Member). m.session) (is_session member.session) lobby.members member there
 
 -- two members are two players
 pub record Apart (one another : Member) : Type 0 where
@@ -95,11 +103,14 @@ pub record Apart (one another : Member) : Type 0 where
 turned : (one another : Member) → Apart one another → Apart another one
 turned one another apart = record { sessions = λ e. apart.sessions (sym e); handles = λ e. apart.handles (sym e) }
 
-pub members_apart : (lobby : LobbyState) (one another : Member) → IsThere lobby one → IsThere lobby another → one.session ≢ another.session
+pub members_apart : (lobby : LobbyState) (one another : Member) → IsThere lobby one → IsThere lobby another
+    → one.session ≢ another.session
     → IsWellFormed lobby → Apart one another
 members_apart lobby one another here there differ h = record {
   sessions = differ;
-  handles = keys_apart lobby.members (is_session one.session) (is_session another.session) one another h.handles here there differ;
+  handles =
+      keys_apart lobby.members (is_session one.session) (is_session another.session) one another h.handles here there
+      differ;
 }
 
 -- ---- lists of two and of four
@@ -110,17 +121,20 @@ pairs_of_two R a b ab zero (suc zero) d before inside = ab
 pairs_of_two R a b ab zero (suc (suc j)) d before inside = absurd (omega arith)
 pairs_of_two R a b ab (suc i) j d before inside = absurd (omega arith)
 
-pub pairs_of_four : {X : Type 0} (R : X → X → Type 0) (a b c d : X) → R a b → R a c → R a d → R b c → R b d → R c d → AllPairs R (a ∷ b ∷ c ∷ d ∷ [])
+pub pairs_of_four : {X : Type 0} (R : X → X → Type 0) (a b c d : X) → R a b → R a c → R a d → R b c → R b d → R c d
+    → AllPairs R (a ∷ b ∷ c ∷ d ∷ [])
 pairs_of_four R a b c d ab ac ad bc bd cd =
     AllPairs-cons R a (b ∷ c ∷ d ∷ [])
     (All-cons (R a) b (c ∷ d ∷ []) ab (All-cons (R a) c (d ∷ []) ac (All-cons (R a) d [] ad (All-nil (R a)))))
-    (AllPairs-cons R b (c ∷ d ∷ []) (All-cons (R b) c (d ∷ []) bc (All-cons (R b) d [] bd (All-nil (R b)))) (pairs_of_two R c d cd))
+    (AllPairs-cons R b (c ∷ d ∷ []) (All-cons (R b) c (d ∷ []) bc (All-cons (R b) d [] bd (All-nil (R b))))
+    (pairs_of_two R c d cd))
 
 pub all_of_two : {X : Type 0} (P : X → Type 0) (a b : X) → P a → P b → All P (a ∷ b ∷ [])
 all_of_two P a b ha hb = All-cons P a (b ∷ []) ha (All-cons P b [] hb (All-nil P))
 
 pub all_of_four : {X : Type 0} (P : X → Type 0) (a b c d : X) → P a → P b → P c → P d → All P (a ∷ b ∷ c ∷ d ∷ [])
-all_of_four P a b c d ha hb hc hd = All-cons P a (b ∷ c ∷ d ∷ []) ha (All-cons P b (c ∷ d ∷ []) hb (all_of_two P c d hc hd))
+all_of_four P a b c d ha hb hc hd =
+    All-cons P a (b ∷ c ∷ d ∷ []) ha (All-cons P b (c ∷ d ∷ []) hb (all_of_two P c d hc hd))
 
 -- ---- the seats of two and of four members
 
@@ -131,15 +145,19 @@ two_apart accounts a b ab = record {
   handles = pairs_of_two (λ one another. key_of one.name ≢ key_of another.name) _ _ ab.handles;
 }
 
-four_apart : (accounts : List Account) (a b c d : Member) → Apart a b → Apart a c → Apart a d → Apart b c → Apart b d → Apart c d
+four_apart : (accounts : List Account) (a b c d : Member) → Apart a b → Apart a c → Apart a d → Apart b c → Apart b d
+    → Apart c d
     → AreApart (record {
       first = record { white = player_of accounts a; black = player_of accounts b };
       second = Some (record { white = player_of accounts c; black = player_of accounts d });
     })
 four_apart accounts a b c d ab ac ad bc bd cd = record {
-  sessions = pairs_of_four (λ one another. one.session ≢ another.session) _ _ _ _ ab.sessions ac.sessions ad.sessions bc.sessions bd.sessions cd.sessions;
+  sessions =
+      pairs_of_four (λ one another. one.session ≢ another.session) _ _ _ _ ab.sessions ac.sessions ad.sessions
+      bc.sessions bd.sessions cd.sessions;
   handles =
-      pairs_of_four (λ one another. key_of one.name ≢ key_of another.name) _ _ _ _ ab.handles ac.handles ad.handles bc.handles bd.handles cd.handles;
+      pairs_of_four (λ one another. key_of one.name ≢ key_of another.name) _ _ _ _ ab.handles ac.handles ad.handles
+      bc.handles bd.handles cd.handles;
 }
 
 -- what a plan says of its seats
@@ -150,7 +168,8 @@ record AreFit (lobby : LobbyState) (variant : Variant) (seats : Seats) : Type 0 
   partners : SitCrosswise lobby seats.first seats.second
 
 -- two at one board
-two_fit : (lobby : LobbyState) (variant : Variant) (white : Bool) (offering accepting : Member) → needs_partners variant ≡ false
+two_fit : (lobby : LobbyState) (variant : Variant) (white : Bool) (offering accepting : Member)
+    → needs_partners variant ≡ false
     → IsThere lobby offering → IsThere lobby accepting → Apart offering accepting
     → AreFit lobby variant (record { first = opponents_of lobby.accounts white offering accepting; second = None })
 two_fit lobby Bughouse white offering accepting two here there apart = cc
@@ -207,14 +226,19 @@ record AreFour (lobby : LobbyState) (offering accepting first second : Member) :
   partners : Apart first second
 
 -- two are apart, and so are their partners, who aren't the two
-are_four : (lobby : LobbyState) (offering accepting first second : Member) → IsThere lobby offering → IsThere lobby accepting → IsThere lobby first
-    → IsThere lobby second → partner_in lobby offering.session ≡ Some first.session → partner_in lobby accepting.session ≡ Some second.session
-    → offering.session ≢ accepting.session → first.session ≢ accepting.session → IsWellFormed lobby → AreFour lobby offering accepting first second
+are_four : (lobby : LobbyState) (offering accepting first second : Member) → IsThere lobby offering
+    → IsThere lobby accepting → IsThere lobby first
+    → IsThere lobby second → partner_in lobby offering.session ≡ Some first.session
+    → partner_in lobby accepting.session ≡ Some second.session
+    → offering.session ≢ accepting.session → first.session ≢ accepting.session → IsWellFormed lobby
+    → AreFour lobby offering accepting first second
 are_four lobby offering accepting first second own other own_partner other_partner own_link other_link opposed away h =
     let links = lobby.partners.links in
     let all = h.partners.apart in
-    let own_back : partner_of links first.session ≡ Some offering.session = partner_of-partner_of links all offering.session first.session own_link in
-    let other_back : partner_of links second.session ≡ Some accepting.session = partner_of-partner_of links all accepting.session second.session other_link in
+    let own_back : partner_of links first.session ≡ Some offering.session =
+    partner_of-partner_of links all offering.session first.session own_link in
+    let other_back : partner_of links second.session ≡ Some accepting.session =
+    partner_of-partner_of links all accepting.session second.session other_link in
     let beside_own : offering.session ≢ first.session =
     λ e. partner_of-other links all offering.session (own_link ∙ ap (λ (s : ℕ). Some s) (sym e)) in
     let beside_other : accepting.session ≢ second.session =
@@ -239,27 +263,32 @@ are_four lobby offering accepting first second own other own_partner other_partn
     }
 
 -- the four at their two boards
-four_fit : (lobby : LobbyState) (white : Bool) (offering accepting first second : Member) → AreFour lobby offering accepting first second
+four_fit : (lobby : LobbyState) (white : Bool) (offering accepting first second : Member)
+    → AreFour lobby offering accepting first second
     → AreFit lobby Bughouse (record {
       first = opponents_of lobby.accounts white offering accepting;
       second = Some (opponents_of lobby.accounts white second first);
     })
 four_fit lobby true offering accepting first second four = record {
   members =
-      all_of_four (IsMember lobby) _ _ _ _ (member_there lobby offering four.own) (member_there lobby accepting four.other)
+      all_of_four (IsMember lobby) _ _ _ _ (member_there lobby offering four.own)
+      (member_there lobby accepting four.other)
       (member_there lobby second four.other_partner) (member_there lobby first four.own_partner);
   apart =
-      four_apart lobby.accounts offering accepting second first four.opposed four.own_across four.own_side four.other_side four.other_across
+      four_apart lobby.accounts offering accepting second first four.opposed four.own_across four.own_side
+      four.other_side four.other_across
       (turned first second four.partners);
   boards = refl;
   partners = (four.own_link, four.other_link);
 }
 four_fit lobby false offering accepting first second four = record {
   members =
-      all_of_four (IsMember lobby) _ _ _ _ (member_there lobby accepting four.other) (member_there lobby offering four.own)
+      all_of_four (IsMember lobby) _ _ _ _ (member_there lobby accepting four.other)
+      (member_there lobby offering four.own)
       (member_there lobby first four.own_partner) (member_there lobby second four.other_partner);
   apart =
-      four_apart lobby.accounts accepting offering first second (turned offering accepting four.opposed) four.other_across four.other_side four.own_side
+      four_apart lobby.accounts accepting offering first second (turned offering accepting four.opposed)
+      four.other_across four.other_side four.own_side
       four.own_across four.partners;
   boards = refl;
   partners = (four.other_link, four.own_link);
@@ -268,7 +297,8 @@ four_fit lobby false offering accepting first second four = record {
 -- ---- who sits beside the two
 
 -- whoever sits beside a member is its partner, and a member
-beside_linked : (lobby : LobbyState) (who : ℕ) (partner : Option ℕ) (member : Member) → partner_in lobby who ≡ partner → member_at lobby partner ≡ Some member
+beside_linked : (lobby : LobbyState) (who : ℕ) (partner : Option ℕ) (member : Member) → partner_in lobby who ≡ partner
+    → member_at lobby partner ≡ Some member
     → (partner_in lobby who ≡ Some member.session) × IsThere lobby member
 beside_linked lobby who None member is found = cc
 beside_linked lobby who (Some session) member is found =
@@ -276,39 +306,50 @@ beside_linked lobby who (Some session) member is found =
     (is ∙ ap (λ (s : ℕ). Some s) (sym at.0), at.1)
 
 -- at one board nobody sits beside a member
-alone : (lobby : LobbyState) (variant : Variant) (member : Member) → needs_partners variant ≡ false → beside lobby variant member ≡ None
+alone : (lobby : LobbyState) (variant : Variant) (member : Member) → needs_partners variant ≡ false
+    → beside lobby variant member ≡ None
 alone lobby Chess member two = refl
 alone lobby Crazyhouse member two = refl
 alone lobby (Fischer number) member two = refl
 alone lobby Bughouse member two = cc
 
 -- a game at one board is of two who aren't partners in it, and need none
-pub alone_together : (lobby : LobbyState) (offering accepting : Member) (terms : Terms) → needs_partners terms.variant ≡ false
-    → (are_partners lobby (paired offering accepting terms) ≡ false) × (lack_partner lobby (paired offering accepting terms) ≡ false)
+pub alone_together : (lobby : LobbyState) (offering accepting : Member) (terms : Terms)
+    → needs_partners terms.variant ≡ false
+    → (are_partners lobby (paired offering accepting terms) ≡ false)
+    × (lack_partner lobby (paired offering accepting terms) ≡ false)
 alone_together lobby offering accepting terms two = (
   ap (holds (is_session accepting.session)) (alone lobby terms.variant offering two),
-  ap (λ (b : Bool). b && (is_none (beside lobby terms.variant offering) || is_none (beside lobby terms.variant accepting))) two,
+  ap
+      (λ (b : Bool).
+      b && (is_none (beside lobby terms.variant offering) || is_none (beside lobby terms.variant accepting)))
+      two,
 )
 
 -- the two, and who sits beside each of them, where nobody is missing
-seats_fit : (lobby : LobbyState) (variant : Variant) (white : Bool) (offering accepting : Member) (first second : Option Member)
+seats_fit : (lobby : LobbyState) (variant : Variant) (white : Bool) (offering accepting : Member)
+    (first second : Option Member)
     → beside lobby variant offering ≡ first → beside lobby variant accepting ≡ second
-    → holds (is_session accepting.session) first ≡ false → (needs_partners variant && (is_none first || is_none second)) ≡ false
+    → holds (is_session accepting.session) first ≡ false
+    → (needs_partners variant && (is_none first || is_none second)) ≡ false
     → IsThere lobby offering → IsThere lobby accepting → offering.session ≢ accepting.session → IsWellFormed lobby
     → AreFit lobby variant (record {
       first = opponents_of lobby.accounts white offering accepting;
       second = second_board lobby.accounts white second first;
     })
 seats_fit lobby Chess white offering accepting None None one two away full own other opposed h =
-    two_fit lobby Chess white offering accepting refl own other (members_apart lobby offering accepting own other opposed h)
+    two_fit lobby Chess white offering accepting refl own other
+    (members_apart lobby offering accepting own other opposed h)
 seats_fit lobby Chess white offering accepting None (Some second) one two away full own other opposed h = cc
 seats_fit lobby Chess white offering accepting (Some first) second one two away full own other opposed h = cc
 seats_fit lobby Crazyhouse white offering accepting None None one two away full own other opposed h =
-    two_fit lobby Crazyhouse white offering accepting refl own other (members_apart lobby offering accepting own other opposed h)
+    two_fit lobby Crazyhouse white offering accepting refl own other
+    (members_apart lobby offering accepting own other opposed h)
 seats_fit lobby Crazyhouse white offering accepting None (Some second) one two away full own other opposed h = cc
 seats_fit lobby Crazyhouse white offering accepting (Some first) second one two away full own other opposed h = cc
 seats_fit lobby (Fischer number) white offering accepting None None one two away full own other opposed h =
-    two_fit lobby (Fischer number) white offering accepting refl own other (members_apart lobby offering accepting own other opposed h)
+    two_fit lobby (Fischer number) white offering accepting refl own other
+    (members_apart lobby offering accepting own other opposed h)
 seats_fit lobby (Fischer number) white offering accepting None (Some second) one two away full own other opposed h = cc
 seats_fit lobby (Fischer number) white offering accepting (Some first) second one two away full own other opposed h = cc
 seats_fit lobby Bughouse white offering accepting None second one two away full own other opposed h = cc
@@ -321,10 +362,13 @@ seats_fit lobby Bughouse white offering accepting (Some first) (Some second) one
     (eqb-false first.session accepting.session away) h)
 
 -- the plan of a game where the two and a free desk are there, and partners where they are needed
-pub planned_where : (lobby : LobbyState) (session from : ℕ) (accepting : Member) (terms : Terms) (offering : Member) (slot : ℕ)
+pub planned_where : (lobby : LobbyState) (session from : ℕ) (accepting : Member) (terms : Terms) (offering : Member)
+    (slot : ℕ)
     → AreTerms terms → member_of lobby session ≡ Some accepting → member_of lobby from ≡ Some offering → from ≢ session
-    → are_partners lobby (paired offering accepting terms) ≡ false → lack_partner lobby (paired offering accepting terms) ≡ false
-    → free_slot lobby ≡ Some slot → nat_le most_games lobby.started ≡ false → is_shelf_full lobby ≡ false → IsWellFormed lobby
+    → are_partners lobby (paired offering accepting terms) ≡ false
+    → lack_partner lobby (paired offering accepting terms) ≡ false
+    → free_slot lobby ≡ Some slot → nat_le most_games lobby.started ≡ false → is_shelf_full lobby ≡ false
+    → IsWellFormed lobby
     → IsPlanned lobby (start_plan lobby (Some (paired offering accepting terms)) (Some slot))
 planned_where lobby session from accepting terms offering slot bounds first third differ away full found few room h =
     let own = found_there lobby session accepting first in
@@ -333,7 +377,9 @@ planned_where lobby session from accepting terms offering slot bounds first thir
     let within : slot < length lobby.games = position-within is_none lobby.games slot found in
     let back : slot + 1 - 1 ≡ slot = omega arith in
     let white = has_white (gives offering) (gives accepting) terms.colour (lobby.started + 1) in
-    let fit = seats_fit lobby terms.variant white offering accepting (beside lobby terms.variant offering) (beside lobby terms.variant accepting) refl refl away full
+    let fit =
+    seats_fit lobby terms.variant white offering accepting (beside lobby terms.variant offering)
+    (beside lobby terms.variant accepting) refl refl away full
     theirs.1 own.1 opposed h in
     let long = h.games in
     record {

@@ -28,21 +28,29 @@ use Rattle.lobby_state.proofs.LinesKept.{Kept, Longer, begins_same, begins_then,
 use Rattle.lobby_state.proofs.Refusals.{holds_after}
 
 -- every act but the session's own Fetch and Bye leaves the lines that wait for it where they stand
-pub kept_after : (lobby : LobbyState) (by session : ℕ) (act : LobbyAct) → (act ≡ Fetch → by ≢ session) → (act ≡ Bye → by ≢ session)
+pub kept_after : (lobby : LobbyState) (by session : ℕ) (act : LobbyAct) → (act ≡ Fetch → by ≢ session)
+    → (act ≡ Bye → by ≢ session)
     → BeginsWith (waiting_of lobby session) (waiting_of (lobby_after lobby by act) session)
 kept_after lobby by session act f b =
-    holds_after (λ (after : LobbyState). BeginsWith (waiting_of lobby session) (waiting_of after session)) lobby (lobby_effect lobby by act)
+    holds_after (λ (after : LobbyState). BeginsWith (waiting_of lobby session) (waiting_of after session)) lobby
+    (lobby_effect lobby by act)
     (begins_same (waiting_of lobby session)) (λ _. (keeps_act lobby by act).lines session f b)
 
 -- and none waits after its own Fetch
 emptied_by : (b : Bool) (session : ℕ) (x : Member) (xs : List Member) → is_session session x ≡ b
     → lines_in (find (is_session session) (change_first (is_session session) emptied xs)) ≡ []
-    → lines_in (find (is_session session) (cond b (emptied x ∷ xs) (x ∷ change_first (is_session session) emptied xs))) ≡ []
-emptied_by true session x xs e rest = ap (λ (b : Bool). lines_in (cond b (Some (emptied x)) (find (is_session session) xs))) e
+    → lines_in (find (is_session session) (cond b (emptied x ∷ xs) (x ∷ change_first (is_session session) emptied xs)))
+    ≡ []
+emptied_by true session x xs e rest =
+    ap (λ (b : Bool). lines_in (cond b (Some (emptied x)) (find (is_session session) xs))) e
 emptied_by false session x xs e rest =
-    ap (λ (b : Bool). lines_in (cond b (Some x) (find (is_session session) (change_first (is_session session) emptied xs)))) e ∙ rest
+    ap (λ (b : Bool).
+    lines_in (cond b (Some x) (find (is_session session) (change_first (is_session session) emptied xs))))
+    e
+    ∙ rest
 
-pub none_waits : (session : ℕ) (xs : List Member) → lines_in (find (is_session session) (change_first (is_session session) emptied xs)) ≡ []
+pub none_waits : (session : ℕ) (xs : List Member)
+    → lines_in (find (is_session session) (change_first (is_session session) emptied xs)) ≡ []
 none_waits session [] = refl
 none_waits session (x ∷ xs) = emptied_by (is_session session x) session x xs refl (none_waits session xs)
 
@@ -50,19 +58,24 @@ none_waits session (x ∷ xs) = emptied_by (is_session session x) session x xs r
 differs : (one another : ℕ) → (one == another) ≡ false → one ≢ another
 differs one another e same = grind (arith, e, same)
 
-is_fetch : (lobby : LobbyState) (session : ℕ) (act : LobbyAct) → (act ≡ Fetch) ⊎ ((act ≢ Fetch) × (lines_given lobby session act ≡ []))
+is_fetch : (lobby : LobbyState) (session : ℕ) (act : LobbyAct)
+    → (act ≡ Fetch) ⊎ ((act ≢ Fetch) × (lines_given lobby session act ≡ []))
 is_fetch lobby session Fetch = inl refl
 is_fetch lobby session _ = inr ((λ e. cc), refl)
 
 -- what a session is given by its own act and later, and what waits then
-own_by : (lobby : LobbyState) (session : ℕ) (act : LobbyAct) (later : List (List ℕ)) → (act ≢ Fetch → BeginsWith (waiting_of lobby session) later)
+own_by : (lobby : LobbyState) (session : ℕ) (act : LobbyAct) (later : List (List ℕ))
+    → (act ≢ Fetch → BeginsWith (waiting_of lobby session) later)
     → BeginsWith (waiting_of lobby session) (lines_given lobby session act ++ later)
 own_by lobby session act later h = elim (is_fetch lobby session act) [
   | inl e ↦ record { more = later; is = ap (λ (a : LobbyAct). lines_given lobby session a ++ later) e }
-  | inr other ↦ subst (λ (given : List (List ℕ)). BeginsWith (waiting_of lobby session) (given ++ later)) (sym other.1) (h other.0)
+  | inr other ↦
+      subst (λ (given : List (List ℕ)). BeginsWith (waiting_of lobby session) (given ++ later)) (sym other.1)
+      (h other.0)
 ]
 
-given_by : (own : Bool) (lobby : LobbyState) (by session : ℕ) (act : LobbyAct) (later : List (List ℕ)) → (by == session) ≡ own
+given_by : (own : Bool) (lobby : LobbyState) (by session : ℕ) (act : LobbyAct) (later : List (List ℕ))
+    → (by == session) ≡ own
     → (act ≡ Bye → by ≢ session) → BeginsWith (waiting_of (lobby_after lobby by act) session) later
     → BeginsWith (waiting_of lobby session) ((if own then lines_given lobby session act else []) ++ later)
 given_by true lobby by session act later e b h =
@@ -74,7 +87,8 @@ given_by false lobby by session act later e b h =
     (kept_after lobby by session act (λ _ same. differs by session e same) b) h
 
 pub all_kept : (lobby : LobbyState) (session : ℕ) (deeds : List Deed) → All (Stays session) deeds
-    → BeginsWith (waiting_of lobby session) (all_given lobby session deeds ++ waiting_of (after_all lobby deeds) session)
+    → BeginsWith (waiting_of lobby session)
+    (all_given lobby session deeds ++ waiting_of (after_all lobby deeds) session)
 all_kept lobby session [] stays = begins_same (waiting_of lobby session)
 all_kept lobby session (deed ∷ deeds) stays =
     let next : LobbyState = lobby_after lobby deed.by deed.act in
@@ -92,18 +106,21 @@ seat_lines desk serial None m = same_lines m m refl refl
 seat_lines desk serial (Some number) m = same_lines m (in_seat desk serial (Some number) m) refl refl
 
 kept_start : (lobby : LobbyState) (session desk serial : ℕ) (seats : Seats)
-    → Kept session lobby.members (map (λ m. in_seat desk serial (seat_number m.session (seat_list seats)) m) lobby.members)
+    → Kept session lobby.members
+    (map (λ m. in_seat desk serial (seat_number m.session (seat_list seats)) m) lobby.members)
 kept_start lobby session desk serial seats =
     kept_map (λ m. in_seat desk serial (seat_number m.session (seat_list seats)) m)
     (λ m. seat_lines desk serial (seat_number m.session (seat_list seats)) m) session lobby.members
 
 kept_clear : (lobby : LobbyState) (session desk : ℕ) → Kept session lobby.members (map (off_desk desk) lobby.members)
-kept_clear lobby session desk = kept_map (off_desk desk) (λ m. same_lines m (off_desk desk m) refl refl) session lobby.members
+kept_clear lobby session desk =
+    kept_map (off_desk desk) (λ m. same_lines m (off_desk desk m) refl refl) session lobby.members
 
 pub kept_plan : (lobby : LobbyState) (session : ℕ) (plan : Plan) (game : Option StoredGame) (is_cleared : Bool)
     → BeginsWith (waiting_of lobby session) (waiting_of (committed lobby plan game is_cleared) session)
 kept_plan lobby session (Start desk serial terms seats) game is_cleared = kept_start lobby session desk serial seats
-kept_plan lobby session (Resume desk serial number terms seats) game is_cleared = kept_start lobby session desk serial seats
+kept_plan lobby session (Resume desk serial number terms seats) game is_cleared =
+    kept_start lobby session desk serial seats
 kept_plan lobby session (Ask from to number) game is_cleared =
     kept_change (is_session to) (with_line (ask_line lobby from)) (one_line (ask_line lobby from)) session lobby.members
 kept_plan lobby session (Clear by desk serial) None true = kept_clear lobby session desk

@@ -29,14 +29,16 @@ length-kept : {X Y : Type 0} (g : X → Y) (xs ys : List X) → map g xs ≡ map
 length-kept g xs ys e = sym (length-map xs g) ∙ ap length e ∙ length-map ys g
 
 -- the lobby has other members and challenges, where sessions and handles are those of before
-pub kept : (lobby : LobbyState) (members : List Member) (challenges : List Challenge) (games : List (Option ListedGame)) (started : ℕ) (shelf : ShelfState)
+pub kept : (lobby : LobbyState) (members : List Member) (challenges : List Challenge) (games : List (Option ListedGame))
+    (started : ℕ) (shelf : ShelfState)
     → map (λ m. m.session) members ≡ map (λ m. m.session) lobby.members
     → map (λ m. key_of m.name) members ≡ map (λ m. key_of m.name) lobby.members
     → AreChallengesOf (sessions_of lobby.members) challenges
     → length games ≡ desks → All (IsStarted started) games → All (HasSeats games) members
     → IsShelfOf (sessions_of lobby.members) shelf → AreCounted lobby.accounts games started shelf
     → IsWellFormed lobby
-    → IsWellFormed (record lobby { members = members; challenges = challenges; games = games; started = started; shelf = shelf })
+    → IsWellFormed
+    (record lobby { members = members; challenges = challenges; games = games; started = started; shelf = shelf })
 kept lobby members challenges games started shelf sessions keys stand long serials places stored counted h = record {
   accounts = h.accounts;
   sessions = AllPairs-same (λ m. m.session) lobby.members members sessions h.sessions;
@@ -65,7 +67,8 @@ member_changed lobby test change session name seats h =
     (All-change_first (HasSeats lobby.games) test change seats lobby.members h.places) h.shelf h.counted h
 
 -- there are other challenges
-pub with_challenges : (lobby : LobbyState) (challenges : List Challenge) → AreChallengesOf (sessions_of lobby.members) challenges → IsWellFormed lobby
+pub with_challenges : (lobby : LobbyState) (challenges : List Challenge)
+    → AreChallengesOf (sessions_of lobby.members) challenges → IsWellFormed lobby
     → IsWellFormed (record lobby { challenges = challenges })
 with_challenges lobby challenges are h = assumption (are, h)
 
@@ -73,7 +76,8 @@ with_challenges lobby challenges are h = assumption (are, h)
 pub challenges_gone : (lobby : LobbyState) (test : Challenge → Bool) → IsWellFormed lobby
     → IsWellFormed (record lobby { challenges = filter test lobby.challenges })
 challenges_gone lobby test h =
-    with_challenges lobby (filter test lobby.challenges) (AreChallengesOf-filter (sessions_of lobby.members) test lobby.challenges h.challenges) h
+    with_challenges lobby (filter test lobby.challenges)
+    (AreChallengesOf-filter (sessions_of lobby.members) test lobby.challenges h.challenges) h
 
 -- there are at most as many sessions as members
 pub members_few : (lobby : LobbyState) → IsWellFormed lobby → length (sessions_of lobby.members) ≤ 256
@@ -84,21 +88,26 @@ pub has_number_left : (lobby : LobbyState) → IsWellFormed lobby → length lob
 has_number_left lobby h = has_numbers_left (sessions_of lobby.members) lobby.seeks (members_few lobby h) h.seeks
 
 -- there are other seeks
-pub with_seeks : (lobby : LobbyState) (seeks : List Seek) → AreSeeksOf (sessions_of lobby.members) seeks → IsWellFormed lobby
+pub with_seeks : (lobby : LobbyState) (seeks : List Seek) → AreSeeksOf (sessions_of lobby.members) seeks
+    → IsWellFormed lobby
     → IsWellFormed (record lobby { seeks = seeks })
 with_seeks lobby seeks are h = assumption (are, h)
 
 -- some seeks go
-pub seeks_gone : (lobby : LobbyState) (test : Seek → Bool) → IsWellFormed lobby → IsWellFormed (record lobby { seeks = filter test lobby.seeks })
+pub seeks_gone : (lobby : LobbyState) (test : Seek → Bool) → IsWellFormed lobby
+    → IsWellFormed (record lobby { seeks = filter test lobby.seeks })
 seeks_gone lobby test h =
-    with_seeks lobby (filter test lobby.seeks) (AreSeeksOf-filter (sessions_of lobby.members) test lobby.seeks h.seeks) h
+    with_seeks lobby (filter test lobby.seeks) (AreSeeksOf-filter (sessions_of lobby.members) test lobby.seeks h.seeks)
+    h
 
 -- others are in the channels
-pub with_channels : (lobby : LobbyState) (channels : List Membership) → IsWellFormed lobby → IsWellFormed (record lobby { channels = channels })
+pub with_channels : (lobby : LobbyState) (channels : List Membership) → IsWellFormed lobby
+    → IsWellFormed (record lobby { channels = channels })
 with_channels lobby channels h = assumption h
 
 -- there are other requests and links of partners
-pub with_partners : (lobby : LobbyState) (partners : PartnerLists) → ArePartnersOf (sessions_of lobby.members) partners → IsWellFormed lobby
+pub with_partners : (lobby : LobbyState) (partners : PartnerLists) → ArePartnersOf (sessions_of lobby.members) partners
+    → IsWellFormed lobby
     → IsWellFormed (record lobby { partners = partners })
 with_partners lobby partners are h = assumption (are, h)
 
@@ -140,12 +149,15 @@ find-has P p (x ∷ xs) y h e = elim (find-step (p x) x y (find p xs) e) [
 ]
 
 -- the places of a member are at desks, and nobody has no places
-found_at_desks : (lobby : LobbyState) (session : ℕ) (found : Option Member) → member_of lobby session ≡ found → IsWellFormed lobby
+found_at_desks : (lobby : LobbyState) (session : ℕ) (found : Option Member) → member_of lobby session ≡ found
+    → IsWellFormed lobby
     → AreAtDesks (places_in found).rows
 found_at_desks lobby session None is h = All-nil (λ place. IsDesk place.desk)
 found_at_desks lobby session (Some member) is h =
-    All-weaker (IsSeatOf lobby.games member.session) (λ place. IsDesk place.desk) (λ place seat. seat.desk) member.places.rows
+    All-weaker (IsSeatOf lobby.games member.session) (λ place. IsDesk place.desk) (λ place seat. seat.desk)
+    member.places.rows
     (find-has (HasSeats lobby.games) (is_session session) lobby.members member h.places is)
 
-pub places_at_desks : (lobby : LobbyState) (session : ℕ) → IsWellFormed lobby → AreAtDesks (places_of lobby session).rows
+pub places_at_desks : (lobby : LobbyState) (session : ℕ) → IsWellFormed lobby
+    → AreAtDesks (places_of lobby session).rows
 places_at_desks lobby session h = found_at_desks lobby session (member_of lobby session) refl h

@@ -42,7 +42,8 @@ use Rattle.lobby_store.specs.Agreeing.{LeadsAlong, TellsSaved}
 -- where a store is to hold the same, and the orders that stand are the same, it is led along
 pub leads_same : (old new : LobbyState) → for_store new ≡ for_store old → LeadsAlong old new
 leads_same old new same = record {
-  agrees = λ table agreed. subst (λ (s : ForStore). (key : List ℕ) → table_with table s.2 key ≡ wanted s.0 s.1 key) (sym same) agreed;
+  agrees = λ table agreed.
+      subst (λ (s : ForStore). (key : List ℕ) → table_with table s.2 key ≡ wanted s.0 s.1 key) (sym same) agreed;
   more = [];
   orders = ap (λ (s : ForStore). s.2) same ∙ sym (append-nil old.shelf.orders);
 }
@@ -50,7 +51,8 @@ leads_same old new same = record {
 pub leads_nowhere : (lobby : LobbyState) → LeadsAlong lobby lobby
 leads_nowhere lobby = leads_same lobby lobby refl
 
-none_found : (accounts : List Account) (key : List ℕ) → is_some (account_of accounts key) ≡ false → find (is_account_at (account_key key)) accounts ≡ None
+none_found : (accounts : List Account) (key : List ℕ) → is_some (account_of accounts key) ≡ false
+    → find (is_account_at (account_key key)) accounts ≡ None
 none_found [] key none = refl
 none_found (account ∷ accounts) key none =
     elim (bytes_eq (key_of account.name) key) as (λ t. is_some (cond t (Some account) (account_of accounts key)) ≡ false
@@ -59,47 +61,62 @@ none_found (account ∷ accounts) key none =
       | false ↦ λ rest. none_found accounts key rest
     ] none
 
-leads_registered : (lobby : LobbyState) (member : Option Member) (digest : List ℕ) → holds (is_registered lobby.accounts) member ≡ false → LeadsAlong lobby (registered lobby member digest)
+leads_registered : (lobby : LobbyState) (member : Option Member) (digest : List ℕ)
+    → holds (is_registered lobby.accounts) member ≡ false → LeadsAlong lobby (registered lobby member digest)
 leads_registered lobby None digest unknown = leads_nowhere lobby
 leads_registered lobby (Some member) digest unknown =
     let account : Account = record { name = member.name; digest = digest } in
     record {
-      agrees = λ table agreed. orders-lead.account table lobby.accounts lobby.shelf account (none_found lobby.accounts (key_of member.name) unknown) agreed;
+      agrees = λ table agreed.
+          orders-lead.account table lobby.accounts lobby.shelf account
+          (none_found lobby.accounts (key_of member.name) unknown) agreed;
       more = account_order lobby.shelf account ∷ [];
       orders = refl;
     }
 
 -- an act that changes what a store is to hold has a row of its own
-leads_after : (lobby : LobbyState) (session : ℕ) (act : LobbyAct) → (TellsSaved act → ⊥) → NoneHolds (lobby_effect lobby session act).causes
+leads_after : (lobby : LobbyState) (session : ℕ) (act : LobbyAct) → (TellsSaved act → ⊥)
+    → NoneHolds (lobby_effect lobby session act).causes
     → LeadsAlong lobby (lobby_effect lobby session act).after
-leads_after lobby session (Register digest) other none = leads_registered lobby (member_of lobby session) digest none.1.0
+leads_after lobby session (Register digest) other none =
+    leads_registered lobby (member_of lobby session) digest none.1.0
 leads_after lobby session (Saved upto) other none = absurd (other tt)
 leads_after lobby session act other none = leads_same lobby _ ((keeps_act lobby session act).store tt)
 
-pub leads_act : (lobby : LobbyState) (session : ℕ) (act : LobbyAct) → (TellsSaved act → ⊥) → LeadsAlong lobby (lobby_after lobby session act)
+pub leads_act : (lobby : LobbyState) (session : ℕ) (act : LobbyAct) → (TellsSaved act → ⊥)
+    → LeadsAlong lobby (lobby_after lobby session act)
 leads_act lobby session act other =
-    holds_after (LeadsAlong lobby) lobby (lobby_effect lobby session act) (leads_nowhere lobby) (leads_after lobby session act other)
+    holds_after (LeadsAlong lobby) lobby (lobby_effect lobby session act) (leads_nowhere lobby)
+    (leads_after lobby session act other)
 
 -- ---- plans
 
 -- the number of a stored game is below 2^64
-small_number : (low : ℕ) (games : List Shelved) (number : ℕ) (game : StoredGame) → RiseAbove low games → stored_game games number ≡ Some game → number < 2 ^ 64
+small_number : (low : ℕ) (games : List Shelved) (number : ℕ) (game : StoredGame) → RiseAbove low games
+    → stored_game games number ≡ Some game → number < 2 ^ 64
 small_number low [] number game rise lies = cc
 small_number low (row ∷ games) number game rise lies =
-    elim (has_number number row) as (λ t. has_number number row ≡ t → row_game (cond t (Some row) (find (has_number number) games)) ≡ Some game → number < 2 ^ 64) [
+    elim (has_number number row)
+    as (λ t.
+    has_number number row ≡ t → row_game (cond t (Some row) (find (has_number number) games)) ≡ Some game
+    → number < 2 ^ 64) [
       | true ↦ λ is here. let same = eqb-true row.number number is in let small = rise.1 in omega (arith, same, small)
       | false ↦ λ is rest. small_number row.number games number game rise.2 rest
     ] refl lies
 
-leads_shelved : (lobby : LobbyState) (session desk serial : ℕ) (game : StoredGame) → IsWellFormed lobby → CanShelve lobby (Clear session desk serial) (Some game)
+leads_shelved : (lobby : LobbyState) (session desk serial : ℕ) (game : StoredGame) → IsWellFormed lobby
+    → CanShelve lobby (Clear session desk serial) (Some game)
     → LeadsAlong lobby (put_away lobby desk (Some game))
 leads_shelved lobby session desk serial game h can = record {
-  agrees = λ table agreed. orders-lead.goes_on table lobby.accounts lobby.shelf game h.shelf.sound (place-left lobby session desk serial (Some game) can h) agreed;
+  agrees = λ table agreed.
+      orders-lead.goes_on table lobby.accounts lobby.shelf game h.shelf.sound
+      (place-left lobby session desk serial (Some game) can h) agreed;
   more = game_order lobby.shelf game ∷ [];
   orders = refl;
 }
 
-leads_resumed : (lobby : LobbyState) (desk serial number : ℕ) (terms : Terms) (seats : Seats) → IsWellFormed lobby → CanResume lobby desk serial number terms seats
+leads_resumed : (lobby : LobbyState) (desk serial number : ℕ) (terms : Terms) (seats : Seats) → IsWellFormed lobby
+    → CanResume lobby desk serial number terms seats
     → LeadsAlong lobby (resumed lobby desk serial number terms seats)
 leads_resumed lobby desk serial number terms seats h can = record {
   agrees = λ table agreed. orders-lead.comes_off table lobby.accounts lobby.shelf number h.shelf.sound
@@ -108,13 +125,16 @@ leads_resumed lobby desk serial number terms seats h can = record {
   orders = refl;
 }
 
-pub leads_plan : (lobby : LobbyState) (plan : Plan) (game : Option StoredGame) (is_cleared : Bool) → IsWellFormed lobby → IsPlanned lobby plan → CanShelve lobby plan game
+pub leads_plan : (lobby : LobbyState) (plan : Plan) (game : Option StoredGame) (is_cleared : Bool) → IsWellFormed lobby
+    → IsPlanned lobby plan → CanShelve lobby plan game
     → LeadsAlong lobby (committed lobby plan game is_cleared)
 leads_plan lobby (Start desk serial terms seats) game is_cleared h can shelving = leads_same lobby _ refl
 leads_plan lobby (Clear session desk serial) None true h can shelving = leads_same lobby _ refl
-leads_plan lobby (Clear session desk serial) (Some game) true h can shelving = leads_shelved lobby session desk serial game h shelving
+leads_plan lobby (Clear session desk serial) (Some game) true h can shelving =
+    leads_shelved lobby session desk serial game h shelving
 leads_plan lobby (Clear session desk serial) game false h can shelving = leads_same lobby _ refl
-leads_plan lobby (Resume desk serial number terms seats) game is_cleared h can shelving = leads_resumed lobby desk serial number terms seats h can
+leads_plan lobby (Resume desk serial number terms seats) game is_cleared h can shelving =
+    leads_resumed lobby desk serial number terms seats h can
 leads_plan lobby (Ask from to number) game is_cleared h can shelving = leads_same lobby _ refl
 
 pub leads_then : (old mid new : LobbyState) → LeadsAlong old mid → LeadsAlong mid new → LeadsAlong old new

@@ -25,7 +25,8 @@ pub carries_none : (table : Option Records) → Carries table table []
 carries_none None = tt
 carries_none (Some table) = λ key. refl
 
-pub carries_then : (old mid new : Option Records) (first rest : List Order) → Carries old mid first → Carries mid new rest → Carries old new (first ++ rest)
+pub carries_then : (old mid new : Option Records) (first rest : List Order) → Carries old mid first
+    → Carries mid new rest → Carries old new (first ++ rest)
 carries_then None None None first rest p q = tt
 carries_then None None (Some new) first rest p q = absurd q
 carries_then None (Some mid) new first rest p q = absurd p
@@ -36,15 +37,19 @@ carries_then (Some old) (Some mid) (Some new) first rest p q = λ key.
     ∙ ap (λ (t : StoreMap). t key) (sym (table_with-append (held old) first rest))
 
 -- the calls for orders, and for one more
-calls_then : (old mid : Calls) (first rest : List Order) → mid ≡ old ++ calls_for first → mid ++ calls_for rest ≡ old ++ calls_for (first ++ rest)
+calls_then : (old mid : Calls) (first rest : List Order) → mid ≡ old ++ calls_for first
+    → mid ++ calls_for rest ≡ old ++ calls_for (first ++ rest)
 calls_then old mid first rest is =
     ap (λ (c : Calls). c ++ calls_for rest) is ∙ append_assoc old (calls_for first) (calls_for rest)
     ∙ ap (λ (c : Calls). old ++ c) (sym (map-append (λ (order : Order). note (asked_with order.bytes) Done) first rest))
 
-pub called_then : (kept : Kept) (old mid new : Calls) (first rest : List Order) → mid ≡ old ++ calls_for first → CallsFor kept rest mid new → CallsFor kept (first ++ rest) old new
+pub called_then : (kept : Kept) (old mid new : Calls) (first rest : List Order) → mid ≡ old ++ calls_for first
+    → CallsFor kept rest mid new → CallsFor kept (first ++ rest) old new
 called_then Done old mid new first rest is p = p ∙ calls_then old mid first rest is
-called_then Failed old mid new first rest is p = (p.0, p.1 ∙ ap (λ (c : Calls). noted c p.0 Failed) (calls_then old mid first rest is))
-called_then Memory old mid new first rest is p = (p.0, p.1 ∙ ap (λ (c : Calls). noted c p.0 Memory) (calls_then old mid first rest is))
+called_then Failed old mid new first rest is p =
+    (p.0, p.1 ∙ ap (λ (c : Calls). noted c p.0 Failed) (calls_then old mid first rest is))
+called_then Memory old mid new first rest is p =
+    (p.0, p.1 ∙ ap (λ (c : Calls). noted c p.0 Memory) (calls_then old mid first rest is))
 
 -- the two tests of keys say the same
 is_tied : (o : Ordering) → is_eq o ≡ true → o ≡ Equal
@@ -53,12 +58,15 @@ is_tied Equal e = refl
 is_tied Greater e = cc
 
 pub tied_same : (one other : List ℕ) → eq_by_cmp keys_order one other ≡ true → one ≡ other
-tied_same one other tied = slice_cmp-IsAntisymmetric nat_cmp-IsAntisymmetric one other (is_tied (keys_order one other) tied)
+tied_same one other tied =
+    slice_cmp-IsAntisymmetric nat_cmp-IsAntisymmetric one other (is_tied (keys_order one other) tied)
 
 pub same_test : (key order : List ℕ) → eq_by_cmp keys_order key order ≡ bytes_eq order key
 same_test key order = both_ways (eq_by_cmp keys_order key order) (bytes_eq order key)
     (λ tied. (bytes_eq-Decides order key).1 (sym (tied_same key order tied)))
-    (λ same. subst (λ k. eq_by_cmp keys_order k order ≡ true) ((bytes_eq-Decides order key).0 same) ((eq_by_cmp_equiv nat_list_cmp_total).refl order))
+    (λ same.
+    subst (λ k. eq_by_cmp keys_order k order ≡ true) ((bytes_eq-Decides order key).0 same)
+    ((eq_by_cmp_equiv nat_list_cmp_total).refl order))
 
 put_held : (old : Records) (order : Order) (bytes : List ℕ) (key : List ℕ) → order.bytes ≡ Some bytes
     → held (map.insert old order.key bytes) key ≡ table_with (held old) (order ∷ []) key

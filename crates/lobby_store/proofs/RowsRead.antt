@@ -25,7 +25,8 @@ pub account_elsewhere : (account : Account) (pair : List ℕ × List ℕ) → Is
     → (pair.0 ≡ account_key (key_of account.name) → ⊥) → IsNoRow pair
 unfolding OfAccount OfGame
 account_elsewhere account pair spelled elsewhere (AnAccount other) row =
-    elsewhere (subst (OfAccount (λ (x : Account). pair.0 ≡ account_key (key_of x.name))) (one_spelled (a.Account other) (a.Account account) pair.1 row.spelled spelled) row.own)
+    elsewhere (subst (OfAccount (λ (x : Account). pair.0 ≡ account_key (key_of x.name)))
+    (one_spelled (a.Account other) (a.Account account) pair.1 row.spelled spelled) row.own)
 account_elsewhere account pair spelled elsewhere (AGame number game) row =
     subst (OfGame (λ x. Unit {0})) (one_spelled (a.Game game) (a.Account account) pair.1 row.spelled spelled) tt
 

@@ -20,7 +20,8 @@ none_below k h = omega arith
 pub AllTaken-none : (taken : List (List ℕ)) → AllTaken taken 0
 AllTaken-none taken = λ k h. absurd (none_below k h)
 
-pub AllTaken-more : (taken : List (List ℕ)) (n : ℕ) → AllTaken taken n → is_taken taken (key_of (guest_of n)) ≡ true → AllTaken taken (n + 1)
+pub AllTaken-more : (taken : List (List ℕ)) (n : ℕ) → AllTaken taken n → is_taken taken (key_of (guest_of n)) ≡ true
+    → AllTaken taken (n + 1)
 AllTaken-more taken n all next k h =
     elim (cases k n h) as (λ _. is_taken taken (key_of (guest_of k)) ≡ true) [
       | inl less ↦ all k less
@@ -38,11 +39,14 @@ pub bytes_eq-self : (a : List ℕ) → bytes_eq a a ≡ true
 bytes_eq-self a = nat_list_eq_equiv.refl a
 
 -- another key stays taken
-taken-without : (taken : List (List ℕ)) (key gone : List ℕ) → (key ≡ gone → ⊥) → is_taken taken key ≡ true → is_taken (without gone taken) key ≡ true
+taken-without : (taken : List (List ℕ)) (key gone : List ℕ) → (key ≡ gone → ⊥) → is_taken taken key ≡ true
+    → is_taken (without gone taken) key ≡ true
 unfolding without
 taken-without [] key gone differ h = h
 taken-without (first ∷ taken) key gone differ h =
-    elim (bytes_eq first key) as (λ t. bytes_eq first key ≡ t → t || is_taken taken key ≡ true → is_taken (without gone (first ∷ taken)) key ≡ true) [
+    elim (bytes_eq first key)
+    as (λ t.
+    bytes_eq first key ≡ t → t || is_taken taken key ≡ true → is_taken (without gone (first ∷ taken)) key ≡ true) [
       | true ↦ λ same _.
           let there : first ≡ key = (bytes_eq-Decides first key).0 same in
           let stays : bytes_eq first gone ≡ false = other first there in
@@ -58,7 +62,8 @@ taken-without (first ∷ taken) key gone differ h =
           | false ↦ λ differs. refl
         ] refl
 
-    later : (t : Bool) → is_taken (without gone taken) key ≡ true → is_taken (cond (not t) (first ∷ without gone taken) (without gone taken)) key ≡ true
+    later : (t : Bool) → is_taken (without gone taken) key ≡ true
+        → is_taken (cond (not t) (first ∷ without gone taken) (without gone taken)) key ≡ true
     later true h = h
     later false h = or_right (bytes_eq first key) _ h
 
@@ -66,24 +71,30 @@ without-short : (taken : List (List ℕ)) (key : List ℕ) → length (without k
 unfolding without
 without-short [] key = omega arith
 without-short (first ∷ taken) key =
-    elim (bytes_eq first key) as (λ t. length (cond (not t) (first ∷ without key taken) (without key taken)) ≤ length (first ∷ taken)) [
+    elim (bytes_eq first key)
+    as (λ t. length (cond (not t) (first ∷ without key taken) (without key taken)) ≤ length (first ∷ taken)) [
       | true ↦ let rest = without-short taken key in omega (arith, rest)
       | false ↦ let rest = without-short taken key in omega (arith, rest)
     ]
 
 -- a key that is taken goes
-without-shorter : (taken : List (List ℕ)) (key : List ℕ) → is_taken taken key ≡ true → length (without key taken) < length taken
+without-shorter : (taken : List (List ℕ)) (key : List ℕ) → is_taken taken key ≡ true
+    → length (without key taken) < length taken
 unfolding without
 without-shorter [] key h = absurd (let bad : false ≡ true = h in cc)
 without-shorter (first ∷ taken) key h =
-    elim (bytes_eq first key) as (λ t. bytes_eq first key ≡ t → t || is_taken taken key ≡ true → length (cond (not t) (first ∷ without key taken) (without key taken)) < length (first ∷ taken)) [
+    elim (bytes_eq first key)
+    as (λ t.
+    bytes_eq first key ≡ t → t || is_taken taken key ≡ true
+    → length (cond (not t) (first ∷ without key taken) (without key taken)) < length (first ∷ taken)) [
       | true ↦ λ _ _. let rest = without-short taken key in omega (arith, rest)
       | false ↦ λ _ h. let rest = without-shorter taken key h in omega (arith, rest)
     ] refl h
 
 -- a letter of a guest's key
 small : (d : ℕ) → d < 26 → to_ascii_lowercase (65 + d) ≡ 97 + d
-small d h = (lowercase_is (65 + d)).0 (omega arith, omega arith) ∙ (let same : 65 + d + 32 ≡ 97 + d = omega arith in same)
+small d h =
+    (lowercase_is (65 + d)).0 (omega arith, omega arith) ∙ (let same : 65 + d + 32 ≡ 97 + d = omega arith in same)
 
 -- equal letters of keys are equal digits
 digit : (a b : ℕ) → a < 26 → b < 26 → to_ascii_lowercase (65 + a) ≡ to_ascii_lowercase (65 + b) → a ≡ b
@@ -117,7 +128,10 @@ AllTaken-length (suc n) taken small_enough all =
     let fewer = without-shorter taken gone there in
     let rest : n ≤ length (without gone taken) =
     AllTaken-length n (without gone taken) (omega arith)
-    (λ k h. taken-without taken (key_of (guest_of k)) gone (λ same. not_below k n h (guest_keys_differ k n (below k n h small_enough) (omega arith) same)) (all k (more k n h))) in
+    (λ k h.
+    taken-without taken (key_of (guest_of k)) gone
+    (λ same. not_below k n h (guest_keys_differ k n (below k n h small_enough) (omega arith) same))
+    (all k (more k n h))) in
     omega arith
   where
     not_below : (k n : ℕ) → k < n → k ≡ n → ⊥
@@ -130,19 +144,27 @@ AllTaken-length (suc n) taken small_enough all =
     more k n h = omega arith
 
 -- where as many are taken as there are keys, the next is free
-next_free : (taken : List (List ℕ)) (n : ℕ) → n < 456976 → length taken ≤ n → AllTaken taken n → is_taken taken (key_of (guest_of n)) ≡ false
+next_free : (taken : List (List ℕ)) (n : ℕ) → n < 456976 → length taken ≤ n → AllTaken taken n
+    → is_taken taken (key_of (guest_of n)) ≡ false
 next_free taken n below enough all =
     elim (is_taken taken (key_of (guest_of n))) as (λ t. is_taken taken (key_of (guest_of n)) ≡ t → t ≡ false) [
-      | true ↦ λ e. let bound : n + 1 ≤ length taken = AllTaken-length (n + 1) taken (omega arith) (AllTaken-more taken n all e) in absurd (omega arith)
+      | true ↦ λ e.
+          let bound : n + 1 ≤ length taken =
+          AllTaken-length (n + 1) taken (omega arith) (AllTaken-more taken n all e) in
+          absurd (omega arith)
       | false ↦ λ e. refl
     ] refl
 
-least_from : (taken : List (List ℕ)) (n more : ℕ) → n < 456976 → length taken < 456976 → length taken ≤ n + more → AllTaken taken n
+least_from : (taken : List (List ℕ)) (n more : ℕ) → n < 456976 → length taken < 456976 → length taken ≤ n + more
+    → AllTaken taken n
     → IsLeastFree taken (guest_of (free_number taken n more))
 least_from taken n zero below few enough all =
     record { number = n; within = below; name_is = refl; free = next_free taken n below (omega arith) all; least = all }
 least_from taken n (suc more) below few enough all =
-    elim (is_taken taken (key_of (guest_of n))) as (λ t. is_taken taken (key_of (guest_of n)) ≡ t → IsLeastFree taken (guest_of (cond t (free_number taken (n + 1) more) n))) [
+    elim (is_taken taken (key_of (guest_of n)))
+    as (λ t.
+    is_taken taken (key_of (guest_of n)) ≡ t
+    → IsLeastFree taken (guest_of (cond t (free_number taken (n + 1) more) n))) [
       | true ↦ λ e.
           let further = AllTaken-more taken n all e in
           let bound : n + 1 ≤ length taken = AllTaken-length (n + 1) taken (omega arith) further in
@@ -154,8 +176,12 @@ pub guests_are_least : GuestsAreLeast
 unfolding guest_among
 guests_are_least = λ taken few. least_from taken 0 (length taken) (omega arith) few (omega arith) (AllTaken-none taken)
 
-earlier : (taken : List (List ℕ)) (a b : List ℕ) → (p : IsLeastFree taken a) → (q : IsLeastFree taken b) → p.number < q.number → ⊥
-earlier taken a b p q h = let bad : false ≡ true = sym p.free ∙ ap (λ (n : List ℕ). is_taken taken (key_of n)) p.name_is ∙ q.least p.number h in cc
+earlier : (taken : List (List ℕ)) (a b : List ℕ) → (p : IsLeastFree taken a) → (q : IsLeastFree taken b)
+    → p.number < q.number → ⊥
+earlier taken a b p q h =
+    let bad : false ≡ true =
+    sym p.free ∙ ap (λ (n : List ℕ). is_taken taken (key_of n)) p.name_is ∙ q.least p.number h in
+    cc
 
 -- there is one least free name alone
 pub IsLeastFree-one : (taken : List (List ℕ)) (a b : List ℕ) → IsLeastFree taken a → IsLeastFree taken b → a ≡ b

@@ -28,7 +28,8 @@ sorted-drop (suc i) [] h = h
 sorted-drop (suc i) (e ∷ es) h = sorted-drop i es (second_so _ _ h)
 
 -- a write at i, as the pairs before it, the new one and those after it
-set_split : (pairs : Pairs) (i : ℕ) (x : List ℕ × List ℕ) → i < length pairs → set pairs i x ≡ take i pairs ++ x ∷ drop (suc i) pairs
+set_split : (pairs : Pairs) (i : ℕ) (x : List ℕ × List ℕ) → i < length pairs
+    → set pairs i x ≡ take i pairs ++ x ∷ drop (suc i) pairs
 set_split pairs i x within =
     sym (take-append-drop (suc i) (set pairs i x))
     ∙ ap (λ l. l ++ drop (suc i) (set pairs i x)) (take-suc-set pairs i x within)
@@ -41,7 +42,8 @@ pub record IsPassed (pairs : Pairs) (key : List ℕ) (i : ℕ) : Type 0 where
   pub others : without key pairs ≡ take i pairs ++ without key (drop i pairs)
 
 -- what follows the pairs that were passed
-module _ (pairs : Pairs) (key : List ℕ) (i : ℕ) (e : List ℕ × List ℕ) (within : i < length pairs) (there : e ≡ get_or pairs i e) (passed : IsPassed pairs key i) where
+module _ (pairs : Pairs) (key : List ℕ) (i : ℕ) (e : List ℕ × List ℕ) (within : i < length pairs)
+    (there : e ≡ get_or pairs i e) (passed : IsPassed pairs key i) where
   rest : Pairs
   rest = drop (suc i) pairs
 
@@ -53,12 +55,17 @@ module _ (pairs : Pairs) (key : List ℕ) (i : ℕ) (e : List ℕ × List ℕ) (
   front = ap (λ n. take n pairs) (add-one i) ∙ take-suc pairs i e within ∙ ap (λ x. take i pairs ++ x ∷ []) (sym there)
 
   puts_next : (bytes : List ℕ) (o : Ordering) → keys_order key e.0 ≡ o
-      → put keys_order key bytes pairs ≡ take i pairs ++ by_order o ((key, bytes) ∷ e ∷ rest) ((e.0, bytes) ∷ rest) (e ∷ put keys_order key bytes rest)
+      → put keys_order key bytes pairs
+      ≡ take i pairs ++ by_order o ((key, bytes) ∷ e ∷ rest) ((e.0, bytes) ∷ rest) (e ∷ put keys_order key bytes rest)
   puts_next bytes o is =
       passed.puts bytes ∙ ap (λ l. take i pairs ++ put keys_order key bytes l) next
-      ∙ ap (λ (r : Ordering). take i pairs ++ by_order r ((key, bytes) ∷ e ∷ rest) ((e.0, bytes) ∷ rest) (e ∷ put keys_order key bytes rest)) is
+      ∙ ap
+      (λ (r : Ordering).
+      take i pairs ++ by_order r ((key, bytes) ∷ e ∷ rest) ((e.0, bytes) ∷ rest) (e ∷ put keys_order key bytes rest))
+      is
 
-  others_next : (o : Ordering) → keys_order key e.0 ≡ o → without key pairs ≡ take i pairs ++ cond (not (is_eq o)) (e ∷ without key rest) (without key rest)
+  others_next : (o : Ordering) → keys_order key e.0 ≡ o
+      → without key pairs ≡ take i pairs ++ cond (not (is_eq o)) (e ∷ without key rest) (without key rest)
   others_next o is =
       passed.others ∙ ap (λ l. take i pairs ++ without key l) next
       ∙ ap (λ (r : Ordering). take i pairs ++ cond (not (is_eq r)) (e ∷ without key rest) (without key rest)) is
@@ -68,7 +75,8 @@ module _ (pairs : Pairs) (key : List ℕ) (i : ℕ) (e : List ℕ × List ℕ) (
   after = ap (λ n. drop n pairs) (sym (add-one i))
 
   joined : (l m : Pairs) → l ≡ m → take i pairs ++ e ∷ l ≡ take (i + 1) pairs ++ m
-  joined l m is = sym (append_assoc (take i pairs) (e ∷ []) l) ∙ ap (λ f. f ++ l) (sym front) ∙ ap (λ x. take (i + 1) pairs ++ x) is
+  joined l m is =
+      sym (append_assoc (take i pairs) (e ∷ []) l) ∙ ap (λ f. f ++ l) (sym front) ∙ ap (λ x. take (i + 1) pairs ++ x) is
 
   pub IsPassed-next : keys_order key e.0 ≡ Greater → IsPassed pairs key (i + 1)
   IsPassed-next greater = record {
@@ -82,8 +90,10 @@ module _ (pairs : Pairs) (key : List ℕ) (i : ℕ) (e : List ℕ × List ℕ) (
   pub IsPlace-gap : IsAscending pairs → keys_order key e.0 ≡ Less → IsPlace pairs key (Gap i)
   IsPlace-gap sorted less =
       let h = sorted_next sorted in
-      let below : IsBelow key (e ∷ rest) = and_from _ _ (ap is_lt less) (IsBelow-less key e.0 rest less (first_so _ _ h)) in
-      let same : without key (drop i pairs) ≡ drop i pairs = ap (without key) next ∙ without-below key (e ∷ rest) below ∙ sym next in (
+      let below : IsBelow key (e ∷ rest) =
+      and_from _ _ (ap is_lt less) (IsBelow-less key e.0 rest less (first_so _ _ h)) in
+      let same : without key (drop i pairs) ≡ drop i pairs =
+      ap (without key) next ∙ without-below key (e ∷ rest) below ∙ sym next in (
         omega arith,
         λ bytes. puts_next bytes Less less ∙ ap (λ l. take i pairs ++ (key, bytes) ∷ l) (sym next),
         passed.others ∙ ap (λ l. take i pairs ++ l) same ∙ take-append-drop i pairs,
@@ -95,6 +105,8 @@ module _ (pairs : Pairs) (key : List ℕ) (i : ℕ) (e : List ℕ × List ℕ) (
       let same : key ≡ e.0 = slice_cmp-IsAntisymmetric nat_cmp-IsAntisymmetric key e.0 equal in
       let below : IsBelow key rest = subst (λ k. IsBelow k rest) (sym same) (first_so _ _ (sorted_next sorted)) in (
         within,
-        λ bytes. puts_next bytes Equal equal ∙ ap (λ k. take i pairs ++ (k, bytes) ∷ rest) (sym same) ∙ sym (set_split pairs i (key, bytes) within),
+        λ bytes.
+            puts_next bytes Equal equal ∙ ap (λ k. take i pairs ++ (k, bytes) ∷ rest) (sym same)
+            ∙ sym (set_split pairs i (key, bytes) within),
         others_next Equal equal ∙ ap (λ l. take i pairs ++ l) (without-below key rest below),
       )

@@ -18,11 +18,14 @@ true_of : (b : Bool) → T b → b ≡ true
 true_of true h = refl
 true_of false h = absurd h
 
-pub IsAscending-put : (key bytes : List ℕ) (pairs : Pairs) → IsAscending pairs → IsAscending (put keys_order key bytes pairs)
-IsAscending-put key bytes pairs h = true_of _ (is_sorted-put keys_order nat_list_cmp_total key bytes pairs (sorted_test pairs h))
+pub IsAscending-put : (key bytes : List ℕ) (pairs : Pairs) → IsAscending pairs
+    → IsAscending (put keys_order key bytes pairs)
+IsAscending-put key bytes pairs h =
+    true_of _ (is_sorted-put keys_order nat_list_cmp_total key bytes pairs (sorted_test pairs h))
 
 pub IsAscending-without : (key : List ℕ) (pairs : Pairs) → IsAscending pairs → IsAscending (without key pairs)
-IsAscending-without key pairs h = true_of _ (is_sorted-where_key keys_order (λ k. not (eq_by_cmp keys_order key k)) pairs (sorted_test pairs h))
+IsAscending-without key pairs h =
+    true_of _ (is_sorted-where_key keys_order (λ k. not (eq_by_cmp keys_order key k)) pairs (sorted_test pairs h))
 
 pub entries-sorted : (pairs : Pairs) → IsAscending pairs → map.entries (map.from_sorted {R = keys_order} pairs) ≡ pairs
 entries-sorted pairs h = entries-from_sorted keys_order pairs (sorted_test pairs h)
@@ -42,7 +45,8 @@ swapped_cond true x y = refl
 swapped_cond false x y = refl
 
 -- the test that `without` makes answers alike at tied keys, which are one
-passes_alike : (key q x : List ℕ) → keys_order q x ≡ Equal → not (eq_by_cmp keys_order key x) ≡ not (eq_by_cmp keys_order key q)
+passes_alike : (key q x : List ℕ) → keys_order q x ≡ Equal
+    → not (eq_by_cmp keys_order key x) ≡ not (eq_by_cmp keys_order key q)
 passes_alike key q x tied =
     ap (λ k. not (eq_by_cmp keys_order key k)) (sym (slice_cmp-IsAntisymmetric nat_cmp-IsAntisymmetric q x tied))
 
@@ -56,5 +60,6 @@ from_sorted-without key pairs h =
     ∙ find-where_key keys_order (λ k. not (eq_by_cmp keys_order key k)) q (passes_alike key q) pairs
     ∙ swapped_cond (eq_by_cmp keys_order key q) (find keys_order q pairs) None
     ∙ ap (λ b. cond b None (find keys_order q pairs)) ((eq_by_cmp_equiv nat_list_cmp_total).symm key q)
-    ∙ ap (λ o. cond (eq_by_cmp keys_order q key) None o) (sym (get-from_sorted keys_order pairs q (sorted_test pairs h)))
+    ∙ ap (λ o. cond (eq_by_cmp keys_order q key) None o)
+    (sym (get-from_sorted keys_order pairs q (sorted_test pairs h)))
     ∙ sym (get-remove nat_list_cmp_total (map.from_sorted pairs) key q))

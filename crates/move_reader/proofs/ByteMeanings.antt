@@ -15,7 +15,8 @@ abbrev AllRows : (ℕ → Kind → Type 0) → List (ℕ × Kind) → Type 0
 AllRows P [] = Unit {0}
 AllRows P (row ∷ rows) = P row.0 row.1 × AllRows P rows
 
-lookup-all : (P : ℕ → Kind → Type 0) (rows : List (ℕ × Kind)) (b : ℕ) (k : Kind) → AllRows P rows → lookup rows b ≡ Some k → P b k
+lookup-all : (P : ℕ → Kind → Type 0) (rows : List (ℕ × Kind)) (b : ℕ) (k : Kind) → AllRows P rows
+    → lookup rows b ≡ Some k → P b k
 lookup-all P [] b k all e = not_some k e
 lookup-all P (row ∷ rows) b k all e =
     elim (b == row.0) as (λ t. (b == row.0) ≡ t → cond t (Some row.1) (lookup rows b) ≡ Some k → P b k) [
@@ -32,13 +33,26 @@ man_letter b k =
 
 pub promotion_letter : (b : ℕ) (k : Kind) → lookup promotions b ≡ Some k → OneOf (promotion_letters k) (b ∷ [])
 promotion_letter b k =
-    lookup-all (λ b k. OneOf (promotion_letters k) (b ∷ [])) promotions b k
-    (inl refl, (inr (inl refl), (inl refl, (inr (inl refl), (inl refl, (inr (inl refl), (inl refl, (inr (inl refl), tt))))))))
+    lookup-all (λ b k. OneOf (promotion_letters k) (b ∷ [])) promotions b k (
+      inl refl,
+      (inr (inl refl), (inl refl, (inr (inl refl), (inl refl, (inr (inl refl), (inl refl, (inr (inl refl), tt))))))),
+    )
 
 pub drop_letter : (b : ℕ) (k : Kind) → lookup droppable b ≡ Some k → OneOf (drop_letters k) (b ∷ [])
 drop_letter b k =
-    lookup-all (λ b k. OneOf (drop_letters k) (b ∷ [])) droppable b k
-    (inl refl, (inr (inl refl), (inl refl, (inr (inl refl), (inl refl, (inr (inl refl), (inl refl, (inr (inl refl), (inl refl, (inr (inl refl), tt))))))))))
+    lookup-all (λ b k. OneOf (drop_letters k) (b ∷ [])) droppable b k (
+      inl refl,
+      (
+        inr (inl refl),
+        (
+          inl refl,
+          (
+            inr (inl refl),
+            (inl refl, (inr (inl refl), (inl refl, (inr (inl refl), (inl refl, (inr (inl refl), tt)))))),
+          ),
+        ),
+      ),
+    )
 
 pub OneOf-if : (b : Bool) (t : Text) → b ≡ true → OneOf (cond b (t ∷ []) []) t
 OneOf-if b t e = subst (λ (c : Bool). OneOf (cond c (t ∷ []) []) t) (sym e) (inl refl)
@@ -75,7 +89,8 @@ is_digit a p q = grind (arith, nat_tests)
 -- a file's letter
 pub file_read : (b f : ℕ) → file_of_letter b ≡ Some f → (f < 8) × (b ≡ 97 + f)
 file_read b f e =
-    elim (nat_le 97 b && nat_le b 104) as (λ t. (nat_le 97 b && nat_le b 104) ≡ t → cond t (Some (b - 97)) None ≡ Some f → (f < 8) × (b ≡ 97 + f)) [
+    elim (nat_le 97 b && nat_le b 104)
+    as (λ t. (nat_le 97 b && nat_le b 104) ≡ t → cond t (Some (b - 97)) None ≡ Some f → (f < 8) × (b ≡ 97 + f)) [
       | true ↦ λ t is.
           let low = low_letter b t in
           let high = high_letter b t in
@@ -86,7 +101,8 @@ file_read b f e =
 
 pub rank_read : (b r : ℕ) → rank_of_digit b ≡ Some r → (r < 8) × (b ≡ 49 + r)
 rank_read b r e =
-    elim (nat_le 49 b && nat_le b 56) as (λ t. (nat_le 49 b && nat_le b 56) ≡ t → cond t (Some (b - 49)) None ≡ Some r → (r < 8) × (b ≡ 49 + r)) [
+    elim (nat_le 49 b && nat_le b 56)
+    as (λ t. (nat_le 49 b && nat_le b 56) ≡ t → cond t (Some (b - 49)) None ≡ Some r → (r < 8) × (b ≡ 49 + r)) [
       | true ↦ λ t is.
           let low = low_digit b t in
           let high = high_digit b t in
@@ -125,7 +141,8 @@ NoRow b (row ∷ rows) = ((b == row.0) ≡ false) × NoRow b rows
 
 lookup-none : (rows : List (ℕ × Kind)) (b : ℕ) → NoRow b rows → lookup rows b ≡ None
 lookup-none [] b none = refl
-lookup-none (row ∷ rows) b none = ap (λ (t : Bool). cond t (Some row.1) (lookup rows b)) none.0 ∙ lookup-none rows b none.1
+lookup-none (row ∷ rows) b none =
+    ap (λ (t : Bool). cond t (Some row.1) (lookup rows b)) none.0 ∙ lookup-none rows b none.1
 
 pub above : (a b : ℕ) → b < a → (a == b) ≡ false
 above a b h = grind (arith, nat_tests)
@@ -135,13 +152,29 @@ under a b h = grind (arith, nat_tests)
 
 pub letter_no_man : (b : ℕ) → 97 ≤ b → man_of b ≡ None
 letter_no_man b h =
-    lookup-none men b
-    (above b 75 (omega arith), (above b 81 (omega arith), (above b 82 (omega arith), (above b 66 (omega arith), (above b 78 (omega arith), (above b 80 (omega arith), tt))))))
+    lookup-none men b (
+      above b 75 (omega arith),
+      (
+        above b 81 (omega arith),
+        (
+          above b 82 (omega arith),
+          (above b 66 (omega arith), (above b 78 (omega arith), (above b 80 (omega arith), tt))),
+        ),
+      ),
+    )
 
 pub digit_no_man : (b : ℕ) → b ≤ 56 → man_of b ≡ None
 digit_no_man b h =
-    lookup-none men b
-    (under b 75 (omega arith), (under b 81 (omega arith), (under b 82 (omega arith), (under b 66 (omega arith), (under b 78 (omega arith), (under b 80 (omega arith), tt))))))
+    lookup-none men b (
+      under b 75 (omega arith),
+      (
+        under b 81 (omega arith),
+        (
+          under b 82 (omega arith),
+          (under b 66 (omega arith), (under b 78 (omega arith), (under b 80 (omega arith), tt))),
+        ),
+      ),
+    )
 
 -- the name of the square on a file and a rank
 pub name_of_square : (f r : ℕ) → f < 8 → r < 8 → OneOf (square_names (8 * r + f)) ((97 + f) ∷ (49 + r) ∷ [])
@@ -150,4 +183,5 @@ name_of_square f r p q =
     let rank : (8 * r + f) / 8 ≡ r = omega arith in
     let same : (97 + (8 * r + f) % 8) ∷ (49 + (8 * r + f) / 8) ∷ [] ≡ (97 + f) ∷ (49 + r) ∷ [] =
     ap (λ (x : ℕ). (97 + x) ∷ (49 + (8 * r + f) / 8) ∷ []) file ∙ ap (λ (x : ℕ). (97 + f) ∷ (49 + x) ∷ []) rank in
-    subst (λ (t : Text). OneOf (square_names (8 * r + f)) t) same (OneOf-if (nat_lt (8 * r + f) 64) _ (is_below (8 * r + f) 64 (omega arith)))
+    subst (λ (t : Text). OneOf (square_names (8 * r + f)) t) same
+    (OneOf-if (nat_lt (8 * r + f) 64) _ (is_below (8 * r + f) 64 (omega arith)))

@@ -10,7 +10,8 @@ use Rattle.move_reader.proofs.ByteMeanings.{not_some, man_letter, promotion_lett
 -- nothing was taken, or the first byte as what it means
 abbrev pub Takes : {V : Type 0} → (ℕ → Option V) → Text → Option V × Text → Type 0
 Takes {V} meaning text taken =
-    (taken ≡ (None, text)) ⊎ ((b : ℕ) × (v : V) × (rest : Text) × (text ≡ b ∷ rest) × (meaning b ≡ Some v) × (taken ≡ (Some v, rest)))
+    (taken ≡ (None, text))
+    ⊎ ((b : ℕ) × (v : V) × (rest : Text) × (text ≡ b ∷ rest) × (meaning b ≡ Some v) × (taken ≡ (Some v, rest)))
 
 pub leading-takes : {V : Type 0} (meaning : ℕ → Option V) (text : Text) → Takes meaning text (leading meaning text)
 leading-takes meaning [] = inl refl
@@ -20,10 +21,12 @@ leading-takes meaning (b ∷ rest) =
       | Some v ↦ λ e. inr (b, v, rest, refl, e, refl)
     ] refl
 
-man-step : (text : Text) (taken : Option Kind × Text) (parts : List (List Text)) → Takes man_of text taken → MadeOf parts taken.1
+man-step : (text : Text) (taken : Option Kind × Text) (parts : List (List Text)) → Takes man_of text taken
+    → MadeOf parts taken.1
     → MadeOf (man_letters (or_pawn taken.0) ∷ parts) text
 man-step text taken parts (inl e) =
-    subst (λ (t : Option Kind × Text). MadeOf parts t.1 → MadeOf (man_letters (or_pawn t.0) ∷ parts) text) (sym e) (λ m. ([], text, inl refl, m, refl))
+    subst (λ (t : Option Kind × Text). MadeOf parts t.1 → MadeOf (man_letters (or_pawn t.0) ∷ parts) text) (sym e)
+    (λ m. ([], text, inl refl, m, refl))
 man-step text taken parts (inr (b, v, rest, split, means, e)) =
     subst (λ (t : Option Kind × Text). MadeOf parts t.1 → MadeOf (man_letters (or_pawn t.0) ∷ parts) text) (sym e)
     (λ m. (b ∷ [], rest, man_letter b v means, m, split))
@@ -42,10 +45,12 @@ rank_digit b r e =
     let read = rank_read b r e in
     subst (λ (x : ℕ). OneOf (origin_ranks (Some r)) (x ∷ [])) (sym read.1) (OneOf-if _ _ (is_below r 8 read.0))
 
-file-step : (text : Text) (taken : Option ℕ × Text) (parts : List (List Text)) → Takes file_of_letter text taken → MadeOf parts taken.1
+file-step : (text : Text) (taken : Option ℕ × Text) (parts : List (List Text)) → Takes file_of_letter text taken
+    → MadeOf parts taken.1
     → MadeOf (origin_files taken.0 ∷ parts) text
 file-step text taken parts (inl e) =
-    subst (λ (t : Option ℕ × Text). MadeOf parts t.1 → MadeOf (origin_files t.0 ∷ parts) text) (sym e) (λ m. ([], text, inl refl, m, refl))
+    subst (λ (t : Option ℕ × Text). MadeOf parts t.1 → MadeOf (origin_files t.0 ∷ parts) text) (sym e)
+    (λ m. ([], text, inl refl, m, refl))
 file-step text taken parts (inr (b, v, rest, split, means, e)) =
     subst (λ (t : Option ℕ × Text). MadeOf parts t.1 → MadeOf (origin_files t.0 ∷ parts) text) (sym e)
     (λ m. (b ∷ [], rest, file_letter b v means, m, split))
@@ -54,10 +59,12 @@ pub file-sound : (text : Text) (parts : List (List Text)) → MadeOf parts (lead
     → MadeOf (origin_files (leading file_of_letter text).0 ∷ parts) text
 file-sound text parts m = file-step text (leading file_of_letter text) parts (leading-takes file_of_letter text) m
 
-rank-step : (text : Text) (taken : Option ℕ × Text) (parts : List (List Text)) → Takes rank_of_digit text taken → MadeOf parts taken.1
+rank-step : (text : Text) (taken : Option ℕ × Text) (parts : List (List Text)) → Takes rank_of_digit text taken
+    → MadeOf parts taken.1
     → MadeOf (origin_ranks taken.0 ∷ parts) text
 rank-step text taken parts (inl e) =
-    subst (λ (t : Option ℕ × Text). MadeOf parts t.1 → MadeOf (origin_ranks t.0 ∷ parts) text) (sym e) (λ m. ([], text, inl refl, m, refl))
+    subst (λ (t : Option ℕ × Text). MadeOf parts t.1 → MadeOf (origin_ranks t.0 ∷ parts) text) (sym e)
+    (λ m. ([], text, inl refl, m, refl))
 rank-step text taken parts (inr (b, v, rest, split, means, e)) =
     subst (λ (t : Option ℕ × Text). MadeOf parts t.1 → MadeOf (origin_ranks t.0 ∷ parts) text) (sym e)
     (λ m. (b ∷ [], rest, rank_digit b v means, m, split))
@@ -71,7 +78,10 @@ pub behind-sound : (byte : ℕ) (text : Text) (parts : List (List Text)) → Mad
     → MadeOf (([] ∷ (byte ∷ []) ∷ []) ∷ parts) text
 behind-sound byte [] parts m = ([], [], inl refl, m, refl)
 behind-sound byte (first ∷ rest) parts m =
-    elim (first == byte) as (λ t. (first == byte) ≡ t → MadeOf parts (cond t rest (first ∷ rest)) → MadeOf (([] ∷ (byte ∷ []) ∷ []) ∷ parts) (first ∷ rest)) [
+    elim (first == byte)
+    as (λ t.
+    (first == byte) ≡ t → MadeOf parts (cond t rest (first ∷ rest))
+    → MadeOf (([] ∷ (byte ∷ []) ∷ []) ∷ parts) (first ∷ rest)) [
       | true ↦ λ is m. (byte ∷ [], rest, inr (inl refl), m, ap (λ (b : ℕ). b ∷ rest) (eqb-true first byte is))
       | false ↦ λ is m. ([], first ∷ rest, inl refl, m, refl)
     ] refl m
@@ -84,14 +94,17 @@ squared-both (Some f) None rest found e = not_some found e
 squared-both None rank rest found e = not_some found e
 
 -- a letter and a digit that are read as a square are its name
-pub square_named : (b c f r : ℕ) → file_of_letter b ≡ Some f → rank_of_digit c ≡ Some r → OneOf (square_names (8 * r + f)) (b ∷ c ∷ [])
+pub square_named : (b c f r : ℕ) → file_of_letter b ≡ Some f → rank_of_digit c ≡ Some r
+    → OneOf (square_names (8 * r + f)) (b ∷ c ∷ [])
 square_named b c f r p q =
     let file = file_read b f p in
     let rank = rank_read c r q in
     subst (λ (x : ℕ). OneOf (square_names (8 * r + f)) (x ∷ c ∷ [])) (sym file.1)
-    (subst (λ (x : ℕ). OneOf (square_names (8 * r + f)) ((97 + f) ∷ x ∷ [])) (sym rank.1) (name_of_square f r file.0 rank.0))
+    (subst (λ (x : ℕ). OneOf (square_names (8 * r + f)) ((97 + f) ∷ x ∷ [])) (sym rank.1)
+    (name_of_square f r file.0 rank.0))
 
-pub square-sound : (text : Text) (found : ℕ × Text) (parts : List (List Text)) → leading_square text ≡ Some found → MadeOf parts found.1
+pub square-sound : (text : Text) (found : ℕ × Text) (parts : List (List Text)) → leading_square text ≡ Some found
+    → MadeOf parts found.1
     → MadeOf (square_names found.0 ∷ parts) text
 square-sound [] found parts e m = not_some found e
 square-sound (b ∷ []) found parts e m = not_some found e
@@ -110,24 +123,34 @@ ended-both v w false e = not_some w e
 abbrev pub Ends : (Text → Bool) → List (List Text) → Type 0
 Ends is_end ends = (text : Text) → is_end text ≡ true → MadeOf ends text
 
-promotion-step : (is_end : Text → Bool) (ends : List (List Text)) (text : Text) (promo : Option Kind) (taken : Option Kind × Text) → Ends is_end ends
-    → Takes (lookup promotions) (behind 61 text) taken → promoted taken.0 (is_end taken.1) (is_end text) ≡ Some promo → MadeOf (promotion_and promo ends) text
+promotion-step : (is_end : Text → Bool) (ends : List (List Text)) (text : Text) (promo : Option Kind)
+    (taken : Option Kind × Text)
+    → Ends is_end ends
+    → Takes (lookup promotions) (behind 61 text) taken → promoted taken.0 (is_end taken.1) (is_end text) ≡ Some promo
+    → MadeOf (promotion_and promo ends) text
 promotion-step is_end ends text promo taken sound (inl e) =
-    subst (λ (t : Option Kind × Text). promoted t.0 (is_end t.1) (is_end text) ≡ Some promo → MadeOf (promotion_and promo ends) text) (sym e)
+    subst (λ (t : Option Kind × Text).
+    promoted t.0 (is_end t.1) (is_end text) ≡ Some promo → MadeOf (promotion_and promo ends) text)
+    (sym e)
     (λ is.
     let both = ended-both None promo (is_end text) is in
     subst (λ (p : Option Kind). MadeOf (promotion_and p ends) text) both.1 (sound text both.0))
 promotion-step is_end ends text promo taken sound (inr (b, k, rest, split, means, e)) =
-    subst (λ (t : Option Kind × Text). promoted t.0 (is_end t.1) (is_end text) ≡ Some promo → MadeOf (promotion_and promo ends) text) (sym e)
+    subst (λ (t : Option Kind × Text).
+    promoted t.0 (is_end t.1) (is_end text) ≡ Some promo → MadeOf (promotion_and promo ends) text)
+    (sym e)
     (λ is.
     let both = ended-both (Some k) promo (is_end rest) is in
     subst (λ (p : Option Kind). MadeOf (promotion_and p ends) text) both.1
-    (behind-sound 61 text (promotion_letters k ∷ ends) (b ∷ [], rest, promotion_letter b k means, sound rest both.0, split)))
+    (behind-sound 61 text (promotion_letters k ∷ ends)
+    (b ∷ [], rest, promotion_letter b k means, sound rest both.0, split)))
 
-pub promotion-sound : (is_end : Text → Bool) (ends : List (List Text)) (text : Text) (promo : Option Kind) → Ends is_end ends
+pub promotion-sound : (is_end : Text → Bool) (ends : List (List Text)) (text : Text) (promo : Option Kind)
+    → Ends is_end ends
     → promotion_of is_end text ≡ Some promo → MadeOf (promotion_and promo ends) text
 promotion-sound is_end ends text promo sound e =
-    promotion-step is_end ends text promo (leading (lookup promotions) (behind 61 text)) sound (leading-takes (lookup promotions) (behind 61 text)) e
+    promotion-step is_end ends text promo (leading (lookup promotions) (behind 61 text)) sound
+    (leading-takes (lookup promotions) (behind 61 text)) e
 
 pub is_empty-sound : Ends is_empty []
 is_empty-sound [] e = refl

@@ -14,7 +14,8 @@ squares_read : (text : Text) (w : MoveWord) → IsSquares text w → IsReading t
 squares_read text w (from, to, promo, is, spells) = subst (λ (x : MoveWord). IsReading text x) is spells
 
 named_read : (text : Text) (w : MoveWord) → (SpellsSquares text → ⊥) → IsNamed text w → IsReading text w
-named_read text w none (man, file, rank, to, promo, is, spells) = subst (λ (x : MoveWord). IsReading text x) is (spells, none)
+named_read text w none (man, file, rank, to, promo, is, spells) =
+    subst (λ (x : MoveWord). IsReading text x) is (spells, none)
 
 castling_read : (text : Text) (w : MoveWord) → IsCastling text w → IsReading text w
 castling_read text w (long, is, spells) = subst (λ (x : MoveWord). IsReading text x) is spells
@@ -24,9 +25,11 @@ drop_read text w (man, to, is, spells) = subst (λ (x : MoveWord). IsReading tex
 
 -- no two squares are spelled where none are read
 no_squares : (text : Text) → coordinate_of text ≡ None → SpellsSquares text → ⊥
-no_squares text none (from, to, promo, spells) = not_some (Coordinate from to promo) (sym none ∙ coordinate-again text from to promo spells)
+no_squares text none (from, to, promo, spells) =
+    not_some (Coordinate from to promo) (sym none ∙ coordinate-again text from to promo spells)
 
-found : (text : Text) (w : MoveWord) (a b c d : Option MoveWord) → coordinate_of text ≡ a → named_of text ≡ b → castle_of text ≡ c → drop_of text ≡ d
+found : (text : Text) (w : MoveWord) (a b c d : Option MoveWord) → coordinate_of text ≡ a → named_of text ≡ b
+    → castle_of text ≡ c → drop_of text ≡ d
     → first_of_two a (first_of_two b (first_of_two c d)) ≡ Some w → IsReading text w
 found text w (Some v) b c d p q r s e = squares_read text w (coordinate-sound text w (p ∙ e))
 found text w None (Some v) c d p q r s e = named_read text w (no_squares text p) (named-sound text w (q ∙ e))
@@ -34,7 +37,8 @@ found text w None None (Some v) d p q r s e = castling_read text w (castle-sound
 found text w None None None d p q r s e = drop_read text w (drop-sound text w (s ∙ e))
 
 pub reading-sound : (text : Text) (w : MoveWord) → reading text ≡ Some w → IsReading text w
-reading-sound text w e = found text w (coordinate_of text) (named_of text) (castle_of text) (drop_of text) refl refl refl refl e
+reading-sound text w e =
+    found text w (coordinate_of text) (named_of text) (castle_of text) (drop_of text) refl refl refl refl e
 
 no_coordinate : (text : Text) (a : Option MoveWord) → (SpellsSquares text → ⊥) → coordinate_of text ≡ a → a ≡ None
 no_coordinate text None none e = refl
@@ -45,11 +49,15 @@ no_coordinate text (Some v) none e = absurd (spelled (coordinate-sound text v e)
 
 pub reading-again : (text : Text) (w : MoveWord) → IsReading text w → reading text ≡ Some w
 reading-again text (Coordinate from to promo) spells =
-    ap (λ (x : Option MoveWord). first_of_two x (first_of_two (named_of text) (first_of_two (castle_of text) (drop_of text)))) (coordinate-again text from to promo spells)
+    ap (λ (x : Option MoveWord).
+    first_of_two x (first_of_two (named_of text) (first_of_two (castle_of text) (drop_of text))))
+    (coordinate-again text from to promo spells)
 reading-again text (Named man file rank to promo) (spells, none) =
-    ap (λ (x : Option MoveWord). first_of_two x (first_of_two (named_of text) (first_of_two (castle_of text) (drop_of text))))
+    ap (λ (x : Option MoveWord).
+    first_of_two x (first_of_two (named_of text) (first_of_two (castle_of text) (drop_of text))))
     (no_coordinate text (coordinate_of text) none refl)
-    ∙ ap (λ (x : Option MoveWord). first_of_two x (first_of_two (castle_of text) (drop_of text))) (named-again text man file rank to promo spells)
+    ∙ ap (λ (x : Option MoveWord). first_of_two x (first_of_two (castle_of text) (drop_of text)))
+    (named-again text man file rank to promo spells)
 reading-again text (Castle long) spells = castle-again text long spells
 reading-again text (Drop man to) spells = drop-again text man to spells
 

@@ -12,11 +12,13 @@ use Rattle.observer_feed.specs.Feed.{AreOnce, ArePlaces, caught_up, cursor_of, f
 use Rattle.collections.proofs.Numbers.{differ_turned}
 
 -- where nobody is found, the first cursor isn't the session's, and nobody is found behind it
-pub skipped : (b : Bool) (c : Cursor) (found : Option Cursor) → is_some (cond b (Some c) found) ≡ false → (b ≡ false) × (is_some found ≡ false)
+pub skipped : (b : Bool) (c : Cursor) (found : Option Cursor) → is_some (cond b (Some c) found) ≡ false
+    → (b ≡ false) × (is_some found ≡ false)
 skipped true c found h = absurd (let bad : true ≡ false = h in cc)
 skipped false c found h = (refl, h)
 
-pub unfound : (b : Bool) (c : Cursor) (found : Option Cursor) → b ≡ false → is_some found ≡ false → is_some (cond b (Some c) found) ≡ false
+pub unfound : (b : Bool) (c : Cursor) (found : Option Cursor) → b ≡ false → is_some found ≡ false
+    → is_some (cond b (Some c) found) ≡ false
 unfound true c found e h = absurd (let bad : true ≡ false = e in cc)
 unfound false c found e h = h
 
@@ -29,14 +31,17 @@ pub found_alike : (a b : Bool) (c d : Cursor) (found others : Option Cursor) →
     → is_some (cond a (Some d) others) ≡ is_some (cond b (Some c) found)
 found_alike a b c d found others e h = ap (λ t. is_some (cond t (Some d) others)) e ∙ found_by b c d found others h
 
-pub none-push : (viewers : List Cursor) (last : Cursor) (session : ℕ) → is_viewer viewers session ≡ false → (last.session == session) ≡ false
+pub none-push : (viewers : List Cursor) (last : Cursor) (session : ℕ) → is_viewer viewers session ≡ false
+    → (last.session == session) ≡ false
     → is_viewer (viewers ++ last ∷ []) session ≡ false
 none-push [] last session h apart = unfound (last.session == session) last None apart refl
 none-push (c ∷ viewers) last session h apart =
     let both = skipped (c.session == session) c (cursor_of viewers session) h in
-    unfound (c.session == session) c (cursor_of (viewers ++ last ∷ []) session) both.0 (none-push viewers last session both.1 apart)
+    unfound (c.session == session) c (cursor_of (viewers ++ last ∷ []) session) both.0
+    (none-push viewers last session both.1 apart)
 
-AreOnce-push : (viewers : List Cursor) (last : Cursor) → AreOnce viewers → is_viewer viewers last.session ≡ false → AreOnce (viewers ++ last ∷ [])
+AreOnce-push : (viewers : List Cursor) (last : Cursor) → AreOnce viewers → is_viewer viewers last.session ≡ false
+    → AreOnce (viewers ++ last ∷ [])
 AreOnce-push [] last h none = (refl, tt)
 AreOnce-push (c ∷ viewers) last h none =
     let both = skipped (c.session == last.session) c (cursor_of viewers last.session) none in (
@@ -44,7 +49,8 @@ AreOnce-push (c ∷ viewers) last h none =
       AreOnce-push viewers last h.1 both.1,
     )
 
-none-filter : (q : Cursor → Bool) (viewers : List Cursor) (session : ℕ) → is_viewer viewers session ≡ false → is_viewer (filter q viewers) session ≡ false
+none-filter : (q : Cursor → Bool) (viewers : List Cursor) (session : ℕ) → is_viewer viewers session ≡ false
+    → is_viewer (filter q viewers) session ≡ false
 none-filter q [] session h = refl
 none-filter q (c ∷ viewers) session h =
     let both = skipped (c.session == session) c (cursor_of viewers session) h in
@@ -61,16 +67,22 @@ AreOnce-filter q (c ∷ viewers) h =
 -- a cursor that moves is that of the same session
 pub same_session : (session seen : ℕ) (c : Cursor) → (caught_up session seen c).session ≡ c.session
 same_session session seen c =
-    cond_both (c.session == session) (record { session = c.session; seen = seen }) c (λ (d : Cursor). d.session ≡ c.session) (λ _. refl) (λ _. refl)
+    cond_both (c.session == session) (record {
+      session = c.session;
+      seen = seen;
+    }) c (λ (d : Cursor). d.session ≡ c.session) (λ _. refl) (λ _. refl)
 
-pub is_viewer-caught_up : (session seen : ℕ) (viewers : List Cursor) (who : ℕ) → is_viewer (map (caught_up session seen) viewers) who ≡ is_viewer viewers who
+pub is_viewer-caught_up : (session seen : ℕ) (viewers : List Cursor) (who : ℕ)
+    → is_viewer (map (caught_up session seen) viewers) who ≡ is_viewer viewers who
 is_viewer-caught_up session seen [] who = refl
 is_viewer-caught_up session seen (c ∷ viewers) who =
-    found_alike ((caught_up session seen c).session == who) (c.session == who) c (caught_up session seen c) (cursor_of viewers who)
+    found_alike ((caught_up session seen c).session == who) (c.session == who) c (caught_up session seen c)
+    (cursor_of viewers who)
     (cursor_of (map (caught_up session seen) viewers) who) (ap (λ s. s == who) (same_session session seen c))
     (is_viewer-caught_up session seen viewers who)
 
-AreOnce-caught_up : (session seen : ℕ) (viewers : List Cursor) → AreOnce viewers → AreOnce (map (caught_up session seen) viewers)
+AreOnce-caught_up : (session seen : ℕ) (viewers : List Cursor) → AreOnce viewers
+    → AreOnce (map (caught_up session seen) viewers)
 AreOnce-caught_up session seen [] h = tt
 AreOnce-caught_up session seen (c ∷ viewers) h = (
   is_viewer-caught_up session seen viewers (caught_up session seen c).session
@@ -79,7 +91,8 @@ AreOnce-caught_up session seen (c ∷ viewers) h = (
 )
 
 -- nobody has been given more, where there are more items
-pub places_with_more : {T : Type 0} (items : List T) (x : T) (viewers : List Cursor) → ArePlaces (length items) viewers → ArePlaces (length (items ++ x ∷ [])) viewers
+pub places_with_more : {T : Type 0} (items : List T) (x : T) (viewers : List Cursor) → ArePlaces (length items) viewers
+    → ArePlaces (length (items ++ x ∷ [])) viewers
 places_with_more items x viewers h = record {
   once = h.once;
   within = All-weaker (λ c. c.seen ≤ length items) (λ c. c.seen ≤ length (items ++ x ∷ []))
@@ -91,7 +104,8 @@ first_within FromStart count = omega arith
 first_within FromNow count = omega arith
 
 -- a session begins to look on that didn't
-pub places_begun : (count : ℕ) (viewers : List Cursor) (session : ℕ) (told : Backlog) → is_viewer viewers session ≡ false → ArePlaces count viewers
+pub places_begun : (count : ℕ) (viewers : List Cursor) (session : ℕ) (told : Backlog)
+    → is_viewer viewers session ≡ false → ArePlaces count viewers
     → ArePlaces count (viewers ++ record { session = session; seen = first_place told count } ∷ [])
 places_begun count viewers session told none h =
     let last : Cursor = record { session = session; seen = first_place told count } in
@@ -101,33 +115,39 @@ places_begun count viewers session told none h =
     }
 
 -- a session ceases to look on
-pub places_without : (count session : ℕ) (viewers : List Cursor) → ArePlaces count viewers → ArePlaces count (without session viewers)
+pub places_without : (count session : ℕ) (viewers : List Cursor) → ArePlaces count viewers
+    → ArePlaces count (without session viewers)
 places_without count session viewers h = record {
   once = AreOnce-filter (λ c. not (c.session == session)) viewers h.once;
   within = All-filter (λ c. not (c.session == session)) (λ c. c.seen ≤ count) viewers h.within;
 }
 
 -- a session is given all
-pub places_caught_up : (count session : ℕ) (viewers : List Cursor) → ArePlaces count viewers → ArePlaces count (map (caught_up session count) viewers)
+pub places_caught_up : (count session : ℕ) (viewers : List Cursor) → ArePlaces count viewers
+    → ArePlaces count (map (caught_up session count) viewers)
 places_caught_up count session viewers h = record {
   once = AreOnce-caught_up session count viewers h.once;
   within = All-map (λ c. c.seen ≤ count) (caught_up session count) viewers
       (All-weaker (λ c. c.seen ≤ count) (λ c. (caught_up session count c).seen ≤ count)
-      (λ c le. cond_both (c.session == session) (record { session = c.session; seen = count }) c (λ (d : Cursor). d.seen ≤ count)
+      (λ c le.
+      cond_both (c.session == session) (record { session = c.session; seen = count }) c (λ (d : Cursor). d.seen ≤ count)
       (λ _. omega arith) (λ _. le)) viewers h.within);
 }
 
 -- who is given all and then ceases is gone, as who ceases at once
-pub without_caught_up : (session seen : ℕ) (viewers : List Cursor) → without session (map (caught_up session seen) viewers) ≡ without session viewers
+pub without_caught_up : (session seen : ℕ) (viewers : List Cursor)
+    → without session (map (caught_up session seen) viewers) ≡ without session viewers
 without_caught_up session seen [] = refl
 without_caught_up session seen (c ∷ viewers) =
     let left = without session viewers in
     let moved = without session (map (caught_up session seen) viewers) in
     let rest : moved ≡ left = without_caught_up session seen viewers in
     let last : Cursor = record { session = c.session; seen = seen } in
-    let gone : (d : Cursor) (more : List Cursor) → (c.session == session) ≡ true → cond (not (c.session == session)) (d ∷ more) more ≡ more =
+    let gone : (d : Cursor) (more : List Cursor) → (c.session == session) ≡ true
+    → cond (not (c.session == session)) (d ∷ more) more ≡ more =
     λ d more h. cond-false (not (c.session == session)) (d ∷ more) more (not_from_true (c.session == session) h) in
     cond_both (c.session == session) last c
-    (λ (d : Cursor). cond (not (d.session == session)) (d ∷ moved) moved ≡ cond (not (c.session == session)) (c ∷ left) left)
+    (λ (d : Cursor).
+    cond (not (d.session == session)) (d ∷ moved) moved ≡ cond (not (c.session == session)) (c ∷ left) left)
     (λ h. gone last moved h ∙ rest ∙ sym (gone c left h))
     (λ _. ap (λ (vs : List Cursor). cond (not (c.session == session)) (c ∷ vs) vs) rest)

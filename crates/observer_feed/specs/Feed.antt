@@ -69,7 +69,8 @@ with_both first (Some second) feed = with_item second (with_item first feed)
 -- the feed with one viewer more
 abbrev pub begun : {T : Type 0} → ℕ → Backlog → FeedState T → FeedState T
 begun session told feed =
-    record feed { viewers = feed.viewers ++ record { session = session; seen = first_place told (length feed.items) } ∷ [] }
+    record feed
+    { viewers = feed.viewers ++ record { session = session; seen = first_place told (length feed.items) } ∷ [] }
 
 -- the feed without that viewer
 abbrev pub forgotten : {T : Type 0} → ℕ → FeedState T → FeedState T
@@ -118,5 +119,7 @@ pub record ArePlaces (count : ℕ) (viewers : List Cursor) : Type 0 where
   pub within : All (λ c. c.seen ≤ count) viewers
 
 -- session 7 came when there was one item, and hasn't been given the two that came later
-example_ahead : ahead {T = ℕ} (10 ∷ 20 ∷ 30 ∷ []) (record { session = 4; seen = 3 } ∷ record { session = 7; seen = 1 } ∷ []) 7 ≡ 20 ∷ 30 ∷ []
+example_ahead : ahead {T = ℕ} (10 ∷ 20 ∷ 30 ∷ [])
+    (record { session = 4; seen = 3 } ∷ record { session = 7; seen = 1 } ∷ []) 7
+    ≡ 20 ∷ 30 ∷ []
 example_ahead = refl

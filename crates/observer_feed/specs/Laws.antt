@@ -60,7 +60,8 @@ MissesNothing {T} feed viewer = (deeds : List (Deed T)) → is_viewer feed.viewe
 -- and every other session is a viewer exactly where it was
 pub record BeginsAndEnds {T : Type 0} (feed : FeedState T) (session : ℕ) : Type 0 where
   pub begins : (told : Backlog) → is_viewer (begun session told feed).viewers session ≡ true
-  pub all : is_viewer feed.viewers session ≡ false → ahead feed.items (begun session FromStart feed).viewers session ≡ feed.items
+  pub all : is_viewer feed.viewers session ≡ false
+      → ahead feed.items (begun session FromStart feed).viewers session ≡ feed.items
   pub none : is_viewer feed.viewers session ≡ false → ahead feed.items (begun session FromNow feed).viewers session ≡ []
   pub ends : is_viewer (forgotten session feed).viewers session ≡ false
   pub others_begin : (told : Backlog) (other : ℕ) → other ≢ session

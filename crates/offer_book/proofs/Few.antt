@@ -31,8 +31,12 @@ same_kind s t k l p q e = omega arith
 other_cell : (a b : StandingOffer) → is_alike a.seat (kind_of a.offer) b ≡ false → cell b ≡ cell a → ⊥
 other_cell a b h e =
     elim (and_cases (b.seat == a.seat) (kind_of b.offer == kind_of a.offer) h) as (λ _. ⊥) [
-      | inl seat ↦ eqb-false b.seat a.seat seat (same_seat b.seat a.seat (kind_of b.offer) (kind_of a.offer) (kind_small b.offer) (kind_small a.offer) e)
-      | inr kind ↦ eqb-false (kind_of b.offer) (kind_of a.offer) kind (same_kind b.seat a.seat (kind_of b.offer) (kind_of a.offer) (kind_small b.offer) (kind_small a.offer) e)
+      | inl seat ↦
+          eqb-false b.seat a.seat seat
+          (same_seat b.seat a.seat (kind_of b.offer) (kind_of a.offer) (kind_small b.offer) (kind_small a.offer) e)
+      | inr kind ↦
+          eqb-false (kind_of b.offer) (kind_of a.offer) kind
+          (same_kind b.seat a.seat (kind_of b.offer) (kind_of a.offer) (kind_small b.offer) (kind_small a.offer) e)
     ]
 
 abbrev one_if : Bool → ℕ
@@ -44,11 +48,14 @@ abbrev in_cell : ℕ → List StandingOffer → ℕ
 in_cell n [] = 0
 in_cell n (row ∷ rows) = one_if (cell row == n) + in_cell n rows
 
-in_cell-none : (n : ℕ) (row : StandingOffer) (rows : List StandingOffer) → cell row ≡ n → stands_alike rows row.seat (kind_of row.offer) ≡ false → in_cell n rows ≡ 0
+in_cell-none : (n : ℕ) (row : StandingOffer) (rows : List StandingOffer) → cell row ≡ n
+    → stands_alike rows row.seat (kind_of row.offer) ≡ false → in_cell n rows ≡ 0
 in_cell-none n row [] e h = refl
 in_cell-none n row (next ∷ rows) e h =
-    let both = or_parts (is_alike row.seat (kind_of row.offer) next) (stands_alike rows row.seat (kind_of row.offer)) h in
-    let first : one_if (cell next == n) ≡ 0 = ap one_if (ne_eqb (cell next) n (λ same. other_cell row next both.0 (same ∙ sym e))) in
+    let both =
+    or_parts (is_alike row.seat (kind_of row.offer) next) (stands_alike rows row.seat (kind_of row.offer)) h in
+    let first : one_if (cell next == n) ≡ 0 =
+    ap one_if (ne_eqb (cell next) n (λ same. other_cell row next both.0 (same ∙ sym e))) in
     let rest : in_cell n rows ≡ 0 = in_cell-none n row rows e both.1 in
     omega (arith, first, rest)
 
@@ -79,7 +86,8 @@ below-cons : (n : ℕ) (row : StandingOffer) (rows : List StandingOffer) → bel
 below-cons zero row rows = omega arith
 below-cons (suc n) row rows = let rest = below-cons n row rows in omega (arith, rest)
 
-below-more : (n : ℕ) (row : StandingOffer) (rows : List StandingOffer) → cell row < n → below n rows + 1 ≤ below n (row ∷ rows)
+below-more : (n : ℕ) (row : StandingOffer) (rows : List StandingOffer) → cell row < n
+    → below n rows + 1 ≤ below n (row ∷ rows)
 below-more zero row rows h = absurd (omega (arith, h))
 below-more (suc n) row rows h =
     elim (cases_Bool (cell row == n)) as (λ _. below (suc n) rows + 1 ≤ below (suc n) (row ∷ rows)) [
@@ -108,7 +116,8 @@ row_small : (seats : ℕ) → (seats ≡ 2) ⊎ (seats ≡ 4) → (row : Standin
 row_small seats (inl two) row h = let small = kind_small row.offer in omega (arith, two, h, small)
 row_small seats (inr four) row h = let small = kind_small row.offer in omega (arith, four, h, small)
 
-rows_small : (seats : ℕ) → (seats ≡ 2) ⊎ (seats ≡ 4) → (rows : List StandingOffer) → All (λ row. row.seat < seats) rows → All (λ row. cell row < 16) rows
+rows_small : (seats : ℕ) → (seats ≡ 2) ⊎ (seats ≡ 4) → (rows : List StandingOffer) → All (λ row. row.seat < seats) rows
+    → All (λ row. cell row < 16) rows
 rows_small seats desk rows h = λ k d inside. row_small seats desk _ (h k d inside)
 
 few : (n : ℕ) (rows : List StandingOffer) → All (λ row. cell row < n) rows → HasOneEach rows → length rows ≤ n
@@ -119,12 +128,20 @@ pub AreOffers-few : (book : OfferBook) → AreOffers book → length book.standi
 AreOffers-few book h = few 16 book.standing (rows_small book.seats h.desk book.standing h.seated) h.once
 
 -- there is room for the last one
-pub room_for_last : (rows : List StandingOffer) (last : StandingOffer) → length (rows ++ last ∷ []) ≤ 16 → length rows < 16
+pub room_for_last : (rows : List StandingOffer) (last : StandingOffer) → length (rows ++ last ∷ []) ≤ 16
+    → length rows < 16
 room_for_last rows last h = let long = length_push rows last in omega (arith, long, h)
 
 -- there is room for what is kept of the first rows, and for one more
-pub room_for_kept : (p : StandingOffer → Bool) (rows kept : List StandingOffer) (i : ℕ) → i < length rows → length rows ≤ 16
+pub room_for_kept : (p : StandingOffer → Bool) (rows kept : List StandingOffer) (i : ℕ) → i < length rows
+    → length rows ≤ 16
     → kept ≡ filter p (take i rows) → length kept < 16
 room_for_kept p rows kept i inside most so_far =
     let same : length kept ≡ length (filter p (take i rows)) = ap length so_far in
-    omega (arith, same, length-filter p (take i rows), count_by-le-length p (take i rows), length-take-le i rows (omega arith))
+    omega (
+      arith,
+      same,
+      length-filter p (take i rows),
+      count_by-le-length p (take i rows),
+      length-take-le i rows (omega arith),
+    )

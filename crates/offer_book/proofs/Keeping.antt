@@ -17,7 +17,8 @@ use Rattle.collections.proofs.Numbers.{differ_turned}
 abbrev pub is_alike : ℕ → ℕ → StandingOffer → Bool
 is_alike seat kind row = (row.seat == seat) && (kind_of row.offer == kind)
 
-HasOneEach-filter : (q : StandingOffer → Bool) (rows : List StandingOffer) → HasOneEach rows → HasOneEach (filter q rows)
+HasOneEach-filter : (q : StandingOffer → Bool) (rows : List StandingOffer) → HasOneEach rows
+    → HasOneEach (filter q rows)
 HasOneEach-filter q [] h = tt
 HasOneEach-filter q (row ∷ rows) h =
     cond_both (q row) (row ∷ filter q rows) (filter q rows) HasOneEach
@@ -34,15 +35,18 @@ HasOneEach-push : (rows : List StandingOffer) (last : StandingOffer) → HasOneE
     → stands_alike rows last.seat (kind_of last.offer) ≡ false → HasOneEach (rows ++ last ∷ [])
 HasOneEach-push [] last h none = (refl, tt)
 HasOneEach-push (row ∷ rows) last h none =
-    let both = or_parts (is_alike last.seat (kind_of last.offer) row) (stands_alike rows last.seat (kind_of last.offer)) none in
+    let both =
+    or_parts (is_alike last.seat (kind_of last.offer) row) (stands_alike rows last.seat (kind_of last.offer)) none in
     let p = is_alike row.seat (kind_of row.offer) in
     let apart : p last ≡ false = alike_other_way row.seat last.seat (kind_of row.offer) (kind_of last.offer) both.0 in (
-      list_any-append p rows (last ∷ []) ∙ or_from (list_any p rows) (p last || false) h.0 (or_from (p last) false apart refl),
+      list_any-append p rows (last ∷ [])
+          ∙ or_from (list_any p rows) (p last || false) h.0 (or_from (p last) false apart refl),
       HasOneEach-push rows last h.1 both.1,
     )
 
 -- beside takebacks of this number alone, an offer of the same kind is the same offer
-alike : (b : Bool) (offer other : Offer) → (b && same_offer other offer) ≡ false → not (is_other_takeback offer other) ≡ true
+alike : (b : Bool) (offer other : Offer) → (b && same_offer other offer) ≡ false
+    → not (is_other_takeback offer other) ≡ true
     → (b && (kind_of other == kind_of offer)) ≡ false
 alike false offer other h k = refl
 alike true Draw Draw h k = h
@@ -69,8 +73,11 @@ none_alike (row ∷ rows) seat offer h =
     let both = or_parts ((row.seat == seat) && same_offer row.offer offer) (stands rows seat offer) h in
     let kept = filter (λ (row : StandingOffer). not (is_other_takeback offer row.offer)) rows in
     let rest : stands_alike kept seat (kind_of offer) ≡ false = none_alike rows seat offer both.1 in
-    cond_both (not (is_other_takeback offer row.offer)) (row ∷ kept) kept (λ zs. stands_alike zs seat (kind_of offer) ≡ false)
-    (λ k. or_from (is_alike seat (kind_of offer) row) (stands_alike kept seat (kind_of offer)) (alike (row.seat == seat) offer row.offer both.0 k) rest)
+    cond_both (not (is_other_takeback offer row.offer)) (row ∷ kept) kept
+    (λ zs. stands_alike zs seat (kind_of offer) ≡ false)
+    (λ k.
+    or_from (is_alike seat (kind_of offer) row) (stands_alike kept seat (kind_of offer))
+    (alike (row.seat == seat) offer row.offer both.0 k) rest)
     (λ _. rest)
 
 -- the number of all takebacks, once this offer is made
@@ -78,19 +85,26 @@ number_after : Offer → ℕ → ℕ
 number_after (Takeback n) m = n
 number_after _ m = m
 
-one_number_left : (offer : Offer) (m : ℕ) (rows : List StandingOffer) → All (λ row. is_other_takeback (Takeback m) row.offer ≡ false) rows
-    → All (λ row. is_other_takeback (Takeback (number_after offer m)) row.offer ≡ false) (filter (λ row. not (is_other_takeback offer row.offer)) rows)
+one_number_left : (offer : Offer) (m : ℕ) (rows : List StandingOffer)
+    → All (λ row. is_other_takeback (Takeback m) row.offer ≡ false) rows
+    → All (λ row. is_other_takeback (Takeback (number_after offer m)) row.offer ≡ false)
+    (filter (λ row. not (is_other_takeback offer row.offer)) rows)
 unfolding number_after
 one_number_left (Takeback n) m rows h =
-    All-weaker (λ row. not (is_other_takeback (Takeback n) row.offer) ≡ true) (λ row. is_other_takeback (Takeback n) row.offer ≡ false)
-    (λ row k. not-true (is_other_takeback (Takeback n) row.offer) k) (filter (λ row. not (is_other_takeback (Takeback n) row.offer)) rows)
+    All-weaker (λ row. not (is_other_takeback (Takeback n) row.offer) ≡ true)
+    (λ row. is_other_takeback (Takeback n) row.offer ≡ false)
+    (λ row k. not-true (is_other_takeback (Takeback n) row.offer) k)
+    (filter (λ row. not (is_other_takeback (Takeback n) row.offer)) rows)
     (filter_passes (λ row. not (is_other_takeback (Takeback n) row.offer)) rows)
 one_number_left Draw m rows h =
-    All-filter (λ row. not (is_other_takeback Draw row.offer)) (λ row. is_other_takeback (Takeback m) row.offer ≡ false) rows h
+    All-filter (λ row. not (is_other_takeback Draw row.offer)) (λ row. is_other_takeback (Takeback m) row.offer ≡ false)
+    rows h
 one_number_left Abort m rows h =
-    All-filter (λ row. not (is_other_takeback Abort row.offer)) (λ row. is_other_takeback (Takeback m) row.offer ≡ false) rows h
+    All-filter (λ row. not (is_other_takeback Abort row.offer))
+    (λ row. is_other_takeback (Takeback m) row.offer ≡ false) rows h
 one_number_left Adjourn m rows h =
-    All-filter (λ row. not (is_other_takeback Adjourn row.offer)) (λ row. is_other_takeback (Takeback m) row.offer ≡ false) rows h
+    All-filter (λ row. not (is_other_takeback Adjourn row.offer))
+    (λ row. is_other_takeback (Takeback m) row.offer ≡ false) rows h
 
 one_number_last : (offer : Offer) (m : ℕ) → is_other_takeback (Takeback (number_after offer m)) offer ≡ false
 unfolding number_after
@@ -100,7 +114,8 @@ one_number_last Abort m = refl
 one_number_last Adjourn m = refl
 
 -- some offers are cleared
-pub AreOffers-filter : (q : StandingOffer → Bool) (book : OfferBook) → AreOffers book → AreOffers (where_stand (filter q book.standing) book)
+pub AreOffers-filter : (q : StandingOffer → Bool) (book : OfferBook) → AreOffers book
+    → AreOffers (where_stand (filter q book.standing) book)
 AreOffers-filter q book h = record {
   desk = h.desk;
   seated = All-filter q (λ row. row.seat < book.seats) book.standing h.seated;
@@ -117,31 +132,45 @@ AreOffers-with_offer seat offer book h seated lacking =
     let last : StandingOffer = record { seat = seat; offer = offer } in
     record {
       desk = h.desk;
-      seated = All-push (λ row. row.seat < book.seats) kept last (All-filter (λ row. not (is_other_takeback offer row.offer)) (λ row. row.seat < book.seats) book.standing h.seated) seated;
-      once = HasOneEach-push kept last (HasOneEach-filter (λ row. not (is_other_takeback offer row.offer)) book.standing h.once) (none_alike book.standing seat offer lacking);
+      seated =
+          All-push (λ row. row.seat < book.seats) kept last
+          (All-filter (λ row. not (is_other_takeback offer row.offer)) (λ row. row.seat < book.seats) book.standing
+          h.seated)
+          seated;
+      once =
+          HasOneEach-push kept last
+          (HasOneEach-filter (λ row. not (is_other_takeback offer row.offer)) book.standing h.once)
+          (none_alike book.standing seat offer lacking);
       number = number_after offer h.number;
-      one_number = All-push (λ row. is_other_takeback (Takeback (number_after offer h.number)) row.offer ≡ false) kept last
+      one_number =
+          All-push (λ row. is_other_takeback (Takeback (number_after offer h.number)) row.offer ≡ false) kept last
           (one_number_left offer h.number book.standing h.one_number) (one_number_last offer h.number);
     }
 
-first_lacking : (b : Bool) (row : StandingOffer) (found : Option StandingOffer) (offer : Offer) (fact : Offer → Type 0) → (b ≡ true → fact row.offer)
+first_lacking : (b : Bool) (row : StandingOffer) (found : Option StandingOffer) (offer : Offer) (fact : Offer → Type 0)
+    → (b ≡ true → fact row.offer)
     → (option_map (λ (r : StandingOffer). r.offer) found ≡ Some offer → fact offer)
     → option_map (λ (r : StandingOffer). r.offer) (cond b (Some row) found) ≡ Some offer → fact offer
 first_lacking true row found offer fact here later e = let same : row.offer ≡ offer = cc in rw (← same) (here refl)
 first_lacking false row found offer fact here later e = later e
 
 lacks : (all rows : List StandingOffer) (seat : ℕ) (offer : Offer)
-    → option_map (λ (row : StandingOffer). row.offer) (find (λ row. not (row.seat == seat) && not (stands all seat row.offer)) rows) ≡ Some offer
+    → option_map (λ (row : StandingOffer). row.offer)
+    (find (λ row. not (row.seat == seat) && not (stands all seat row.offer)) rows)
+    ≡ Some offer
     → stands all seat offer ≡ false
 lacks all [] seat offer e = absurd (let bad : None ≡ Some offer = e in cc)
 lacks all (row ∷ rows) seat offer e =
     first_lacking (not (row.seat == seat) && not (stands all seat row.offer)) row
-    (find (λ row. not (row.seat == seat) && not (stands all seat row.offer)) rows) offer (λ o. stands all seat o ≡ false)
-    (λ passes. not-true (stands all seat row.offer) (second_so (not (row.seat == seat)) (not (stands all seat row.offer)) passes))
+    (find (λ row. not (row.seat == seat) && not (stands all seat row.offer)) rows) offer
+    (λ o. stands all seat o ≡ false)
+    (λ passes.
+    not-true (stands all seat row.offer) (second_so (not (row.seat == seat)) (not (stands all seat row.offer)) passes))
     (lacks all rows seat offer) e
 
 -- the earliest offer of another seat is one that the seat doesn't have
-pub earliest_lacking : (rows : List StandingOffer) (seat : ℕ) (offer : Offer) → earliest rows seat ≡ Some offer → stands rows seat offer ≡ false
+pub earliest_lacking : (rows : List StandingOffer) (seat : ℕ) (offer : Offer) → earliest rows seat ≡ Some offer
+    → stands rows seat offer ≡ false
 earliest_lacking rows seat offer e = lacks rows rows seat offer e
 
 -- and it is cleared where it takes effect
@@ -151,8 +180,10 @@ pub AreOffers-settled : (seat : ℕ) (offer : Offer) (book : OfferBook) → AreO
 AreOffers-settled seat offer book h seated lacking =
     let rows = with_offer seat offer book.standing in
     let made : AreOffers (where_stand rows book) = AreOffers-with_offer seat offer book h seated lacking in
-    cond_both (stands_for_all book.seats rows offer) (without offer rows) rows (λ (zs : List StandingOffer). AreOffers (where_stand zs book))
-    (λ _. AreOffers-filter (λ (row : StandingOffer). not (same_offer row.offer offer)) (where_stand rows book) made) (λ _. made)
+    cond_both (stands_for_all book.seats rows offer) (without offer rows) rows
+    (λ (zs : List StandingOffer). AreOffers (where_stand zs book))
+    (λ _. AreOffers-filter (λ (row : StandingOffer). not (same_offer row.offer offer)) (where_stand rows book) made)
+    (λ _. made)
 
 pub one_seat_more : (n : ℕ) (rows : List StandingOffer) (offer : Offer)
     → stands_for_all (n + 1) rows offer ≡ (stands_for_all n rows offer && stands rows n offer)

@@ -54,22 +54,33 @@ row_offer seat offer row h = same_is row.offer offer (second_so (row.seat == sea
 pub clears_one : (rows : List StandingOffer) (offer : Offer) → ClearsOne rows offer
 clears_one rows offer = record {
   cleared = λ seat. any-filter_same (is_row seat offer) (λ row. not (same_offer row.offer offer)) false
-      (λ row h. not_from_true (same_offer row.offer offer) (second_so (row.seat == seat) (same_offer row.offer offer) h)) rows;
+      (λ row h.
+      not_from_true (same_offer row.offer offer) (second_so (row.seat == seat) (same_offer row.offer offer) h))
+      rows;
   others = λ seat other differs. any-filter_same (is_row seat other) (λ row. not (same_offer row.offer offer)) true
-      (λ row h. not_from_false (same_offer row.offer offer) (ap (λ o. same_offer o offer) (row_offer seat other row h) ∙ differs)) rows;
+      (λ row h.
+      not_from_false (same_offer row.offer offer) (ap (λ o. same_offer o offer) (row_offer seat other row h) ∙ differs))
+      rows;
 }
 
 pub clears_for_the_move : (rows : List StandingOffer) (seat : ℕ) → ClearsForTheMove rows seat
 clears_for_the_move rows seat = record {
   takebacks = λ number other. any-filter_same (is_row other (Takeback number)) stays false
-      (λ row h. and_left (not (is_takeback row.offer)) (not (row.seat == opponent_of seat)) (ap (λ o. not (is_takeback o)) (row_offer other (Takeback number) row h))) rows;
+      (λ row h.
+      and_left (not (is_takeback row.offer)) (not (row.seat == opponent_of seat))
+      (ap (λ o. not (is_takeback o)) (row_offer other (Takeback number) row h)))
+      rows;
   opponent = λ offer. any-filter_same (is_row (opponent_of seat) offer) stays false
       (λ row h. and_right (not (is_takeback row.offer)) (not (row.seat == opponent_of seat))
-      (not_from_true (row.seat == opponent_of seat) (first_so (row.seat == opponent_of seat) (same_offer row.offer offer) h))) rows;
+      (not_from_true (row.seat == opponent_of seat)
+      (first_so (row.seat == opponent_of seat) (same_offer row.offer offer) h)))
+      rows;
   others = λ other offer differs plain. any-filter_same (is_row other offer) stays true
       (λ row h. and_from (not (is_takeback row.offer)) (not (row.seat == opponent_of seat))
       (ap (λ o. not (is_takeback o)) (row_offer other offer row h) ∙ ap not plain)
-      (ap (λ s. not (s == opponent_of seat)) (row_seat other offer row h) ∙ ap not (ne_eqb other (opponent_of seat) differs))) rows;
+      (ap (λ s. not (s == opponent_of seat)) (row_seat other offer row h)
+      ∙ ap not (ne_eqb other (opponent_of seat) differs)))
+      rows;
 }
   where
     stays : StandingOffer → Bool
@@ -77,7 +88,8 @@ clears_for_the_move rows seat = record {
 
 -- who has an offer once a seat has made it
 has_after : (rows : List StandingOffer) (seat other : ℕ) (offer : Offer)
-    → stands (with_offer seat offer rows) other offer ≡ (stands rows other offer || ((seat == other) && same_offer offer offer || false))
+    → stands (with_offer seat offer rows) other offer
+    ≡ (stands rows other offer || ((seat == other) && same_offer offer offer || false))
 has_after rows seat other offer =
     let last : StandingOffer = record { seat = seat; offer = offer } in
     let kept = filter (λ (row : StandingOffer). not (is_other_takeback offer row.offer)) rows in
@@ -85,12 +97,15 @@ has_after rows seat other offer =
     ∙ ap (λ b. b || ((seat == other) && same_offer offer offer || false))
     (any-filter_same (is_row other offer) (λ row. not (is_other_takeback offer row.offer)) true
     (λ row h. not_from_false (is_other_takeback offer row.offer)
-    (and_right (is_takeback offer && is_takeback row.offer) (not (same_offer row.offer offer)) (not_from_true (same_offer row.offer offer) (second_so (row.seat == other) (same_offer row.offer offer) h)))) rows)
+    (and_right (is_takeback offer && is_takeback row.offer) (not (same_offer row.offer offer))
+    (not_from_true (same_offer row.offer offer) (second_so (row.seat == other) (same_offer row.offer offer) h))))
+    rows)
 
 others_before : (rows : List StandingOffer) (seat other : ℕ) (offer : Offer) → (seat == other) ≡ false
     → stands (with_offer seat offer rows) other offer ≡ true → stands rows other offer ≡ true
 others_before rows seat other offer differs h =
-    or_false (stands rows other offer) ((seat == other) && same_offer offer offer) (and_left (seat == other) (same_offer offer offer) differs)
+    or_false (stands rows other offer) ((seat == other) && same_offer offer offer)
+    (and_left (seat == other) (same_offer offer offer) differs)
     (sym (has_after rows seat other offer) ∙ h)
   where
     or_false : (a b : Bool) → b ≡ false → (a || (b || false)) ≡ true → a ≡ true
@@ -101,29 +116,37 @@ others_before rows seat other offer differs h =
 has_still : (rows : List StandingOffer) (seat other : ℕ) (offer : Offer) → stands rows other offer ≡ true
     → stands (with_offer seat offer rows) other offer ≡ true
 has_still rows seat other offer h =
-    has_after rows seat other offer ∙ or_left (stands rows other offer) ((seat == other) && same_offer offer offer || false) h
+    has_after rows seat other offer
+    ∙ or_left (stands rows other offer) ((seat == other) && same_offer offer offer || false) h
 
-pub has_made : (rows : List StandingOffer) (seat : ℕ) (offer : Offer) → stands (with_offer seat offer rows) seat offer ≡ true
+pub has_made : (rows : List StandingOffer) (seat : ℕ) (offer : Offer)
+    → stands (with_offer seat offer rows) seat offer ≡ true
 has_made rows seat offer =
     has_after rows seat seat offer
     ∙ or_right (stands rows seat offer) ((seat == seat) && same_offer offer offer || false)
-    (or_left ((seat == seat) && same_offer offer offer) false (and_from (seat == seat) (same_offer offer offer) (eq-eqb seat seat refl) (same_itself offer)))
+    (or_left ((seat == seat) && same_offer offer offer) false
+    (and_from (seat == seat) (same_offer offer offer) (eq-eqb seat seat refl) (same_itself offer)))
 
-all_have : (n : ℕ) (rows : List StandingOffer) (offer : Offer) → stands_for_all n rows offer ≡ true → (seat : ℕ) → seat < n → stands rows seat offer ≡ true
+all_have : (n : ℕ) (rows : List StandingOffer) (offer : Offer) → stands_for_all n rows offer ≡ true → (seat : ℕ)
+    → seat < n → stands rows seat offer ≡ true
 all_have zero rows offer h seat below = absurd (omega (arith, below))
 all_have (suc n) rows offer h seat below =
     elim (cases_eq seat n) as (λ _. stands rows seat offer ≡ true) [
       | inl same ↦ ap (λ s. stands rows s offer) same ∙ second_so (stands_for_all n rows offer) (stands rows n offer) h
-      | inr other ↦ all_have n rows offer (first_so (stands_for_all n rows offer) (stands rows n offer) h) seat (less seat n below other)
+      | inr other ↦
+          all_have n rows offer (first_so (stands_for_all n rows offer) (stands rows n offer) h) seat
+          (less seat n below other)
     ]
   where
     less : (k n : ℕ) → k < suc n → (k ≡ n → ⊥) → k < n
     less k n h other = grind arith
 
-have_all : (n : ℕ) (rows : List StandingOffer) (offer : Offer) → ((seat : ℕ) → seat < n → stands rows seat offer ≡ true) → stands_for_all n rows offer ≡ true
+have_all : (n : ℕ) (rows : List StandingOffer) (offer : Offer) → ((seat : ℕ) → seat < n → stands rows seat offer ≡ true)
+    → stands_for_all n rows offer ≡ true
 have_all zero rows offer h = refl
 have_all (suc n) rows offer h =
-    and_from (stands_for_all n rows offer) (stands rows n offer) (have_all n rows offer (λ seat below. h seat (more seat n below))) (h n (itself n))
+    and_from (stands_for_all n rows offer) (stands rows n offer)
+    (have_all n rows offer (λ seat below. h seat (more seat n below))) (h n (itself n))
   where
     more : (k n : ℕ) → k < n → k < suc n
     more k n h = omega (arith, h)
@@ -137,19 +160,24 @@ with_the_last book seat offer = (
       (all_have book.seats (with_offer seat offer book.standing) offer h other below),
   λ h. have_all book.seats (with_offer seat offer book.standing) offer (λ other below.
       elim (cases_eq other seat) as (λ _. stands (with_offer seat offer book.standing) other offer ≡ true) [
-        | inl same ↦ ap (λ s. stands (with_offer seat offer book.standing) s offer) same ∙ has_made book.standing seat offer
+        | inl same ↦
+            ap (λ s. stands (with_offer seat offer book.standing) s offer) same ∙ has_made book.standing seat offer
         | inr differs ↦ has_still book.standing seat other offer (h other below differs)
       ]),
 )
 
-number_is : (rows : List StandingOffer) (number seat m : ℕ) → All (λ row. is_other_takeback (Takeback number) row.offer ≡ false) rows
+number_is : (rows : List StandingOffer) (number seat m : ℕ)
+    → All (λ row. is_other_takeback (Takeback number) row.offer ≡ false) rows
     → stands rows seat (Takeback m) ≡ true → m ≡ number
 number_is [] number seat m all h = absurd (let bad : false ≡ true = h in cc)
 number_is (row ∷ rows) number seat m all h =
     elim (or_cases (is_row seat (Takeback m) row) (stands rows seat (Takeback m)) h) as (λ _. m ≡ number) [
       | inl here ↦ eqb-true m number (not_false (m == number)
-          (sym (ap (λ o. is_other_takeback (Takeback number) o) (row_offer seat (Takeback m) row here)) ∙ All-head (λ r. is_other_takeback (Takeback number) r.offer ≡ false) row rows all))
-      | inr later ↦ number_is rows number seat m (All-tail (λ r. is_other_takeback (Takeback number) r.offer ≡ false) row rows all) later
+          (sym (ap (λ o. is_other_takeback (Takeback number) o) (row_offer seat (Takeback m) row here))
+          ∙ All-head (λ r. is_other_takeback (Takeback number) r.offer ≡ false) row rows all))
+      | inr later ↦
+          number_is rows number seat m
+          (All-tail (λ r. is_other_takeback (Takeback number) r.offer ≡ false) row rows all) later
     ]
   where
     not_false : (t : Bool) → not t ≡ false → t ≡ true
@@ -158,7 +186,8 @@ number_is (row ∷ rows) number seat m all h =
 
 pub one_number : (book : OfferBook) → AreOffers book → TakebacksAgree book.standing
 one_number book h = λ seat other m n p q.
-    number_is book.standing h.number seat m h.one_number p ∙ sym (number_is book.standing h.number other n h.one_number q)
+    number_is book.standing h.number seat m h.one_number p
+    ∙ sym (number_is book.standing h.number other n h.one_number q)
 
 no_refusal : (cause : Refusal) (offer : Offer) → None ≡ Some cause → Some offer ≡ None
 no_refusal cause offer e = cc

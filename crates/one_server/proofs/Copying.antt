@@ -30,11 +30,13 @@ use Rattle.one_server.specs.declared.copies.Copies.{Copies}
 use Rattle.one_server.proofs.Stepping.{desk_with, count_of_desks, reply_desk}
 
 -- a refusal lists nothing, and a reply what the act would answer
-of_lobby : (copies : Copies) (refused : Option Refusal) (answer : LobbyReply) → copies.lists ≡ lists_told answer → AreOf copies (lobby_reply (answered refused answer))
+of_lobby : (copies : Copies) (refused : Option Refusal) (answer : LobbyReply) → copies.lists ≡ lists_told answer
+    → AreOf copies (lobby_reply (answered refused answer))
 of_lobby copies None answer h = h
 of_lobby copies (Some cause) answer h = tt
 
-of_desk : (copies : Copies) (refused : Option Refusal) (answer : DeskReply) → copies.items ≡ items_told answer → AreOf copies (desk_reply (answered refused answer))
+of_desk : (copies : Copies) (refused : Option Refusal) (answer : DeskReply) → copies.items ≡ items_told answer
+    → AreOf copies (desk_reply (answered refused answer))
 of_desk copies None answer h = h
 of_desk copies (Some cause) answer h = tt
 
@@ -47,8 +49,10 @@ of_pair (Ok plan) (Some (ADesk desk)) copies = tt
 same_reply : (one another : Reply) → Some one ≡ Some another → one ≡ another
 same_reply one another e = cc
 
-module _ (lobby : LobbyState) (desks : List DeskState) (session moment : ℕ) (copies : Copies) (r : Reply) (whole : IsWhole (parts_of lobby desks)) where
-  are_of_act : (act : Act) → FitsAct act → ListsFor lobby session act copies.lists → ItemsFor desks session act copies.items
+module _ (lobby : LobbyState) (desks : List DeskState) (session moment : ℕ) (copies : Copies) (r : Reply)
+    (whole : IsWhole (parts_of lobby desks)) where
+  are_of_act : (act : Act) → FitsAct act → ListsFor lobby session act copies.lists
+      → ItemsFor desks session act copies.items
       → reply house (parts_of lobby desks) session (record { moment = moment; act = act }) ≡ Some r → AreOf copies r
   are_of_act (Lobby act) fits lists items e =
       let effect = lobby_effect lobby session act in
@@ -57,16 +61,24 @@ module _ (lobby : LobbyState) (desks : List DeskState) (session moment : ℕ) (c
   are_of_act (Desk number serial act) fits lists items e =
       let found = desk_with lobby desks number (count_of_desks lobby desks whole) fits.0 in
       let effect = desk_effect found.0 session moment serial act in
-      let answer = reply_desk lobby desks session moment number serial act found.0 fits.0.0 found.1 (desk_reply (desk_answer found.0 session moment serial act)) refl in
+      let answer =
+      reply_desk lobby desks session moment number serial act found.0 fits.0.0 found.1
+      (desk_reply (desk_answer found.0 session moment serial act)) refl in
       let is = same_reply (desk_reply (desk_answer found.0 session moment serial act)) r (sym answer ∙ e) in
-      subst (λ (x : Reply). AreOf copies x) is (of_desk copies (first_cause effect.causes) effect.reply (items found.0 moment found.1))
+      subst (λ (x : Reply). AreOf copies x) is
+      (of_desk copies (first_cause effect.causes) effect.reply (items found.0 moment found.1))
   are_of_act (Pair act) fits lists items e =
       let timed : Timed = record { moment = moment; act = Pair act } in
-      let is = same_reply (pair_reply (plan_of lobby session act) (other_of house (parts_of lobby desks) session timed)) r e in
-      subst (λ (x : Reply). AreOf copies x) is (of_pair (plan_of lobby session act) (other_of house (parts_of lobby desks) session timed) copies)
+      let is =
+      same_reply (pair_reply (plan_of lobby session act) (other_of house (parts_of lobby desks) session timed)) r e in
+      subst (λ (x : Reply). AreOf copies x) is
+      (of_pair (plan_of lobby session act) (other_of house (parts_of lobby desks) session timed) copies)
 
 -- copies that were made ahead of an act are of its reply
-pub are_of : (lobby : LobbyState) (desks : List DeskState) (session moment : ℕ) (act : Act) (copies : Copies) (r : Reply) → IsWhole (parts_of lobby desks) → FitsAct act
+pub are_of : (lobby : LobbyState) (desks : List DeskState) (session moment : ℕ) (act : Act) (copies : Copies)
+    (r : Reply)
+    → IsWhole (parts_of lobby desks) → FitsAct act
     → ListsFor lobby session act copies.lists → ItemsFor desks session act copies.items
     → reply house (parts_of lobby desks) session (record { moment = moment; act = act }) ≡ Some r → AreOf copies r
-are_of lobby desks session moment act copies r whole fits lists items e = are_of_act lobby desks session moment copies r whole act fits lists items e
+are_of lobby desks session moment act copies r whole fits lists items e =
+    are_of_act lobby desks session moment copies r whole act fits lists items e

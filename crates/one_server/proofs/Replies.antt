@@ -58,10 +58,13 @@ pair_tells (Ok plan) (Some (TheLobby lobby)) = tt
 pair_tells (Ok plan) (Some (ADesk desk)) = tt
 
 -- the answer of such a part
-pub answers_well : (part : Part) (other : Option Part) (session moment : ℕ) (act : Act) → AnswersWell part → IsReply (house_answer part other session moment act)
-answers_well (TheLobby lobby) other session moment (Lobby act) h = lobby_tells (lobby_answer lobby session act) (tells-lobby_answer lobby session act h)
+pub answers_well : (part : Part) (other : Option Part) (session moment : ℕ) (act : Act) → AnswersWell part
+    → IsReply (house_answer part other session moment act)
+answers_well (TheLobby lobby) other session moment (Lobby act) h =
+    lobby_tells (lobby_answer lobby session act) (tells-lobby_answer lobby session act h)
 answers_well (TheLobby lobby) other session moment (Pair act) h = pair_tells (plan_of lobby session act) other
-answers_well (ADesk desk) other session moment (Desk number serial act) h = desk_tells (desk_answer desk session moment serial act) (sound-desk_answer desk session moment serial act h)
+answers_well (ADesk desk) other session moment (Desk number serial act) h =
+    desk_tells (desk_answer desk session moment serial act) (sound-desk_answer desk session moment serial act h)
 answers_well (TheLobby lobby) other session moment (Desk number serial act) h = tt
 answers_well (ADesk desk) other session moment _ h = tt
 
@@ -72,29 +75,38 @@ part_answers (Some part) other session timed r h e =
     let is : house_answer part other session timed.moment timed.act ≡ r = cc in
     subst IsReply is (answers_well part other session timed.moment timed.act h)
 
-lobby_is : (parts : List Part) (whole : IsWhole parts) (number : ℕ) (lobby : LobbyState) → slice_get parts number ≡ Some (TheLobby lobby) → number ≡ 0 → IsWellFormed lobby
-lobby_is parts whole number lobby e first = formed_is parts lobby whole (subst (λ (n : ℕ). slice_get parts n ≡ Some (TheLobby lobby)) first e)
+lobby_is : (parts : List Part) (whole : IsWhole parts) (number : ℕ) (lobby : LobbyState)
+    → slice_get parts number ≡ Some (TheLobby lobby) → number ≡ 0 → IsWellFormed lobby
+lobby_is parts whole number lobby e first =
+    formed_is parts lobby whole (subst (λ (n : ℕ). slice_get parts n ≡ Some (TheLobby lobby)) first e)
 
 -- each part of a whole state answers well
-part_well : (parts : List Part) (whole : IsWhole parts) (number : ℕ) (part : Part) → slice_get parts number ≡ Some part → IsInPlace whole.lobby number part → AnswersWell part
+part_well : (parts : List Part) (whole : IsWhole parts) (number : ℕ) (part : Part) → slice_get parts number ≡ Some part
+    → IsInPlace whole.lobby number part → AnswersWell part
 part_well parts whole number (ADesk desk) e place = place.1.sound
 part_well parts whole number (TheLobby lobby) e place = lobby_is parts whole number lobby e place
 
 -- the reply to an act in a whole state
-pub replies_well : (parts : List Part) (session : ℕ) (timed : Timed) (r : Reply) → IsWhole parts → reply house parts session timed ≡ Some r → IsReply r
+pub replies_well : (parts : List Part) (session : ℕ) (timed : Timed) (r : Reply) → IsWhole parts
+    → reply house parts session timed ≡ Some r → IsReply r
 replies_well parts session timed r whole e =
     part_answers (slice_get parts (house.first timed)) (other_of house parts session timed) session timed r
-    (get_has AnswersWell parts (house.first timed) (λ number part there. part_well parts whole number part there (whole.places number part there))) e
+    (get_has AnswersWell parts (house.first timed)
+    (λ number part there. part_well parts whole number part there (whole.places number part there)))
+    e
 
 -- and so each reply of a legal history that opens with one
-pub each_reply : (opening : List Part) (log : Log) → IsWhole opening → Legal house opening log → All (λ e. IsReply e.reply) log
+pub each_reply : (opening : List Part) (log : Log) → IsWhole opening → Legal house opening log
+    → All (λ e. IsReply e.reply) log
 each_reply opening [] whole legal = All-nil (λ e. IsReply e.reply)
 each_reply opening (e ∷ es) whole legal =
     All-cons (λ e. IsReply e.reply) e es (replies_well opening e.session e.act e.reply whole legal.1)
-    (each_reply (after house opening e.session e.act) es (house_lawful.stays opening e.session e.act whole legal.0) legal.2)
+    (each_reply (after house opening e.session e.act) es (house_lawful.stays opening e.session e.act whole legal.0)
+    legal.2)
 
 -- the last reply of a legal history
-pub last_reply : (opening : List Part) (log : Log) (session : ℕ) (timed : Timed) (r : Reply) → IsWhole opening → Legal house opening (log ++ entry session timed r ∷ []) → IsReply r
+pub last_reply : (opening : List Part) (log : Log) (session : ℕ) (timed : Timed) (r : Reply) → IsWhole opening
+    → Legal house opening (log ++ entry session timed r ∷ []) → IsReply r
 last_reply opening log session timed r whole legal =
     All-contains (λ e. IsReply e.reply) (log ++ entry session timed r ∷ []) (entry session timed r)
     (each_reply opening (log ++ entry session timed r ∷ []) whole legal)

@@ -62,27 +62,36 @@ use Rattle.one_server.specs.WholeProof.{desk_at, formed_is, place_is}
 both : {X : Type 0} (P Q R : X → Type 0) (xs : List X) → ((x : X) → P x → Q x → R x) → All P xs → All Q xs → All R xs
 both P Q R [] step ps qs = All-nil R
 both P Q R (x ∷ xs) step ps qs =
-    All-cons R x xs (step x (All-head P x xs ps) (All-head Q x xs qs)) (both P Q R xs step (All-tail P x xs ps) (All-tail Q x xs qs))
+    All-cons R x xs (step x (All-head P x xs ps) (All-head Q x xs qs))
+    (both P Q R xs step (All-tail P x xs ps) (All-tail Q x xs qs))
 
-at_position : (t : Terms) (halves : List Half) (b : Board) → b.terms ≡ t → half_moves halves ≡ b.all → position_of b ≡ position_on t.variant halves b.number
+at_position : (t : Terms) (halves : List Half) (b : Board) → b.terms ≡ t → half_moves halves ≡ b.all
+    → position_of b ≡ position_on t.variant halves b.number
 unfolding position_of
 at_position t halves b own all =
-    ap (λ (x : Terms). position_after x.variant b.all b.number) own ∙ ap (λ (moves : List HalfMove). position_after t.variant moves b.number) (sym all)
+    ap (λ (x : Terms). position_after x.variant b.all b.number) own
+    ∙ ap (λ (moves : List HalfMove). position_after t.variant moves b.number) (sym all)
 
-is_restored : (stored : StoredGame) (moment : ℕ) (game : GameState) → IsSound game → IsOnAgain stored moment game → IsRestored stored moment game
+is_restored : (stored : StoredGame) (moment : ℕ) (game : GameState) → IsSound game → IsOnAgain stored moment game
+    → IsRestored stored moment game
 is_restored stored moment game s again =
-    let sound : AreSoundBoards stored.terms game.boards = subst (λ (t : Terms). AreSoundBoards t game.boards) again.terms s.boards in
+    let sound : AreSoundBoards stored.terms game.boards =
+    subst (λ (t : Terms). AreSoundBoards t game.boards) again.terms s.boards in
     record {
       again = again;
       lists =
           subst (λ (h : List Half). All (λ (b : Board). b.list ≡ list_on b.number h) game.boards) again.halves
-          (All-weaker (λ (b : Board). list_on b.number (halves_of game.boards) ≡ b.list) (λ (b : Board). b.list ≡ list_on b.number (halves_of game.boards))
+          (All-weaker (λ (b : Board). list_on b.number (halves_of game.boards) ≡ b.list)
+          (λ (b : Board). b.list ≡ list_on b.number (halves_of game.boards))
           (λ b e. sym e) game.boards (each_of stored.terms game.boards sound));
       positions =
-          subst (λ (h : List Half). All (λ (b : Board). position_of b ≡ position_on stored.terms.variant h b.number) game.boards) again.halves
+          subst (λ (h : List Half).
+          All (λ (b : Board). position_of b ≡ position_on stored.terms.variant h b.number) game.boards)
+          again.halves
           (both (λ (b : Board). b.terms ≡ stored.terms) (λ (b : Board). half_moves (halves_of game.boards) ≡ b.all)
           (λ (b : Board). position_of b ≡ position_on stored.terms.variant (halves_of game.boards) b.number) game.boards
-          (λ b own all. at_position stored.terms (halves_of game.boards) b own all) sound.terms (all_of stored.terms game.boards sound));
+          (λ b own all. at_position stored.terms (halves_of game.boards) b own all) sound.terms
+          (all_of stored.terms game.boards sound));
     }
 
 -- ---- what a Resume plans
@@ -98,24 +107,29 @@ plans_at : (lobby : LobbyState) (row : Shelved) (slot : Option ℕ) → PlansOf 
 plans_at lobby row None = tt
 plans_at lobby row (Some slot) = refl
 
-plans_if : (lobby : LobbyState) (r : Resuming) (starts : Bool) → PlansOf (Some r.row) (cond starts (going_on lobby r.row) (asking lobby r.caller r.other r.row)).reply
+plans_if : (lobby : LobbyState) (r : Resuming) (starts : Bool)
+    → PlansOf (Some r.row) (cond starts (going_on lobby r.row) (asking lobby r.caller r.other r.row)).reply
 plans_if lobby r true = plans_at lobby r.row (free_slot lobby)
 plans_if lobby r false = tt
 
-plans_by : (lobby : LobbyState) (caller other : Option Member) (row : Option Shelved) → PlansOf row (resuming_plan lobby (resuming_of caller other row))
+plans_by : (lobby : LobbyState) (caller other : Option Member) (row : Option Shelved)
+    → PlansOf row (resuming_plan lobby (resuming_of caller other row))
 plans_by lobby None other row = tt
 plans_by lobby (Some caller) None row = tt
 plans_by lobby (Some caller) (Some other) None = tt
-plans_by lobby (Some caller) (Some other) (Some row) = plans_if lobby (record { caller = caller; other = other; row = row }) (would_start lobby caller row)
+plans_by lobby (Some caller) (Some other) (Some row) =
+    plans_if lobby (record { caller = caller; other = other; row = row }) (would_start lobby caller row)
 
 the_plan : (refused : Option Refusal) (plan given : Plan) → answered refused plan ≡ Ok given → plan ≡ given
 the_plan None plan given e = cc
 the_plan (Some cause) plan given e = absurd cc
 
-plans_of : (lobby : LobbyState) (session : ℕ) (name : List ℕ) (plan : Plan) → plan_of lobby session (ToResume name) ≡ Ok plan → PlansOf (meant lobby (member_of lobby session) name) plan
+plans_of : (lobby : LobbyState) (session : ℕ) (name : List ℕ) (plan : Plan)
+    → plan_of lobby session (ToResume name) ≡ Ok plan → PlansOf (meant lobby (member_of lobby session) name) plan
 plans_of lobby session name plan is =
     let effect = resume_effect lobby session name in
-    subst (PlansOf (meant lobby (member_of lobby session) name)) (the_plan (first_cause effect.causes) effect.reply plan is)
+    subst (PlansOf (meant lobby (member_of lobby session) name))
+    (the_plan (first_cause effect.causes) effect.reply plan is)
     (plans_by lobby (member_of lobby session) (named lobby name) (meant lobby (member_of lobby session) name))
 
 not_cleared : (is_over is_alone : Bool) → cond is_over (cond is_alone Cleared Freed) Kept ≡ Started → ⊥
@@ -137,60 +151,87 @@ one_occupant one another e = cc
 
 -- ---- the step
 
-module _ (parts : List Part) (session moment : ℕ) (name : List ℕ) (lobby : LobbyState) (w : IsWhole parts) (first : slice_get parts 0 ≡ Some (TheLobby lobby)) (timely : moment ≤ 2 ^ 48)
+module _ (parts : List Part) (session moment : ℕ) (name : List ℕ) (lobby : LobbyState) (w : IsWhole parts)
+    (first : slice_get parts 0 ≡ Some (TheLobby lobby)) (timely : moment ≤ 2 ^ 48)
     (e : reply house parts session (resuming name moment) ≡ Some (PairReplied Started)) where
   abbrev timed : Timed
   timed = resuming name moment
 
   not_refused : (cause : Refusal) → plan_of lobby session (ToResume name) ≡ Err cause → ⊥
   not_refused cause is =
-      let answer = reply_alone house parts session timed (TheLobby lobby) first (ap planned_desk is) ∙ ap (λ p. Some (pair_reply p None)) is in
+      let answer =
+      reply_alone house parts session timed (TheLobby lobby) first (ap planned_desk is)
+      ∙ ap (λ p. Some (pair_reply p None)) is in
       let bad = sym answer ∙ e in
       absurd cc
 
   not_nowhere : (plan : Plan) → plan_of lobby session (ToResume name) ≡ Ok plan → desk_of plan ≡ None → ⊥
   not_nowhere plan is none =
-      let answer = reply_alone house parts session timed (TheLobby lobby) first (ap planned_desk is ∙ none) ∙ ap (λ p. Some (pair_reply p None)) is in
+      let answer =
+      reply_alone house parts session timed (TheLobby lobby) first (ap planned_desk is ∙ none)
+      ∙ ap (λ p. Some (pair_reply p None)) is in
       not_alone plan (said (alone_reply plan) Started (sym answer ∙ e))
 
-  by_plan : (plan : Plan) → plan_of lobby session (ToResume name) ≡ Ok plan → IsPlanned lobby plan → PlansOf (meant lobby (member_of lobby session) name) plan
+  by_plan : (plan : Plan) → plan_of lobby session (ToResume name) ≡ Ok plan → IsPlanned lobby plan
+      → PlansOf (meant lobby (member_of lobby session) name) plan
       → IsResumed parts (after house parts session timed) session moment name
   by_plan (Start desk serial terms seats) is p of = absurd of
   by_plan (Ask from to number) is p of = absurd (not_nowhere (Ask from to number) is refl)
   by_plan (Clear by number serial) is p of =
       let found = desk_at parts number w p in
-      let answer = reply_together house parts session timed (TheLobby lobby) (ADesk found.0) number first (ap planned_desk is) found.1 ∙ ap (λ r. Some (pair_reply r (Some (ADesk found.0)))) is in
-      absurd (not_cleared (has_ended found.0 serial) (is_left found.0) (said (clear_reply found.0 serial) Started (sym answer ∙ e)))
+      let answer =
+      reply_together house parts session timed (TheLobby lobby) (ADesk found.0) number first (ap planned_desk is)
+      found.1
+      ∙ ap (λ r. Some (pair_reply r (Some (ADesk found.0)))) is in
+      absurd (not_cleared (has_ended found.0 serial) (is_left found.0)
+      (said (clear_reply found.0 serial) Started (sym answer ∙ e)))
   by_plan (Resume number serial stored terms seats) is p of =
       let plan : Plan = Resume number serial stored terms seats in
       let formed : IsWellFormed lobby = formed_is parts lobby w first in
       let found = desk_at parts number w p.is_desk in
-      let c : CanResumeAt lobby found.0 stored seats = carried_by lobby plan number found.0 formed refl (place_is parts lobby w first number (ADesk found.0) found.1).1 p in
+      let c : CanResumeAt lobby found.0 stored seats =
+      carried_by lobby plan number found.0 formed refl (place_is parts lobby w first number (ADesk found.0) found.1).1
+      p in
       let put : LobbyState = committed lobby plan None true in
       let desk : DeskState = resume_desk lobby found.0 serial stored seats moment in
       let front : List Part = set parts 0 (TheLobby put) in
       let later : after house parts session timed ≡ set front number (ADesk desk) =
-      after_together house parts session timed (TheLobby lobby) (ADesk found.0) number first (ap planned_desk is) found.1
-      ∙ ap (λ r. set (set parts 0 (TheLobby (pair_lobby lobby r (Some (ADesk found.0))))) number (ADesk (pair_desk lobby r found.0 moment))) is in
+      after_together house parts session timed (TheLobby lobby) (ADesk found.0) number first (ap planned_desk is)
+      found.1
+      ∙ ap
+      (λ r.
+      set (set parts 0 (TheLobby (pair_lobby lobby r (Some (ADesk found.0))))) number
+      (ADesk (pair_desk lobby r found.0 moment)))
+      is in
       let again = resuming_restores.stored found.0 serial c.game seats moment c.replays c.players in
       let there : desk ≡ again.0 =
-      ap (λ (o : Option StoredGame). with_game found.0 serial o seats moment) c.lies ∙ ap (λ (o : Option DeskState). unwrap_or o found.0) again.1 in
+      ap (λ (o : Option StoredGame). with_game found.0 serial o seats moment) c.lies
+      ∙ ap (λ (o : Option DeskState). unwrap_or o found.0) again.1 in
       let game : GameState = again.2.0 in
       let plays : again.0.game ≡ Some game = again.2.1 in
       let sound : IsSound game =
       subst (λ (o : Option GameState). IfSome o IsSound) plays
-      (subst (λ (o : Option DeskState). IfSome o HasSoundGame) again.1 (sound_restored found.0 serial c.game seats moment c.replays c.pairs c.names timely)) in
-      let listed : option_map occupant again.0.game ≡ Some (record { serial = serial; terms = c.game.terms; seats = seats }) =
-      subst (λ (o : Option DeskState). IfSome o (λ d. occupant_of d ≡ Some (record { serial = serial; terms = c.game.terms; seats = seats }))) again.1
+      (subst (λ (o : Option DeskState). IfSome o HasSoundGame) again.1
+      (sound_restored found.0 serial c.game seats moment c.replays c.pairs c.names timely)) in
+      let listed : option_map occupant again.0.game
+      ≡ Some (record { serial = serial; terms = c.game.terms; seats = seats }) =
+      subst (λ (o : Option DeskState).
+      IfSome o (λ d. occupant_of d ≡ Some (record { serial = serial; terms = c.game.terms; seats = seats })))
+      again.1
       (players_restored found.0 serial c.game seats moment) in
       let own : occupant game ≡ record { serial = serial; terms = c.game.terms; seats = seats } =
-      one_occupant (occupant game) (record { serial = serial; terms = c.game.terms; seats = seats }) (sym (ap (option_map occupant) plays) ∙ listed) in
+      one_occupant (occupant game) (record {
+        serial = serial;
+        terms = c.game.terms;
+        seats = seats;
+      }) (sym (ap (option_map occupant) plays) ∙ listed) in
       record {
         lobby = lobby;
         was = first;
         lobby_later = put;
         is =
-            ap (λ (xs : List Part). slice_get xs 0) later ∙ get_set_else front number 0 (ADesk desk) (λ z. omega (arith, p.is_desk))
+            ap (λ (xs : List Part). slice_get xs 0) later
+            ∙ get_set_else front number 0 (ADesk desk) (λ z. omega (arith, p.is_desk))
             ∙ get_set_same parts 0 (TheLobby put) (omega (arith, w.count));
         number = stored;
         least = of;
@@ -212,9 +253,12 @@ module _ (parts : List Part) (session moment : ℕ) (name : List ℕ) (lobby : L
         serial = ap (λ (o : Occupant). o.serial) own ∙ p.is_next;
       }
 
-  by_result : (r : Result Plan Refusal) → plan_of lobby session (ToResume name) ≡ r → IsResumed parts (after house parts session timed) session moment name
+  by_result : (r : Result Plan Refusal) → plan_of lobby session (ToResume name) ≡ r
+      → IsResumed parts (after house parts session timed) session moment name
   by_result (Err cause) is = absurd (not_refused cause is)
-  by_result (Ok plan) is = by_plan plan is (plan_of-is lobby session (ToResume name) plan (formed_is parts lobby w first) tt is) (plans_of lobby session name plan is)
+  by_result (Ok plan) is =
+      by_plan plan is (plan_of-is lobby session (ToResume name) plan (formed_is parts lobby w first) tt is)
+      (plans_of lobby session name plan is)
 
 pub resumes_as_left : (parts : List Part) → IsWhole parts → ResumesAsLeft parts
 resumes_as_left parts w = λ session moment name timely e.

@@ -27,15 +27,20 @@ use Rattle.one_server.specs.Whole.{IsInPlace, IsOpening, IsWhole, parts_of, vaca
 use Rattle.one_server.specs.LawfulProof.{house_lawful}
 
 -- the parts of a server are whole
-pub whole_now : (opening : List Part) (log : List (Entry Timed Reply)) (lobby : LobbyState) (desks : List DeskState) → IsServed opening log lobby desks → IsWhole (parts_of lobby desks)
+pub whole_now : (opening : List Part) (log : List (Entry Timed Reply)) (lobby : LobbyState) (desks : List DeskState)
+    → IsServed opening log lobby desks → IsWhole (parts_of lobby desks)
 whole_now opening log lobby desks s = subst IsWhole s.state (stays_whole house house_lawful opening log s.whole s.legal)
 
-pub one_more : (opening : List Part) (log : List (Entry Timed Reply)) (lobby new : LobbyState) (desks news : List DeskState) (session : ℕ) (act : Timed) (r : Reply)
-    → IsServed opening log lobby desks → IsEvent act → reply house (parts_of lobby desks) session act ≡ Some r → after house (parts_of lobby desks) session act ≡ parts_of new news
+pub one_more : (opening : List Part) (log : List (Entry Timed Reply)) (lobby new : LobbyState)
+    (desks news : List DeskState) (session : ℕ) (act : Timed) (r : Reply)
+    → IsServed opening log lobby desks → IsEvent act → reply house (parts_of lobby desks) session act ≡ Some r
+    → after house (parts_of lobby desks) session act ≡ parts_of new news
     → IsServed opening (log ++ entry session act r ∷ []) new news
 one_more opening log lobby new desks news session act r s fits answers leaves = record {
   whole = s.whole;
-  legal = grows_legally house opening log (entry session act r) s.legal fits (ap (λ xs. reply house xs session act) s.state ∙ answers);
+  legal =
+      grows_legally house opening log (entry session act r) s.legal fits
+      (ap (λ xs. reply house xs session act) s.state ∙ answers);
   state = steps_once house opening log (entry session act r) ∙ ap (λ xs. after house xs session act) s.state ∙ leaves;
 }
 
@@ -44,14 +49,17 @@ length-vacant number zero = refl
 length-vacant number (suc more) = ap suc (length-vacant (number + 1) more)
 
 -- one desk more stands behind the others
-pub vacant_more : (number more : ℕ) → vacant_from number (suc more) ≡ vacant_from number more ++ vacant (number + more) ∷ []
+pub vacant_more : (number more : ℕ)
+    → vacant_from number (suc more) ≡ vacant_from number more ++ vacant (number + more) ∷ []
 vacant_more number zero = let e : number ≡ number + 0 = omega arith in ap (λ n. vacant n ∷ []) e
 vacant_more number (suc more) =
     let e : number + 1 + more ≡ number + suc more = omega arith in
-    ap (λ ds. vacant number ∷ ds) (vacant_more (number + 1) more ∙ ap (λ n. vacant_from (number + 1) more ++ vacant n ∷ []) e)
+    ap (λ ds. vacant number ∷ ds)
+    (vacant_more (number + 1) more ∙ ap (λ n. vacant_from (number + 1) more ++ vacant n ∷ []) e)
 
 -- what stands among the vacant desks is the vacant desk of that number
-pub vacant_there : (number more i : ℕ) (desk : DeskState) → slice_get (vacant_from number more) i ≡ Some desk → (i < more) × (vacant (number + i) ≡ desk)
+pub vacant_there : (number more i : ℕ) (desk : DeskState) → slice_get (vacant_from number more) i ≡ Some desk
+    → (i < more) × (vacant (number + i) ≡ desk)
 vacant_there number zero i desk e = absurd cc
 vacant_there number (suc more) zero desk e =
     let n : number + 0 ≡ number = omega arith in
@@ -70,32 +78,42 @@ none_there (suc n) (suc i) h = none_there n i (omega arith)
 pub front : (one another : Part) → Some one ≡ Some another → one ≡ another
 front one another e = cc
 
-open_desk : (lobby : LobbyState) → lobby.games ≡ replicate desk_count None → (i : ℕ) (part : Part) (found : Option DeskState) → slice_get (vacant_from 1 desk_count) i ≡ found → option_map ADesk found ≡ Some part
+open_desk : (lobby : LobbyState) → lobby.games ≡ replicate desk_count None
+    → (i : ℕ) (part : Part) (found : Option DeskState) → slice_get (vacant_from 1 desk_count) i ≡ found
+    → option_map ADesk found ≡ Some part
     → IsInPlace lobby (suc i) part
 open_desk lobby none i part None e h = absurd cc
 open_desk lobby none i part (Some desk) e h =
     let there = vacant_there 1 desk_count i desk e in
     let number : 1 + i ≡ suc i = omega arith in
     let slot : suc i - 1 ≡ i = omega arith in
-    let is : ADesk (vacant (suc i)) ≡ part = ap (λ n. ADesk (vacant n)) (sym number) ∙ ap ADesk there.1 ∙ front (ADesk desk) part h in
+    let is : ADesk (vacant (suc i)) ≡ part =
+    ap (λ n. ADesk (vacant n)) (sym number) ∙ ap ADesk there.1 ∙ front (ADesk desk) part h in
     subst (IsInPlace lobby (suc i)) is (
       omega arith,
       record {
         numbered = refl;
         sound = tt;
-        listed = ap (slice_get lobby.games) slot ∙ ap (λ (gs : List (Option ListedGame)). slice_get gs i) none ∙ none_there desk_count i there.0;
+        listed =
+            ap (slice_get lobby.games) slot ∙ ap (λ (gs : List (Option ListedGame)). slice_get gs i) none
+            ∙ none_there desk_count i there.0;
       },
     )
 
-open_place : (lobby : LobbyState) → lobby.games ≡ replicate desk_count None → (place : ℕ) (part : Part) → slice_get (parts_of lobby (vacant_from 1 desk_count)) place ≡ Some part → IsInPlace lobby place part
+open_place : (lobby : LobbyState) → lobby.games ≡ replicate desk_count None → (place : ℕ) (part : Part)
+    → slice_get (parts_of lobby (vacant_from 1 desk_count)) place ≡ Some part → IsInPlace lobby place part
 open_place lobby none zero part e = subst (IsInPlace lobby 0) (front (TheLobby lobby) part e) refl
-open_place lobby none (suc i) part e = open_desk lobby none i part (slice_get (vacant_from 1 desk_count) i) refl (sym (slice_get-map ADesk (vacant_from 1 desk_count) i) ∙ e)
+open_place lobby none (suc i) part e =
+    open_desk lobby none i part (slice_get (vacant_from 1 desk_count) i) refl
+    (sym (slice_get-map ADesk (vacant_from 1 desk_count) i) ∙ e)
 
 -- a server opens in a whole state
-pub whole_opening : (lobby : LobbyState) → IsWellFormed lobby → IsOpening lobby → IsWhole (parts_of lobby (vacant_from 1 desk_count))
+pub whole_opening : (lobby : LobbyState) → IsWellFormed lobby → IsOpening lobby
+    → IsWhole (parts_of lobby (vacant_from 1 desk_count))
 whole_opening lobby formed o = record {
   count =
-      let all : length (map ADesk (vacant_from 1 desk_count)) ≡ length (vacant_from 1 desk_count) = length-map (vacant_from 1 desk_count) ADesk in
+      let all : length (map ADesk (vacant_from 1 desk_count)) ≡ length (vacant_from 1 desk_count) =
+      length-map (vacant_from 1 desk_count) ADesk in
       let some : length (vacant_from 1 desk_count) ≡ desk_count = length-vacant 1 desk_count in
       omega (arith, all, some);
   lobby = lobby;
@@ -104,24 +122,32 @@ whole_opening lobby formed o = record {
   places = open_place lobby o.no_game;
 }
 
-pub fresh : (opening lobby : LobbyState) (desks : List DeskState) (log : List (Entry Timed Reply)) → IsWellFormed lobby → IsOpening lobby → opening ≡ lobby → desks ≡ vacant_from 1 desk_count → log ≡ [] → IsServed (opened opening) log lobby desks
+pub fresh : (opening lobby : LobbyState) (desks : List DeskState) (log : List (Entry Timed Reply)) → IsWellFormed lobby
+    → IsOpening lobby → opening ≡ lobby → desks ≡ vacant_from 1 desk_count → log ≡ []
+    → IsServed (opened opening) log lobby desks
 unfolding opened
 fresh opening lobby desks log formed o same e empty =
     let whole = whole_opening lobby formed o in
-    let made : IsServed (opened lobby) [] lobby (vacant_from 1 desk_count) = record { whole = whole; legal = tt; state = refl } in
+    let made : IsServed (opened lobby) [] lobby (vacant_from 1 desk_count) =
+    record { whole = whole; legal = tt; state = refl } in
     subst (λ (l : LobbyState). IsServed (opened l) log lobby desks) (sym same)
     (subst (λ (ds : List DeskState). IsServed (opened lobby) log lobby ds) (sym e)
-    (subst (λ (es : List (Entry Timed Reply)). IsServed (opened lobby) es lobby (vacant_from 1 desk_count)) (sym empty) made))
+    (subst (λ (es : List (Entry Timed Reply)). IsServed (opened lobby) es lobby (vacant_from 1 desk_count)) (sym empty)
+    made))
 
-pub vacant_push : (slot : ℕ) (desks new : List DeskState) (desk : DeskState) → desks ≡ vacant_from 1 slot → desk ≡ vacant (slot + 1) → new ≡ desks ++ desk ∷ [] → new ≡ vacant_from 1 (slot + 1)
+pub vacant_push : (slot : ℕ) (desks new : List DeskState) (desk : DeskState) → desks ≡ vacant_from 1 slot
+    → desk ≡ vacant (slot + 1) → new ≡ desks ++ desk ∷ [] → new ≡ vacant_from 1 (slot + 1)
 vacant_push slot desks new desk e d n =
     let one : slot + 1 ≡ 1 + slot = omega arith in
     let more : suc slot ≡ slot + 1 = omega arith in
-    n ∙ (λ i. e i ++ d i ∷ []) ∙ ap (λ k. vacant_from 1 slot ++ vacant k ∷ []) one ∙ sym (vacant_more 1 slot) ∙ ap (vacant_from 1) more
+    n ∙ (λ i. e i ++ d i ∷ []) ∙ ap (λ k. vacant_from 1 slot ++ vacant k ∷ []) one ∙ sym (vacant_more 1 slot)
+    ∙ ap (vacant_from 1) more
 
 -- the log as it was written
-pub pushed : (opening : List Part) (log old items : List (Entry Timed Reply)) (session : ℕ) (act : Timed) (twin r : Reply) (new : LobbyState) (news : List DeskState)
-    → items ≡ old ++ entry session act twin ∷ [] → old ≡ log → twin ≡ r → IsServed opening (log ++ entry session act r ∷ []) new news → IsServed opening items new news
+pub pushed : (opening : List Part) (log old items : List (Entry Timed Reply)) (session : ℕ) (act : Timed)
+    (twin r : Reply) (new : LobbyState) (news : List DeskState)
+    → items ≡ old ++ entry session act twin ∷ [] → old ≡ log → twin ≡ r
+    → IsServed opening (log ++ entry session act r ∷ []) new news → IsServed opening items new news
 pushed opening log old items session act twin r new news e f g s =
     let same : items ≡ log ++ entry session act r ∷ [] = e ∙ (λ i. f i ++ entry session act (g i) ∷ []) in
     subst (λ (es : List (Entry Timed Reply)). IsServed opening es new news) (sym same) s

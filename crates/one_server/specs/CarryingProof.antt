@@ -37,11 +37,13 @@ row_replays : (number : ℕ) (row : Shelved) (games : List Shelved) (game : Stor
 row_replays number row games game true own rest e = let same : row.game ≡ game = cc in subst Replays same own
 row_replays number row games game false own rest e = rest e
 
-pub stored_replays : (number : ℕ) (games : List Shelved) (game : StoredGame) → All (λ (row : Shelved). Replays row.game) games
+pub stored_replays : (number : ℕ) (games : List Shelved) (game : StoredGame)
+    → All (λ (row : Shelved). Replays row.game) games
     → stored_game games number ≡ Some game → Replays game
 stored_replays number [] game all e = absurd cc
 stored_replays number (row ∷ games) game all e =
-    row_replays number row games game (has_number number row) (All-head (λ (row : Shelved). Replays row.game) row games all)
+    row_replays number row games game (has_number number row)
+    (All-head (λ (row : Shelved). Replays row.game) row games all)
     (stored_replays number games game (All-tail (λ (row : Shelved). Replays row.game) row games all)) e
 
 -- a desk for which the lobby lists nothing is vacant
@@ -56,14 +58,17 @@ vacant_by : (desk : DeskState) → Some None ≡ Some (game_of desk) → desk.ga
 vacant_by desk e = vacant_in desk.game (nothing_listed (game_of desk) e)
 
 -- a game that was adjourned replays, and its desk is in use
-shelving : (lobby : LobbyState) (session number serial : ℕ) (game : Option GameState) (adjourned : Bool) → IfSome game IsSound
+shelving : (lobby : LobbyState) (session number serial : ℕ) (game : Option GameState) (adjourned : Bool)
+    → IfSome game IsSound
     → game_at lobby number ≡ option_map listing (option_map occupant game)
     → CanShelve lobby (Clear session number serial) (cond adjourned (option_map shelved game) None)
 shelving lobby session number serial game false sound listed = tt
 shelving lobby session number serial None true sound listed = tt
-shelving lobby session number serial (Some g) true sound listed = (shelved_replays g sound, subst IsSome (sym listed) refl)
+shelving lobby session number serial (Some g) true sound listed =
+    (shelved_replays g sound, subst IsSome (sym listed) refl)
 
-pub carried_by : (lobby : LobbyState) (plan : Plan) (number : ℕ) (desk : DeskState) → IsWellFormed lobby → desk_of plan ≡ Some number → IsListed lobby number desk → IsPlanned lobby plan
+pub carried_by : (lobby : LobbyState) (plan : Plan) (number : ℕ) (desk : DeskState) → IsWellFormed lobby
+    → desk_of plan ≡ Some number → IsListed lobby number desk → IsPlanned lobby plan
     → CanCarry lobby plan desk
 carried_by lobby (Start own serial terms seats) number desk formed o listed planned =
     let same : own ≡ number = cc in
@@ -87,6 +92,8 @@ carried_by lobby (Resume own serial stored terms seats) number desk formed o lis
       sessions = all_differ (λ p. p.session) (seat_list seats) planned.apart.sessions;
       names = all_differ (λ p. key_of p.name) (seat_list seats) planned.apart.handles;
       players = planned.names;
-      pairs = subst (λ (t : Terms). HasPairsFor t seats) planned.its_terms (pairs_for terms.variant seats.first seats.second planned.boards);
+      pairs =
+          subst (λ (t : Terms). HasPairsFor t seats) planned.its_terms
+          (pairs_for terms.variant seats.first seats.second planned.boards);
     }
 carried_by lobby (Ask from to stored) number desk formed o listed planned = tt

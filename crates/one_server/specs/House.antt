@@ -25,7 +25,8 @@ use Rattle.one_server.specs.Whole.{IsWhole}
 abbrev pub no_parts : Reply
 no_parts = reply.Pair Kept
 
--- the reply to a pair act: a refusal by the lobby, or what the plan replies with its desk in hand, or by the lobby alone
+-- the reply to a pair act: a refusal by the lobby, or what the plan replies with its desk in hand, or by the lobby
+-- alone
 -- where it has none
 abbrev pub pair_reply : Result Plan Refusal → Option Part → Reply
 pair_reply (Err cause) other = reply.Refused cause

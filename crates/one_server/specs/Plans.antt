@@ -54,7 +54,8 @@ pub record CanStartAt (desk : DeskState) (terms : Terms) (seats : Seats) : Type 
   pub names : AllDiffer (names_of seats)
   pub pairs : HasPairsFor terms seats
 
--- the plan can be carried out with this lobby at this desk: a game that goes on the shelf replays, and comes from a desk
+-- the plan can be carried out with this lobby at this desk: a game that goes on the shelf replays, and comes from a
+-- desk
 -- in use
 abbrev pub CanCarry : LobbyState → Plan → DeskState → Type 0
 CanCarry lobby (Start number serial terms seats) desk = CanStartAt desk terms seats

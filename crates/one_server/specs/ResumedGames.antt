@@ -1,4 +1,5 @@
--- What a Resume makes of a stored game. This server's own; that an adjourned game goes on with the position and the times
+-- What a Resume makes of a stored game. This server's own; that an adjourned game goes on with the position and the
+-- times
 -- with which it was left is FIDE's (Laws, Guidelines I).
 use Rattle.std.specs.Prelude.{◌≡◌, ℕ, ◌+◌, ◌≤◌, List, All, None, Some, slice_get}
 use Rattle.std.specs.Option.{option_map}
@@ -23,13 +24,16 @@ use Rattle.one_server.specs.declared.reply.PairReply.TheVariants.{Started}
 use Rattle.one_server.specs.declared.reply.Reply.TheVariants as reply
 use Rattle.one_server.specs.House.{house}
 
--- a stored game goes on at a desk since that moment: the terms, the players' names and the half-moves with their charges
--- are the stored ones, and so each board has its part of these, from which its clocks are told, and the position to which
+-- a stored game goes on at a desk since that moment: the terms, the players' names and the half-moves with their
+-- charges
+-- are the stored ones, and so each board has its part of these, from which its clocks are told, and the position to
+-- which
 -- they lead, with the men in hand; who is to move thinks from that moment on
 pub record IsRestored (stored : StoredGame) (moment : ℕ) (game : GameState) : Type 0 where
   pub again : IsOnAgain stored moment game
   pub lists : All (λ (b : Board). b.list ≡ list_on b.number stored.halves) game.boards
-  pub positions : All (λ (b : Board). position_of b ≡ position_on stored.terms.variant stored.halves b.number) game.boards
+  pub positions : All (λ (b : Board). position_of b ≡ position_on stored.terms.variant stored.halves b.number)
+      game.boards
 
 -- between two states a game was resumed at that moment by a session that named a player: it is the stored game of least
 -- number in which both play, it has left the shelf, and it goes on at a desk that was vacant, under the next serial

@@ -43,12 +43,15 @@ SoFar told Before row moves = (told ≡ []) × (row ≡ empty_row) × (moves ≡
 SoFar told Tags row moves = (t : TagsSoFar row) × (told ≡ all_tag_pieces t.tags) × (moves ≡ [])
 SoFar told Opened row moves = (t : TagsSoFar row) × (told ≡ all_tag_pieces t.tags ++ Sign 91 ∷ []) × (moves ≡ [])
 SoFar told (Named name) row moves =
-    (t : TagsSoFar row) × (told ≡ all_tag_pieces t.tags ++ Sign 91 ∷ Word name ∷ []) × (moves ≡ []) × IsTag (record { name = name; text = [] })
+    (t : TagsSoFar row) × (told ≡ all_tag_pieces t.tags ++ Sign 91 ∷ Word name ∷ []) × (moves ≡ [])
+    × IsTag (record { name = name; text = [] })
 SoFar told Told row moves =
-    (old : TagTexts) × (t : TagsSoFar old) × (tag : Tag) × (told ≡ all_tag_pieces t.tags ++ Sign 91 ∷ Word tag.name ∷ Quoted tag.text ∷ []) × (moves ≡ []) × IsTag tag
+    (old : TagTexts) × (t : TagsSoFar old) × (tag : Tag)
+    × (told ≡ all_tag_pieces t.tags ++ Sign 91 ∷ Word tag.name ∷ Quoted tag.text ∷ []) × (moves ≡ []) × IsTag tag
     × (row ≡ noted tag.name tag.text old)
 SoFar told Moves row moves =
-    (t : TagsSoFar row) × (body : List Piece) × (told ≡ all_tag_pieces t.tags ++ body) × TellMoves [] body moves × (length moves ≤ 1200)
+    (t : TagsSoFar row) × (body : List Piece) × (told ≡ all_tag_pieces t.tags ++ body) × TellMoves [] body moves
+    × (length moves ≤ 1200)
 
 -- what a piece more makes of it: it goes on, or a game is whole, or it fails
 abbrev OnwardBy : List Piece → Option PgnGame → Option Book → Type 0
@@ -70,7 +73,8 @@ record FrontTags (told : List Piece) (row : TagTexts) (moves : List Move) : Type
   are : told ≡ all_tag_pieces so_far.tags
   no_moves : moves ≡ []
 
-front_tags : (told : List Piece) (stage : GameStage) (row : TagTexts) (moves : List Move) → IsFront stage → SoFar told stage row moves → FrontTags told row moves
+front_tags : (told : List Piece) (stage : GameStage) (row : TagTexts) (moves : List Move) → IsFront stage
+    → SoFar told stage row moves → FrontTags told row moves
 unfolding row_from
 front_tags told Before row moves h s = record {
   so_far = record { tags = []; each = tt; row_is = s.1 };
@@ -106,7 +110,8 @@ IsReady Tags = Unit {0}
 IsReady Moves = Unit {0}
 IsReady _ = ⊥
 
-ready : (told : List Piece) (stage : GameStage) (row : TagTexts) (moves : List Move) → IsReady stage → SoFar told stage row moves → Ready told row moves
+ready : (told : List Piece) (stage : GameStage) (row : TagTexts) (moves : List Move) → IsReady stage
+    → SoFar told stage row moves → Ready told row moves
 ready told Before row moves h s = from_front told row moves (front_tags told Before row moves tt s)
 ready told Tags row moves h s = from_front told row moves (front_tags told Tags row moves tt s)
 ready told Opened row moves h s = absurd h
@@ -115,15 +120,22 @@ ready told Told row moves h s = absurd h
 ready told Moves row moves h s = record { so_far = s.0; body = s.1; are = s.2; tell = s.3; most = s.4 }
 
 -- moves told by pieces, with a piece behind them
-tell-end : (before : List Move) (body : List Piece) (moves : List Move) (piece : Piece) (first : List Move) → TellMoves before body moves →
+tell-end : (before : List Move) (body : List Piece) (moves : List Move) (piece : Piece) (first : List Move)
+    → TellMoves before body moves →
     Tells (before ++ moves) piece first → TellMoves before (body ++ piece ∷ []) (moves ++ first)
 tell-end before [] moves piece first h t =
-    let none : before ++ moves ≡ before = ap (λ (l : List Move). before ++ l) h ∙ append-nil before in
-    (first, [], subst (λ (l : List Move). Tells l piece first) none t, refl, ap (λ (l : List Move). l ++ first) h ∙ sym (append-nil first))
+    let none : before ++ moves ≡ before = ap (λ (l : List Move). before ++ l) h ∙ append-nil before in (
+      first,
+      [],
+      subst (λ (l : List Move). Tells l piece first) none t,
+      refl,
+      ap (λ (l : List Move). l ++ first) h ∙ sym (append-nil first),
+    )
 tell-end before (x ∷ body) moves piece first h t =
     let one : List Move = h.0 in
     let rest : List Move = h.1 in
-    let along : before ++ moves ≡ (before ++ one) ++ rest = ap (λ (l : List Move). before ++ l) h.4 ∙ sym (append_assoc before one rest) in (
+    let along : before ++ moves ≡ (before ++ one) ++ rest =
+    ap (λ (l : List Move). before ++ l) h.4 ∙ sym (append_assoc before one rest) in (
       one,
       rest ++ first,
       h.2,
@@ -132,7 +144,8 @@ tell-end before (x ∷ body) moves piece first h t =
     )
 
 -- a piece of the movetext more
-goes_to_moves : (told : List Piece) (row : TagTexts) (moves first : List Move) (piece : Piece) → Ready told row moves → Tells moves piece first →
+goes_to_moves : (told : List Piece) (row : TagTexts) (moves first : List Move) (piece : Piece) → Ready told row moves
+    → Tells moves piece first →
     length (moves ++ first) ≤ 1200 → SoFar (told ++ piece ∷ []) Moves row (moves ++ first)
 goes_to_moves told row moves first piece r t most = (
   r.so_far,
@@ -142,14 +155,17 @@ goes_to_moves told row moves first piece r t most = (
   most,
 )
 
-passes : (told : List Piece) (row : TagTexts) (moves : List Move) (piece : Piece) → Ready told row moves → IsPassed piece →
+passes : (told : List Piece) (row : TagTexts) (moves : List Move) (piece : Piece) → Ready told row moves
+    → IsPassed piece →
     SoFar (told ++ piece ∷ []) Moves row moves
 passes told row moves piece r is =
     let none : moves ++ [] ≡ moves = append-nil moves in
     subst (λ (l : List Move). SoFar (told ++ piece ∷ []) Moves row l) none
-    (goes_to_moves told row moves [] piece r (inl (is, refl)) (subst (λ (l : List Move). length l ≤ 1200) (sym none) r.most))
+    (goes_to_moves told row moves [] piece r (inl (is, refl))
+    (subst (λ (l : List Move). length l ≤ 1200) (sym none) r.most))
 
-pass_onward : (told : List Piece) (stage : GameStage) (row : TagTexts) (moves : List Move) (piece : Piece) → SoFar told stage row moves → IsPassed piece →
+pass_onward : (told : List Piece) (stage : GameStage) (row : TagTexts) (moves : List Move) (piece : Piece)
+    → SoFar told stage row moves → IsPassed piece →
     Onward (told ++ piece ∷ []) (passed_over stage (book_at stage row moves))
 pass_onward told Before row moves piece s is = passes told row moves piece (ready told Before row moves tt s) is
 pass_onward told Tags row moves piece s is = passes told row moves piece (ready told Tags row moves tt s) is
@@ -161,12 +177,14 @@ pass_onward told Moves row moves piece s is = passes told row moves piece (ready
 -- ---- words
 
 -- one of two ways
-onward_by : (x : Bool) (told : List Piece) (a c : Taken) → (x ≡ true → Onward told a) → (x ≡ false → Onward told c) → Onward told (cond x a c)
+onward_by : (x : Bool) (told : List Piece) (a c : Taken) → (x ≡ true → Onward told a) → (x ≡ false → Onward told c)
+    → Onward told (cond x a c)
 onward_by true told a c h g = h refl
 onward_by false told a c h g = g refl
 
 -- what is read as a move
-read_found : (p : Position) (text : List ℕ) (m : Move) (word : Option MoveWord) → reading text ≡ word → from_word p word ≡ Some m → IsReadAs p text m
+read_found : (p : Position) (text : List ℕ) (m : Move) (word : Option MoveWord) → reading text ≡ word
+    → from_word p word ≡ Some m → IsReadAs p text m
 read_found p text m None e h = absurd (let f : None ≡ Some m = h in cc)
 read_found p text m (Some word) e h = record { word = word; read = e; answered = by (word_answer p word) h }
   where
@@ -178,20 +196,39 @@ pub move_found : (p : Position) (text : List ℕ) (m : Move) → move_read p tex
 unfolding move_read
 move_found p text m h = read_found p text m (reading text) refl h
 
-onward_move : (told : List Piece) (row : TagTexts) (moves : List Move) (word : List ℕ) → Ready told row moves → list_all is_digit word ≡ false → is_result word ≡ false →
-    length moves < 1200 → (stage : GameStage) (m : Option Move) → move_read (position_of moves) (without_praise word) ≡ m →
+onward_move : (told : List Piece) (row : TagTexts) (moves : List Move) (word : List ℕ) → Ready told row moves
+    → list_all is_digit word ≡ false → is_result word ≡ false →
+    length moves < 1200 → (stage : GameStage) (m : Option Move)
+    → move_read (position_of moves) (without_praise word) ≡ m →
     Onward (told ++ Word word ∷ []) (with_move (book_at stage row moves) m)
 onward_move told row moves word r number result room stage None e = tt
 onward_move told row moves word r number result room stage (Some m) e =
-    let is : IsMoveWord moves word m = record { no_number = number; no_result = result; read = move_found (position_of moves) (without_praise word) m e } in
+    let is : IsMoveWord moves word m =
+    record {
+      no_number = number;
+      no_result = result;
+      read = move_found (position_of moves) (without_praise word) m e;
+    } in
     let long : length (moves ++ m ∷ []) ≡ length moves + 1 = length-append moves (m ∷ []) in
-    goes_to_moves told row moves (m ∷ []) (Word word) r (inr (record { word = word; move = m; is = refl; read = is; only = refl })) (omega arith)
+    goes_to_moves told row moves (m ∷ []) (Word word) r (inr (record {
+      word = word;
+      move = m;
+      is = refl;
+      read = is;
+      only = refl;
+    })) (omega arith)
 
 -- the word of a result
 result_word : (word : List ℕ) → is_result word ≡ true → word ≡ result_text (result_of word)
-result_word word h = by (bytes_eq word (codes "1-0")) (bytes_eq word (codes "0-1")) (bytes_eq word (codes "1/2-1/2")) (bytes_eq word (codes "*")) refl refl refl refl h
+result_word word h =
+    by (bytes_eq word
+    (codes "1-0"))
+    (bytes_eq word (codes "0-1")) (bytes_eq word (codes "1/2-1/2")) (bytes_eq word (codes "*")) refl refl refl refl h
   where
-    by : (a b c d : Bool) → bytes_eq word (codes "1-0") ≡ a → bytes_eq word (codes "0-1") ≡ b → bytes_eq word (codes "1/2-1/2") ≡ c → bytes_eq word (codes "*") ≡ d →
+    by : (a b c d : Bool)
+        → bytes_eq word
+        (codes "1-0") ≡ a
+        → bytes_eq word (codes "0-1") ≡ b → bytes_eq word (codes "1/2-1/2") ≡ c → bytes_eq word (codes "*") ≡ d →
         (a || (b || (c || d))) ≡ true → word ≡ result_text (cond a White (cond b Black (cond c Draw Open)))
     by true b c d p q r s h = (bytes_eq-Decides word (codes "1-0")).0 p
     by false true c d p q r s h = (bytes_eq-Decides word (codes "0-1")).0 q
@@ -199,7 +236,8 @@ result_word word h = by (bytes_eq word (codes "1-0")) (bytes_eq word (codes "0-1
     by false false false true p q r s h = (bytes_eq-Decides word (codes "*")).0 s
     by false false false false p q r s h = cc
 
-whole_game : (told : List Piece) (stage : GameStage) (row : TagTexts) (moves : List Move) (word : List ℕ) → Ready told row moves → is_result word ≡ true →
+whole_game : (told : List Piece) (stage : GameStage) (row : TagTexts) (moves : List Move) (word : List ℕ)
+    → Ready told row moves → is_result word ≡ true →
     IsGame (told ++ Word word ∷ []) (game_of (book_at stage row moves) word)
 whole_game told stage row moves word r h = record {
   tags = r.so_far.tags;
@@ -208,39 +246,51 @@ whole_game told stage row moves word r h = record {
   row = ap tags_of r.so_far.row_is ∙ row_told r.so_far.tags;
   moves = r.tell;
   most = r.most;
-  whole = ap (λ (l : List Piece). l ++ Word word ∷ []) r.are ∙ append_assoc (all_tag_pieces r.so_far.tags) r.body (Word word ∷ [])
+  whole =
+      ap (λ (l : List Piece). l ++ Word word ∷ []) r.are
+      ∙ append_assoc (all_tag_pieces r.so_far.tags) r.body (Word word ∷ [])
       ∙ ap (λ (w : List ℕ). all_tag_pieces r.so_far.tags ++ (r.body ++ Word w ∷ [])) (result_word word h);
 }
 
-onward_told : (told_so : List Piece) (stage : GameStage) (row : TagTexts) (moves : List Move) (word : List ℕ) → IsReady stage → SoFar told_so stage row moves →
+onward_told : (told_so : List Piece) (stage : GameStage) (row : TagTexts) (moves : List Move) (word : List ℕ)
+    → IsReady stage → SoFar told_so stage row moves →
     Onward (told_so ++ Word word ∷ []) (told (book_at stage row moves) word)
 onward_told told_so stage row moves word h s =
     let book : Book = book_at stage row moves in
     let r : Ready told_so row moves = ready told_so stage row moves h s in
     let pieces : List Piece = told_so ++ Word word ∷ [] in
-    onward_by (list_all is_digit word) pieces (passed_over stage book) (cond (is_result word) (gives (game_of book word)) (moved book word))
+    onward_by (list_all is_digit word) pieces (passed_over stage book)
+    (cond (is_result word) (gives (game_of book word)) (moved book word))
     (λ e. pass_onward told_so stage row moves (Word word) s e)
     (λ number. onward_by (is_result word) pieces (gives (game_of book word)) (moved book word)
     (λ e. (refl, whole_game told_so stage row moves word r e))
-    (λ result. onward_by (nat_lt (length moves) 1200) pieces (with_move book (move_read (position_of moves) (without_praise word))) fails
-    (λ e. onward_move told_so row moves word r number result (below (length moves) 1200 e) stage (move_read (position_of moves) (without_praise word)) refl)
+    (λ result.
+    onward_by (nat_lt (length moves) 1200) pieces (with_move book (move_read (position_of moves) (without_praise word)))
+    fails
+    (λ e.
+    onward_move told_so row moves word r number result (below (length moves) 1200 e) stage
+    (move_read (position_of moves) (without_praise word)) refl)
     (λ e. tt)))
 
-onward_named : (told_so : List Piece) (row : TagTexts) (moves : List Move) (word : List ℕ) → SoFar told_so Opened row moves →
+onward_named : (told_so : List Piece) (row : TagTexts) (moves : List Move) (word : List ℕ)
+    → SoFar told_so Opened row moves →
     Onward (told_so ++ Word word ∷ []) (named (book_at Opened row moves) word)
 onward_named told_so row moves word s =
     let book : Book = book_at Opened row moves in
-    onward_by (list_all is_name_byte word && not (bytes_eq word (codes "FEN"))) (told_so ++ Word word ∷ []) (goes (staged (Named word) book)) fails
+    onward_by (list_all is_name_byte word
+    && not (bytes_eq word (codes "FEN"))) (told_so ++ Word word ∷ []) (goes (staged (Named word) book)) fails
     (λ e.
     let parts = and_parts (list_all is_name_byte word) (not (bytes_eq word (codes "FEN"))) e in (
       s.0,
-      ap (λ (l : List Piece). l ++ Word word ∷ []) s.1 ∙ append_assoc (all_tag_pieces s.0.tags) (Sign 91 ∷ []) (Word word ∷ []),
+      ap (λ (l : List Piece). l ++ Word word ∷ []) s.1
+          ∙ append_assoc (all_tag_pieces s.0.tags) (Sign 91 ∷ []) (Word word ∷ []),
       s.2,
       record { bytes = parts.0; not_FEN = not-true (bytes_eq word (codes "FEN")) parts.1 },
     ))
     (λ e. tt)
 
-onward_word : (told_so : List Piece) (stage : GameStage) (row : TagTexts) (moves : List Move) (word : List ℕ) → SoFar told_so stage row moves →
+onward_word : (told_so : List Piece) (stage : GameStage) (row : TagTexts) (moves : List Move) (word : List ℕ)
+    → SoFar told_so stage row moves →
     Onward (told_so ++ Word word ∷ []) (worded stage (book_at stage row moves) word)
 onward_word told_so Before row moves word s = onward_told told_so Before row moves word tt s
 onward_word told_so Tags row moves word s = onward_told told_so Tags row moves word tt s
@@ -249,17 +299,20 @@ onward_word told_so (Named name) row moves word s = tt
 onward_word told_so Told row moves word s = tt
 onward_word told_so Moves row moves word s = onward_told told_so Moves row moves word tt s
 
-onward_glyph : (told_so : List Piece) (stage : GameStage) (row : TagTexts) (moves : List Move) (word : List ℕ) → SoFar told_so stage row moves →
+onward_glyph : (told_so : List Piece) (stage : GameStage) (row : TagTexts) (moves : List Move) (word : List ℕ)
+    → SoFar told_so stage row moves →
     Onward (told_so ++ Glyph word ∷ []) (glyphed (book_at stage row moves) word)
 onward_glyph told_so stage row moves [] s = tt
 onward_glyph told_so stage row moves (b ∷ word) s =
-    onward_by (list_all is_digit (b ∷ word)) (told_so ++ Glyph (b ∷ word) ∷ []) (passed_over stage (book_at stage row moves)) fails
+    onward_by (list_all is_digit (b ∷ word)) (told_so ++ Glyph (b ∷ word) ∷ [])
+    (passed_over stage (book_at stage row moves)) fails
     (λ e. pass_onward told_so stage row moves (Glyph (b ∷ word)) s (λ f. cc, e))
     (λ e. tt)
 
 -- ---- tags
 
-onward_text : (told_so : List Piece) (stage : GameStage) (row : TagTexts) (moves : List Move) (text : List ℕ) → SoFar told_so stage row moves →
+onward_text : (told_so : List Piece) (stage : GameStage) (row : TagTexts) (moves : List Move) (text : List ℕ)
+    → SoFar told_so stage row moves →
     Onward (told_so ++ Quoted text ∷ []) (quoted stage (book_at stage row moves) text)
 onward_text told_so Before row moves text s = tt
 onward_text told_so Tags row moves text s = tt
@@ -268,7 +321,8 @@ onward_text told_so (Named name) row moves text s = (
   row,
   s.0,
   record { name = name; text = text },
-  ap (λ (l : List Piece). l ++ Quoted text ∷ []) s.1 ∙ append_assoc (all_tag_pieces s.0.tags) (Sign 91 ∷ Word name ∷ []) (Quoted text ∷ []),
+  ap (λ (l : List Piece). l ++ Quoted text ∷ []) s.1
+      ∙ append_assoc (all_tag_pieces s.0.tags) (Sign 91 ∷ Word name ∷ []) (Quoted text ∷ []),
   s.2,
   record { bytes = s.3.bytes; not_FEN = s.3.not_FEN },
   refl,
@@ -276,7 +330,8 @@ onward_text told_so (Named name) row moves text s = (
 onward_text told_so Told row moves text s = tt
 onward_text told_so Moves row moves text s = tt
 
-onward_opened : (told_so : List Piece) (stage : GameStage) (row : TagTexts) (moves : List Move) → SoFar told_so stage row moves →
+onward_opened : (told_so : List Piece) (stage : GameStage) (row : TagTexts) (moves : List Move)
+    → SoFar told_so stage row moves →
     Onward (told_so ++ Sign 91 ∷ []) (opened stage (book_at stage row moves))
 onward_opened told_so Before row moves s =
     let f = front_tags told_so Before row moves tt s in
@@ -294,12 +349,14 @@ tags-end : (tags : List Tag) (tag : Tag) → all_tag_pieces (tags ++ tag ∷ [])
 tags-end [] tag = refl
 tags-end (t ∷ tags) tag = ap (λ (l : List Piece). tag_pieces t ++ l) (tags-end tags tag)
 
-row-end : (tags : List Tag) (tag : Tag) (row : TagTexts) → row_from row (tags ++ tag ∷ []) ≡ noted tag.name tag.text (row_from row tags)
+row-end : (tags : List Tag) (tag : Tag) (row : TagTexts)
+    → row_from row (tags ++ tag ∷ []) ≡ noted tag.name tag.text (row_from row tags)
 unfolding row_from
 row-end [] tag row = refl
 row-end (t ∷ tags) tag row = row-end tags tag (noted t.name t.text row)
 
-onward_closed : (told_so : List Piece) (stage : GameStage) (row : TagTexts) (moves : List Move) → SoFar told_so stage row moves →
+onward_closed : (told_so : List Piece) (stage : GameStage) (row : TagTexts) (moves : List Move)
+    → SoFar told_so stage row moves →
     Onward (told_so ++ Sign 93 ∷ []) (closed stage (book_at stage row moves))
 onward_closed told_so Before row moves s = tt
 onward_closed told_so Tags row moves s = tt
@@ -325,16 +382,22 @@ abbrev IsKnown : Piece → Type 0
 IsKnown (Sign b) = is_sign b ≡ true
 IsKnown piece = is_skipped piece ≡ false
 
-onward_sign : (told_so : List Piece) (stage : GameStage) (row : TagTexts) (moves : List Move) (b : ℕ) → is_sign b ≡ true → SoFar told_so stage row moves →
+onward_sign : (told_so : List Piece) (stage : GameStage) (row : TagTexts) (moves : List Move) (b : ℕ) → is_sign b ≡ true
+    → SoFar told_so stage row moves →
     Onward (told_so ++ Sign b ∷ []) (signed (book_at stage row moves) b)
 onward_sign told_so stage row moves b is s =
     let book : Book = book_at stage row moves in
     let pieces : List Piece = told_so ++ Sign b ∷ [] in
     onward_by (b == 91) pieces (opened stage book) (cond (b == 93) (closed stage book) (passed_over stage book))
-    (λ e. subst (λ (x : ℕ). Onward (told_so ++ Sign x ∷ []) (opened stage book)) (sym (eqb-true b 91 e)) (onward_opened told_so stage row moves s))
+    (λ e.
+    subst (λ (x : ℕ). Onward (told_so ++ Sign x ∷ []) (opened stage book)) (sym (eqb-true b 91 e))
+    (onward_opened told_so stage row moves s))
     (λ no_opening. onward_by (b == 93) pieces (closed stage book) (passed_over stage book)
-    (λ e. subst (λ (x : ℕ). Onward (told_so ++ Sign x ∷ []) (closed stage book)) (sym (eqb-true b 93 e)) (onward_closed told_so stage row moves s))
-    (λ no_closing. pass_onward told_so stage row moves (Sign b) s (dot b (b == 91) (b == 93) (b == 46) refl is no_opening no_closing)))
+    (λ e.
+    subst (λ (x : ℕ). Onward (told_so ++ Sign x ∷ []) (closed stage book)) (sym (eqb-true b 93 e))
+    (onward_closed told_so stage row moves s))
+    (λ no_closing.
+    pass_onward told_so stage row moves (Sign b) s (dot b (b == 91) (b == 93) (b == 46) refl is no_opening no_closing)))
   where
     dot : (b : ℕ) (x y z : Bool) → (b == 46) ≡ z → (x || (y || (z || false))) ≡ true → x ≡ false → y ≡ false → b ≡ 46
     dot b true y z e h p q = cc
@@ -342,7 +405,8 @@ onward_sign told_so stage row moves b is s =
     dot b false false true e h p q = eqb-true b 46 e
     dot b false false false e h p q = cc
 
-onward : (told_so : List Piece) (stage : GameStage) (row : TagTexts) (moves : List Move) (piece : Piece) → IsKnown piece → SoFar told_so stage row moves →
+onward : (told_so : List Piece) (stage : GameStage) (row : TagTexts) (moves : List Move) (piece : Piece) → IsKnown piece
+    → SoFar told_so stage row moves →
     Onward (told_so ++ piece ∷ []) (took (book_at stage row moves) piece)
 unfolding took
 onward told_so stage row moves (Blank b) known s = absurd (let f : true ≡ false = known in cc)
@@ -364,7 +428,8 @@ AllKnown [] = Unit {0}
 AllKnown (piece ∷ pieces) = IsKnown piece × AllKnown pieces
 
 -- the game that was begun is one of them, if one was
-rests : (told_so : List Piece) (stage : GameStage) (row : TagTexts) (moves : List Move) → SoFar told_so stage row moves → is_before stage ≡ true → told_so ≡ []
+rests : (told_so : List Piece) (stage : GameStage) (row : TagTexts) (moves : List Move) → SoFar told_so stage row moves
+    → is_before stage ≡ true → told_so ≡ []
 rests told_so Before row moves s h = s.0
 rests told_so Tags row moves s h = absurd (let f : false ≡ true = h in cc)
 rests told_so Opened row moves s h = absurd (let f : false ≡ true = h in cc)
@@ -377,15 +442,20 @@ start_so_far = (refl, refl, refl)
 
 -- what holds of each book behind a piece
 abbrev Further : List Piece → Type 0
-Further pieces = (book : Book) (told_so : List Piece) → SoFar told_so book.stage book.row book.moves → (all_told (Some book) pieces).whole ≡ true →
+Further pieces =
+    (book : Book) (told_so : List Piece) → SoFar told_so book.stage book.row book.moves
+    → (all_told (Some book) pieces).whole ≡ true →
     AreGames (told_so ++ pieces) (all_told (Some book) pieces).games
 
-with_piece : (piece : Piece) (pieces told_so : List Piece) (given : Option PgnGame) (on : Option Book) → OnwardBy (told_so ++ piece ∷ []) given on →
-    (adding given (all_told on pieces)).whole ≡ true → Further pieces → AreGames (told_so ++ piece ∷ pieces) (adding given (all_told on pieces)).games
+with_piece : (piece : Piece) (pieces told_so : List Piece) (given : Option PgnGame) (on : Option Book)
+    → OnwardBy (told_so ++ piece ∷ []) given on →
+    (adding given (all_told on pieces)).whole ≡ true → Further pieces
+    → AreGames (told_so ++ piece ∷ pieces) (adding given (all_told on pieces)).games
 with_piece piece pieces told_so None None o h again = absurd (let f : false ≡ true = h in cc)
 with_piece piece pieces told_so (Some g) None o h again = absurd (let f : false ≡ true = h in cc)
 with_piece piece pieces told_so None (Some b) o h again =
-    subst (λ (l : List Piece). AreGames l (all_told (Some b) pieces).games) (append_assoc told_so (piece ∷ []) pieces) (again b (told_so ++ piece ∷ []) o h)
+    subst (λ (l : List Piece). AreGames l (all_told (Some b) pieces).games) (append_assoc told_so (piece ∷ []) pieces)
+    (again b (told_so ++ piece ∷ []) o h)
 with_piece piece pieces told_so (Some g) (Some b) o h again = (
   told_so ++ piece ∷ [],
   pieces,
@@ -397,12 +467,14 @@ with_piece piece pieces told_so (Some g) (Some b) o h again = (
 games_in : (pieces : List Piece) → AllKnown pieces → Further pieces
 games_in [] known book told_so s h = append-nil told_so ∙ rests told_so book.stage book.row book.moves s h
 games_in (piece ∷ pieces) known book told_so s h =
-    with_piece piece pieces told_so (took book piece).given (took book piece).on (onward told_so book.stage book.row book.moves piece known.0 s) h
+    with_piece piece pieces told_so (took book piece).given (took book piece).on
+    (onward told_so book.stage book.row book.moves piece known.0 s) h
     (games_in pieces known.1)
 
 -- ---- whole texts
 
-known_piece : (at : At) (piece : Piece) (rest : List ℕ) → MayStand at piece rest → is_skipped piece ≡ false → IsKnown piece
+known_piece : (at : At) (piece : Piece) (rest : List ℕ) → MayStand at piece rest → is_skipped piece ≡ false
+    → IsKnown piece
 known_piece at (Blank b) rest h e = e
 known_piece at (Escape body) rest h e = e
 known_piece at (Braces body) rest h e = e
@@ -415,23 +487,30 @@ known_piece at Opening rest h e = e
 known_piece at Closing rest h e = e
 known_piece at (Within b) rest h e = e
 
-known_if : (skipped : Bool) (piece : Piece) (pieces : List Piece) → (skipped ≡ false → IsKnown piece) → AllKnown pieces → AllKnown (cond (not skipped) (piece ∷ pieces) pieces)
+known_if : (skipped : Bool) (piece : Piece) (pieces : List Piece) → (skipped ≡ false → IsKnown piece) → AllKnown pieces
+    → AllKnown (cond (not skipped) (piece ∷ pieces) pieces)
 known_if true piece pieces h all = all
 known_if false piece pieces h all = (h refl, all)
 
 all_known : (pieces : List Piece) (at : At) (text : List ℕ) → Lexes at text pieces → AllKnown (telling pieces)
 all_known [] at text h = tt
 all_known (piece ∷ pieces) at text h =
-    known_if (is_skipped piece) piece (telling pieces) (known_piece at piece h.0 h.2) (all_known pieces (behind at piece) h.0 h.3)
+    known_if (is_skipped piece) piece (telling pieces) (known_piece at piece h.0 h.2)
+    (all_known pieces (behind at piece) h.0 h.3)
 
-found_reads : (text : List ℕ) (games : List PgnGame) → read_from (Some first_state) text ≡ record { games = games; whole = true } → Reads text games
+found_reads : (text : List ℕ) (games : List PgnGame)
+    → read_from (Some first_state) text ≡ record { games = games; whole = true } → Reads text games
 found_reads text games h =
-    let from_start : read_from (Some (state_at (Between true) 0 no_book)) (unmarked text) ≡ record { games = games; whole = true } = sym (start_read text) ∙ h in
-    let f : FoundAt at_start (unmarked text) = pieces_found (unmarked text) at_start no_book (ap (λ (o : Outcome). o.whole) from_start) in
+    let from_start : read_from (Some (state_at (Between true) 0 no_book)) (unmarked text)
+    ≡ record { games = games; whole = true } =
+    sym (start_read text) ∙ h in
+    let f : FoundAt at_start (unmarked text) =
+    pieces_found (unmarked text) at_start no_book (ap (λ (o : Outcome). o.whole) from_start) in
     let told_so : all_told (Some no_book) (telling f.pieces) ≡ record { games = games; whole = true } =
     sym (lexed_read f.pieces at_start (unmarked text) (Some no_book) f.lexed) ∙ from_start in
     let are : AreGames (telling f.pieces) (all_told (Some no_book) (telling f.pieces)).games =
-    games_in (telling f.pieces) (all_known f.pieces at_start (unmarked text) f.lexed) no_book [] start_so_far (ap (λ (o : Outcome). o.whole) told_so) in
+    games_in (telling f.pieces) (all_known f.pieces at_start (unmarked text) f.lexed) no_book [] start_so_far
+    (ap (λ (o : Outcome). o.whole) told_so) in
     record {
       pieces = f.pieces;
       lexed = f.lexed;

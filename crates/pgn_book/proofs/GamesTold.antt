@@ -82,9 +82,11 @@ row_from row (tag ∷ tags) = row_from (noted tag.name tag.text row) tags
 record TagsTold (stage : GameStage) (row : TagTexts) (tags : List Tag) (more : List Piece) : Type 0 where
   at : GameStage
   front : IsFront at
-  told_so : all_told (Some (book_at stage row [])) (all_tag_pieces tags ++ more) ≡ all_told (Some (book_at at (row_from row tags) [])) more
+  told_so : all_told (Some (book_at stage row [])) (all_tag_pieces tags ++ more)
+      ≡ all_told (Some (book_at at (row_from row tags) [])) more
 
-tags_told : (tags : List Tag) (stage : GameStage) (row : TagTexts) (more : List Piece) → IsFront stage → AllByRecursion IsTag tags → TagsTold stage row tags more
+tags_told : (tags : List Tag) (stage : GameStage) (row : TagTexts) (more : List Piece) → IsFront stage
+    → AllByRecursion IsTag tags → TagsTold stage row tags more
 unfolding row_from
 tags_told [] stage row more front each = record { at = stage; front = front; told_so = refl }
 tags_told (tag ∷ tags) stage row more front each =
@@ -104,7 +106,8 @@ kept-none : (o : Option (List ℕ)) → o ≡ kept o None
 kept-none None = refl
 kept-none (Some text) = refl
 
-noted-kept : (key name text : List ℕ) (o first : Option (List ℕ)) → kept (noted_as key name text o) first ≡ kept o (cond (bytes_eq name key) (Some text) first)
+noted-kept : (key name text : List ℕ) (o first : Option (List ℕ))
+    → kept (noted_as key name text o) first ≡ kept o (cond (bytes_eq name key) (Some text) first)
 noted-kept key name text (Some x) first = refl
 noted-kept key name text None first = by (bytes_eq name key)
   where
@@ -147,7 +150,8 @@ row_told tags =
 abbrev IsNumber : List ℕ → Type 0
 IsNumber word = list_all is_digit word ≡ true
 
-pass_by : (stage : GameStage) (row : TagTexts) (moves : List Move) → IsReady stage → passed_over stage (book_at stage row moves) ≡ goes (book_at Moves row moves)
+pass_by : (stage : GameStage) (row : TagTexts) (moves : List Move) → IsReady stage
+    → passed_over stage (book_at stage row moves) ≡ goes (book_at Moves row moves)
 pass_by Before row moves h = refl
 pass_by Tags row moves h = refl
 pass_by Opened row moves h = absurd h
@@ -165,14 +169,16 @@ word_told (Named name) row moves word h = absurd h
 word_told Told row moves word h = absurd h
 word_told Moves row moves word h = refl
 
-glyph_passed : (stage : GameStage) (row : TagTexts) (moves : List Move) (word : List ℕ) → IsReady stage → (word ≡ [] → ⊥) → IsNumber word →
+glyph_passed : (stage : GameStage) (row : TagTexts) (moves : List Move) (word : List ℕ) → IsReady stage
+    → (word ≡ [] → ⊥) → IsNumber word →
     took (book_at stage row moves) (Glyph word) ≡ goes (book_at Moves row moves)
 unfolding took
 glyph_passed stage row moves [] h some number = absurd (some refl)
 glyph_passed stage row moves (b ∷ word) h some number =
     ap (λ (t : Bool). cond t (passed_over stage (book_at stage row moves)) fails) number ∙ pass_by stage row moves h
 
-passed_took : (stage : GameStage) (row : TagTexts) (moves : List Move) (piece : Piece) → IsReady stage → IsPassed piece →
+passed_took : (stage : GameStage) (row : TagTexts) (moves : List Move) (piece : Piece) → IsReady stage
+    → IsPassed piece →
     took (book_at stage row moves) piece ≡ goes (book_at Moves row moves)
 unfolding took
 passed_took stage row moves (Blank b) h is = absurd is
@@ -181,7 +187,12 @@ passed_took stage row moves (Braces body) h is = absurd is
 passed_took stage row moves (Comment body) h is = absurd is
 passed_took stage row moves (Word word) h is =
     word_told stage row moves word h
-    ∙ ap (λ (t : Bool). cond t (passed_over stage (book_at stage row moves)) (cond (is_result word) (reader.gives (game_of (book_at stage row moves) word)) (reader.moved (book_at stage row moves) word))) is
+    ∙ ap
+    (λ (t : Bool).
+    cond t (passed_over stage (book_at stage row moves))
+    (cond (is_result word) (reader.gives (game_of (book_at stage row moves) word))
+    (reader.moved (book_at stage row moves) word)))
+    is
     ∙ pass_by stage row moves h
 passed_took stage row moves (Glyph word) h is = glyph_passed stage row moves word h is.0 is.1
 passed_took stage row moves (Quoted text) h is = absurd is
@@ -195,22 +206,30 @@ read_as : (p : Position) (text : List ℕ) (m : Move) → IsReadAs p text m → 
 unfolding move_read
 read_as p text m h = ap (from_word p) h.read ∙ ap result_ok h.answered
 
-move_took : (stage : GameStage) (row : TagTexts) (moves : List Move) (word : List ℕ) (m : Move) → IsReady stage → IsMoveWord moves word m → length moves < 1200 →
+move_took : (stage : GameStage) (row : TagTexts) (moves : List Move) (word : List ℕ) (m : Move) → IsReady stage
+    → IsMoveWord moves word m → length moves < 1200 →
     took (book_at stage row moves) (Word word) ≡ goes (book_at Moves row (moves ++ m ∷ []))
 move_took stage row moves word m h is room =
     let book : Book = book_at stage row moves in
     word_told stage row moves word h
-    ∙ ap (λ (t : Bool). cond t (passed_over stage book) (cond (is_result word) (reader.gives (game_of book word)) (reader.moved book word))) is.no_number
+    ∙ ap
+    (λ (t : Bool).
+    cond t (passed_over stage book) (cond (is_result word) (reader.gives (game_of book word)) (reader.moved book word)))
+    is.no_number
     ∙ ap (λ (t : Bool). cond t (reader.gives (game_of book word)) (reader.moved book word)) is.no_result
-    ∙ ap (λ (t : Bool). cond t (with_move book (move_read (position_of moves) (without_praise word))) fails) (is_below (length moves) 1200 room)
+    ∙ ap (λ (t : Bool). cond t (with_move book (move_read (position_of moves) (without_praise word))) fails)
+    (is_below (length moves) 1200 room)
     ∙ ap (with_move book) (read_as (position_of moves) (without_praise word) m is.read)
 
 -- a piece that tells these moves
-tells_took : (stage : GameStage) (row : TagTexts) (moves : List Move) (piece : Piece) (first : List Move) → IsReady stage → Tells moves piece first →
-    length moves + length first ≤ 1200 → took (book_at stage row moves) piece ≡ goes (book_at Moves row (moves ++ first))
+tells_took : (stage : GameStage) (row : TagTexts) (moves : List Move) (piece : Piece) (first : List Move)
+    → IsReady stage → Tells moves piece first →
+    length moves + length first ≤ 1200
+    → took (book_at stage row moves) piece ≡ goes (book_at Moves row (moves ++ first))
 tells_took stage row moves piece first h (inl (is, none)) most =
     passed_took stage row moves piece h is
-    ∙ ap (λ (l : List Move). goes (book_at Moves row l)) (sym (ap (λ (l : List Move). moves ++ l) none ∙ append-nil moves))
+    ∙ ap (λ (l : List Move). goes (book_at Moves row l))
+    (sym (ap (λ (l : List Move). moves ++ l) none ∙ append-nil moves))
 tells_took stage row moves piece first h (inr next) most =
     let one : length first ≡ 1 = ap length next.only in
     ap (took (book_at stage row moves)) next.is
@@ -220,7 +239,8 @@ tells_took stage row moves piece first h (inr next) most =
 record BodyTold (stage : GameStage) (row : TagTexts) (before moves : List Move) (body more : List Piece) : Type 0 where
   at : GameStage
   ready : IsReady at
-  told_so : all_told (Some (book_at stage row before)) (body ++ more) ≡ all_told (Some (book_at at row (before ++ moves))) more
+  told_so : all_told (Some (book_at stage row before)) (body ++ more)
+      ≡ all_told (Some (book_at at row (before ++ moves))) more
 
 fewer : (before first rest moves : List Move) → moves ≡ first ++ rest → length before + length moves ≤ 1200 →
     (length before + length first ≤ 1200) × (length (before ++ first) + length rest ≤ 1200)
@@ -229,7 +249,8 @@ fewer before first rest moves e most =
     let front : length (before ++ first) ≡ length before + length first = length-append before first in
     (omega arith, omega arith)
 
-body_told : (body : List Piece) (stage : GameStage) (row : TagTexts) (before moves : List Move) (more : List Piece) → IsReady stage →
+body_told : (body : List Piece) (stage : GameStage) (row : TagTexts) (before moves : List Move) (more : List Piece)
+    → IsReady stage →
     TellMoves before body moves → length before + length moves ≤ 1200 → BodyTold stage row before moves body more
 body_told [] stage row before moves more h tells most = record {
   at = stage;
@@ -245,7 +266,9 @@ body_told (piece ∷ body) stage row before moves more h tells most =
     record {
       at = rest.at;
       ready = rest.ready;
-      told_so = ap (λ (t : Taken). adding t.given (all_told t.on (body ++ more))) (tells_took stage row before piece first h tells.2 few.0)
+      told_so =
+          ap (λ (t : Taken). adding t.given (all_told t.on (body ++ more)))
+          (tells_took stage row before piece first h tells.2 few.0)
           ∙ rest.told_so
           ∙ ap (λ (l : List Move). all_told (Some (book_at rest.at row l)) more)
           (append_assoc before first others ∙ ap (λ (l : List Move). before ++ l) (sym tells.4));
@@ -277,7 +300,9 @@ game_told first g rest h =
     ∙ ap (λ (l : List Piece). all_tag_pieces h.tags ++ l) (append_assoc h.body end rest) in
     let tags = tags_told h.tags Before empty_row (h.body ++ behind_body) tt h.each_tag in
     let row : TagTexts = row_from empty_row h.tags in
-    let body = body_told h.body tags.at row [] g.moves behind_body (front_ready tags.at tags.front) h.moves (omega (arith, h.most)) in
+    let body =
+    body_told h.body tags.at row [] g.moves behind_body (front_ready tags.at tags.front) h.moves
+    (omega (arith, h.most)) in
     let book : Book = book_at body.at row g.moves in
     let texts : tags_of row ≡ g.tags = row_told h.tags ∙ sym h.row in
     let result : result_of (result_text g.result) ≡ g.result = result_again g.result in
@@ -288,15 +313,18 @@ game_told first g rest h =
     (word_told body.at row g.moves (result_text g.result) body.ready ∙ result_told g.result book)
     ∙ ap (λ (x : PgnGame). adding (Some x) (all_told (Some no_book) rest)) same
 
-games_told : (games : List PgnGame) (pieces : List Piece) → AreGames pieces games → all_told (Some no_book) pieces ≡ record { games = games; whole = true }
+games_told : (games : List PgnGame) (pieces : List Piece) → AreGames pieces games
+    → all_told (Some no_book) pieces ≡ record { games = games; whole = true }
 games_told [] pieces h = ap (all_told (Some no_book)) h
 games_told (g ∷ games) pieces h =
     ap (all_told (Some no_book)) h.2 ∙ game_told h.0 g h.1 h.3 ∙ ap (adding (Some g)) (games_told games h.1 h.4)
 
 -- a text that the grammar reads is read so
-pub reads_told : (text : List ℕ) (games : List PgnGame) → Reads text games → read_from (Some first_state) text ≡ record { games = games; whole = true }
+pub reads_told : (text : List ℕ) (games : List PgnGame) → Reads text games
+    → read_from (Some first_state) text ≡ record { games = games; whole = true }
 reads_told text games h =
-    start_read text ∙ lexed_read h.pieces at_start (unmarked text) (Some no_book) h.lexed ∙ games_told games (telling h.pieces) h.told
+    start_read text ∙ lexed_read h.pieces at_start (unmarked text) (Some no_book) h.lexed
+    ∙ games_told games (telling h.pieces) h.told
 
 pub one_reading : OneReading
 one_reading text one other h g =

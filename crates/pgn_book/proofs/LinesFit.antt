@@ -42,35 +42,50 @@ record FitsFrom (column : ℕ) (text : List ℕ) : Type 0 where
 end_fits : (column : ℕ) → column ≤ 79 → FitsFrom column []
 end_fits column h = record { first = []; others = []; lines = refl; fits = omega arith; short = tt }
 
-byte_fits : (column b : ℕ) (text : List ℕ) → is_of_line b ≡ true → FitsFrom (column + 1) text → FitsFrom column (b ∷ text)
+byte_fits : (column b : ℕ) (text : List ℕ) → is_of_line b ≡ true → FitsFrom (column + 1) text
+    → FitsFrom column (b ∷ text)
 byte_fits column b text h f =
     let most = f.fits in
     record {
       first = b ∷ f.first;
       others = f.others;
-      lines = ap (λ (t : Bool). cond t ([] ∷ pieces text) (onto_first b (pieces text))) (not-true (b == 10) h) ∙ ap (onto_first b) f.lines;
+      lines =
+          ap (λ (t : Bool). cond t ([] ∷ pieces text) (onto_first b (pieces text))) (not-true (b == 10) h)
+          ∙ ap (onto_first b) f.lines;
       fits = omega arith;
       short = f.short;
     }
 
-token_fits : (column : ℕ) (token text : List ℕ) → list_all is_of_line token ≡ true → FitsFrom (column + length token) text → FitsFrom column (token ++ text)
+token_fits : (column : ℕ) (token text : List ℕ) → list_all is_of_line token ≡ true
+    → FitsFrom (column + length token) text → FitsFrom column (token ++ text)
 token_fits column [] text h f = subst (λ (c : ℕ). FitsFrom c text) (let e : column + 0 ≡ column = omega arith in e) f
 token_fits column (b ∷ token) text h f =
     let parts = and_parts (is_of_line b) (list_all is_of_line token) h in
     let along : column + length (b ∷ token) ≡ (column + 1) + length token = omega arith in
-    byte_fits column b (token ++ text) parts.0 (token_fits (column + 1) token text parts.1 (subst (λ (c : ℕ). FitsFrom c text) along f))
+    byte_fits column b (token ++ text) parts.0
+    (token_fits (column + 1) token text parts.1 (subst (λ (c : ℕ). FitsFrom c text) along f))
 
 feed_fits : (column : ℕ) (text : List ℕ) → column ≤ 79 → FitsFrom 0 text → FitsFrom column (10 ∷ text)
 feed_fits column text h f =
     let most = f.fits in
     let short : length f.first ≤ 79 = omega arith in
-    record { first = []; others = f.first ∷ f.others; lines = ap (λ (l : List (List ℕ)). [] ∷ l) f.lines; fits = omega arith; short = (short, f.short) }
+    record {
+      first = [];
+      others = f.first ∷ f.others;
+      lines = ap (λ (l : List (List ℕ)). [] ∷ l) f.lines;
+      fits = omega arith;
+      short = (short, f.short);
+    }
 
 -- a token at the beginning of a line
-first_fits : (token : List ℕ) (text : List ℕ) → IsShort token → FitsFrom (length token) text → FitsFrom 0 (token ++ text)
-first_fits token text s f = token_fits 0 token text s.bytes (subst (λ (c : ℕ). FitsFrom c text) (let e : length token ≡ 0 + length token = omega arith in e) f)
+first_fits : (token : List ℕ) (text : List ℕ) → IsShort token → FitsFrom (length token) text
+    → FitsFrom 0 (token ++ text)
+first_fits token text s f =
+    token_fits 0 token text s.bytes
+    (subst (λ (c : ℕ). FitsFrom c text) (let e : length token ≡ 0 + length token = omega arith in e) f)
 
-laid_by : (token : List ℕ) (tokens : List (List ℕ)) (column : ℕ) (first near : Bool) → nat_eq column 0 ≡ first → nat_le (column + 1 + length token) 79 ≡ near →
+laid_by : (token : List ℕ) (tokens : List (List ℕ)) (column : ℕ) (first near : Bool) → nat_eq column 0 ≡ first
+    → nat_le (column + 1 + length token) 79 ≡ near →
     column ≤ 79 → IsShort token → ((next : ℕ) → next ≤ 79 → FitsFrom next (laid next tokens)) →
     FitsFrom column (cond first (token ++ laid (length token) tokens)
     (cond near (32 ∷ (token ++ laid (column + 1 + length token) tokens)) (10 ∷ (token ++ laid (length token) tokens))))
@@ -82,12 +97,14 @@ laid_by token tokens column false true e f h s again =
     byte_fits column 32 (token ++ laid next tokens) refl
     (token_fits (column + 1) token (laid next tokens) s.bytes (again next (at_least next 79 f)))
 laid_by token tokens column false false e f h s again =
-    feed_fits column (token ++ laid (length token) tokens) h (first_fits token (laid (length token) tokens) s (again (length token) s.most))
+    feed_fits column (token ++ laid (length token) tokens) h
+    (first_fits token (laid (length token) tokens) s (again (length token) s.most))
 
 laid_fits : (tokens : List (List ℕ)) (column : ℕ) → column ≤ 79 → AllShort tokens → FitsFrom column (laid column tokens)
 laid_fits [] column h all = end_fits column h
 laid_fits (token ∷ tokens) column h all =
-    laid_by token tokens column (nat_eq column 0) (nat_le (column + 1 + length token) 79) refl refl h all.0 (λ next fits. laid_fits tokens next fits all.1)
+    laid_by token tokens column (nat_eq column 0) (nat_le (column + 1 + length token) 79) refl refl h all.0
+    (λ next fits. laid_fits tokens next fits all.1)
 
 -- ---- tokens
 
@@ -109,7 +126,10 @@ number_short : (n : ℕ) → n < 1000 → IsShort (decimal n ++ codes ".")
 number_short n h =
     let long : length (decimal n ++ codes ".") ≡ length (decimal n) + 1 = length-append (decimal n) (codes ".") in
     let most : length (decimal n) ≤ 3 = length-decimal-le 3 n (omega arith) (omega arith) (omega arith) in
-    record { most = omega arith; bytes = with_dot (decimal n) (word_line (decimal n) (digits_word (decimal n) (decimal_digits n h))) }
+    record {
+      most = omega arith;
+      bytes = with_dot (decimal n) (word_line (decimal n) (digits_word (decimal n) (decimal_digits n h)));
+    }
   where
     with_dot : (text : List ℕ) → list_all is_of_line text ≡ true → list_all is_of_line (text ++ codes ".") ≡ true
     with_dot [] g = refl
@@ -135,16 +155,21 @@ numbered_short true n tokens h all = (number_short n h, all)
 numbered_short false n tokens h all = all
 
 -- the tokens of moves, with others behind them
-moves_short : (moves before : List Move) (rest : List (List ℕ)) → IsLegal Chess (map on_board (before ++ moves)) → length before + length moves ≤ 1200 →
+moves_short : (moves before : List Move) (rest : List (List ℕ)) → IsLegal Chess (map on_board (before ++ moves))
+    → length before + length moves ≤ 1200 →
     AllShort rest → AllShort (move_tokens before moves ++ rest)
 moves_short [] before rest legal few all = all
 moves_short (m ∷ moves) before rest legal few all =
     let grown : length (before ++ m ∷ []) ≡ length before + 1 = length-append before (m ∷ []) in
     let split : (before ++ m ∷ []) ++ moves ≡ before ++ m ∷ moves = append_assoc before (m ∷ []) moves in
     let later : AllShort (move_tokens (before ++ m ∷ []) moves ++ rest) =
-    moves_short moves (before ++ m ∷ []) rest (subst (λ (l : List Move). IsLegal Chess (map on_board l)) (sym split) legal) (omega arith) all in
-    let here : IsShort (pretty_in (position_of before) m) = pretty_short (position_of before) m (allowed_at before moves m legal) in
-    subst AllShort (sym (append_assoc (number_at (length before)) (pretty_in (position_of before) m ∷ move_tokens (before ++ m ∷ []) moves) rest))
+    moves_short moves (before ++ m ∷ []) rest
+    (subst (λ (l : List Move). IsLegal Chess (map on_board l)) (sym split) legal) (omega arith) all in
+    let here : IsShort (pretty_in (position_of before) m) =
+    pretty_short (position_of before) m (allowed_at before moves m legal) in
+    subst AllShort
+    (sym (append_assoc (number_at (length before))
+    (pretty_in (position_of before) m ∷ move_tokens (before ++ m ∷ []) moves) rest))
     (numbered_short (nat_eq (length before % 2) 0) (length before / 2 + 1)
     (pretty_in (position_of before) m ∷ (move_tokens (before ++ m ∷ []) moves ++ rest)) (omega arith) (here, later))
 
@@ -153,7 +178,8 @@ lines_fit g h =
     let last : AllShort (result_text g.result ∷ []) = (result_short g.result, tt) in
     let few = h.most in
     let f : FitsFrom 0 (movetext g) =
-    laid_fits (move_tokens [] g.moves ++ result_text g.result ∷ []) 0 (omega arith) (moves_short g.moves [] (result_text g.result ∷ []) h.legal (omega arith) last) in
+    laid_fits (move_tokens [] g.moves ++ result_text g.result ∷ []) 0 (omega arith)
+    (moves_short g.moves [] (result_text g.result ∷ []) h.legal (omega arith) last) in
     let fits = f.fits in
     let first_short : length f.first ≤ 79 = omega arith in
     subst (λ (l : List (List ℕ)). AllByRecursion (λ line. length line ≤ 79) l) (sym f.lines) (first_short, f.short)

@@ -28,62 +28,86 @@ each_among P (x ∷ xs) b all h =
     ] refl h
 
 -- a step that gives no game
-goes_on : (s : State) (on : Option State) (b : ℕ) (text : List ℕ) → step s b ≡ silent on → read_from (Some s) (b ∷ text) ≡ read_from on text
+goes_on : (s : State) (on : Option State) (b : ℕ) (text : List ℕ) → step s b ≡ silent on
+    → read_from (Some s) (b ∷ text) ≡ read_from on text
 goes_on s on b text e = ap (λ (t : Step). adding t.given (read_from t.on text)) e
 
 -- ---- the rest of a line, and braces
 
-step_line : (b depth : ℕ) (book : Book) → is_of_line b ≡ true → step (state_at InLine depth book) b ≡ silent (Some (state_at InLine depth book))
+step_line : (b depth : ℕ) (book : Book) → is_of_line b ≡ true
+    → step (state_at InLine depth book) b ≡ silent (Some (state_at InLine depth book))
 unfolding step
-step_line b depth book e = ap (λ (t : Bool). silent (cond t (Some (state_at InLine depth book)) (Some (state_at (Between true) depth book)))) e
+step_line b depth book e =
+    ap (λ (t : Bool). silent (cond t (Some (state_at InLine depth book)) (Some (state_at (Between true) depth book)))) e
 
 at_feed : (depth : ℕ) (book : Book) (rest : List ℕ) →
-    read_from (Some (state_at InLine depth book)) (10 ∷ rest) ≡ read_from (Some (state_at (Between false) depth book)) (10 ∷ rest)
+    read_from (Some (state_at InLine depth book)) (10 ∷ rest)
+    ≡ read_from (Some (state_at (Between false) depth book)) (10 ∷ rest)
 unfolding step is_word_byte
 at_feed depth book rest = refl
 
 line_read : (body rest : List ℕ) (depth : ℕ) (book : Book) → Every is_of_line body → StopsBefore is_of_line rest →
-    read_from (Some (state_at InLine depth book)) (body ++ rest) ≡ read_from (Some (state_at (Between false) depth book)) rest
+    read_from (Some (state_at InLine depth book)) (body ++ rest)
+    ≡ read_from (Some (state_at (Between false) depth book)) rest
 line_read [] [] depth book h stops = refl
 line_read [] (b ∷ rest) depth book h stops =
     let feed : b ≡ 10 = eqb-true b 10 (not-false (b == 10) stops) in
-    subst (λ (x : ℕ). read_from (Some (state_at InLine depth book)) (x ∷ rest) ≡ read_from (Some (state_at (Between false) depth book)) (x ∷ rest))
+    subst (λ (x : ℕ).
+    read_from (Some (state_at InLine depth book)) (x ∷ rest)
+    ≡ read_from (Some (state_at (Between false) depth book)) (x ∷ rest))
     (sym feed) (at_feed depth book rest)
 line_read (b ∷ body) rest depth book h stops =
     let parts = and_parts (is_of_line b) (list_all is_of_line body) h in
-    goes_on (state_at InLine depth book) (Some (state_at InLine depth book)) b (body ++ rest) (step_line b depth book parts.0)
+    goes_on (state_at InLine depth book) (Some (state_at InLine depth book)) b (body ++ rest)
+    (step_line b depth book parts.0)
     ∙ line_read body rest depth book parts.1 stops
 
-step_braces : (b depth : ℕ) (book : Book) → is_of_braces b ≡ true → step (state_at InBraces depth book) b ≡ silent (Some (state_at InBraces depth book))
+step_braces : (b depth : ℕ) (book : Book) → is_of_braces b ≡ true
+    → step (state_at InBraces depth book) b ≡ silent (Some (state_at InBraces depth book))
 unfolding step
-step_braces b depth book e = ap (λ (t : Bool). silent (cond t (Some (state_at InBraces depth book)) (Some (state_at (Between false) depth book)))) e
+step_braces b depth book e =
+    ap
+    (λ (t : Bool). silent (cond t (Some (state_at InBraces depth book)) (Some (state_at (Between false) depth book)))) e
 
-at_brace : (depth : ℕ) (book : Book) → step (state_at InBraces depth book) 125 ≡ silent (Some (state_at (Between false) depth book))
+at_brace : (depth : ℕ) (book : Book)
+    → step (state_at InBraces depth book) 125 ≡ silent (Some (state_at (Between false) depth book))
 unfolding step
 at_brace depth book = refl
 
 braces_read : (body rest : List ℕ) (depth : ℕ) (book : Book) → Every is_of_braces body →
-    read_from (Some (state_at InBraces depth book)) (body ++ 125 ∷ rest) ≡ read_from (Some (state_at (Between false) depth book)) rest
-braces_read [] rest depth book h = goes_on (state_at InBraces depth book) (Some (state_at (Between false) depth book)) 125 rest (at_brace depth book)
+    read_from (Some (state_at InBraces depth book)) (body ++ 125 ∷ rest)
+    ≡ read_from (Some (state_at (Between false) depth book)) rest
+braces_read [] rest depth book h =
+    goes_on (state_at InBraces depth book) (Some (state_at (Between false) depth book)) 125 rest (at_brace depth book)
 braces_read (b ∷ body) rest depth book h =
     let parts = and_parts (is_of_braces b) (list_all is_of_braces body) h in
-    goes_on (state_at InBraces depth book) (Some (state_at InBraces depth book)) b (body ++ 125 ∷ rest) (step_braces b depth book parts.0)
+    goes_on (state_at InBraces depth book) (Some (state_at InBraces depth book)) b (body ++ 125 ∷ rest)
+    (step_braces b depth book parts.0)
     ∙ braces_read body rest depth book parts.1
 
 -- ---- words
 
-step_word : (glyph : Bool) (word : List ℕ) (depth : ℕ) (book : Book) (b : ℕ) → is_word_byte b ≡ true → length word < 255 →
-    step (state_at (InWord glyph word) depth book) b ≡ silent (Some (state_at (InWord glyph (word ++ b ∷ [])) depth book))
+step_word : (glyph : Bool) (word : List ℕ) (depth : ℕ) (book : Book) (b : ℕ) → is_word_byte b ≡ true
+    → length word < 255 →
+    step (state_at (InWord glyph word) depth book) b
+    ≡ silent (Some (state_at (InWord glyph (word ++ b ∷ [])) depth book))
 unfolding step
 step_word glyph word depth book b e room =
-    ap (λ (t : Bool). cond t (silent (longer (InWord glyph (word ++ b ∷ [])) word depth book)) (word_ended (took book (piece_of glyph word)) depth b)) e
-    ∙ ap (λ (t : Bool). silent (cond t (Some (state_at (InWord glyph (word ++ b ∷ [])) depth book)) None)) (is_below (length word) 255 room)
+    ap (λ (t : Bool).
+    cond t (silent (longer (InWord glyph (word ++ b ∷ [])) word depth book))
+    (word_ended (took book (piece_of glyph word)) depth b))
+    e
+    ∙ ap (λ (t : Bool). silent (cond t (Some (state_at (InWord glyph (word ++ b ∷ [])) depth book)) None))
+    (is_below (length word) 255 room)
 
 step_behind : (glyph : Bool) (word : List ℕ) (depth : ℕ) (book : Book) (b : ℕ) → is_word_byte b ≡ false →
     step (state_at (InWord glyph word) depth book) b ≡ word_ended (took book (piece_of glyph word)) depth b
 unfolding step
 step_behind glyph word depth book b e =
-    ap (λ (t : Bool). cond t (silent (longer (InWord glyph (word ++ b ∷ [])) word depth book)) (word_ended (took book (piece_of glyph word)) depth b)) e
+    ap (λ (t : Bool).
+    cond t (silent (longer (InWord glyph (word ++ b ∷ [])) word depth book))
+    (word_ended (took book (piece_of glyph word)) depth b))
+    e
 
 rests : (depth : ℕ) (on : Option Book) → resting depth on ≡ read_from (to_place (Between false) depth on) []
 rests depth None = refl
@@ -99,9 +123,11 @@ begins_behind depth (Some book) b rest = refl
 abbrev read_behind : Taken → ℕ → List ℕ → Outcome
 read_behind taken depth rest = adding taken.given (read_from (to_place (Between false) depth taken.on) rest)
 
-word_read : (glyph : Bool) (word rest done : List ℕ) (depth : ℕ) (book : Book) → Every is_word_byte word → length done + length word ≤ 255 →
+word_read : (glyph : Bool) (word rest done : List ℕ) (depth : ℕ) (book : Book) → Every is_word_byte word
+    → length done + length word ≤ 255 →
     StopsBefore is_word_byte rest →
-    read_from (Some (state_at (InWord glyph done) depth book)) (word ++ rest) ≡ read_behind (took book (piece_of glyph (done ++ word))) depth rest
+    read_from (Some (state_at (InWord glyph done) depth book)) (word ++ rest)
+    ≡ read_behind (took book (piece_of glyph (done ++ word))) depth rest
 word_read glyph [] [] done depth book h most stops =
     let taken : Taken = took book (piece_of glyph done) in
     ap (adding taken.given) (rests depth taken.on)
@@ -114,7 +140,8 @@ word_read glyph [] (b ∷ rest) done depth book h most stops =
 word_read glyph (b ∷ word) rest done depth book h most stops =
     let parts = and_parts (is_word_byte b) (list_all is_word_byte word) h in
     let more : length (done ++ b ∷ []) ≡ length done + 1 = length-append done (b ∷ []) in
-    goes_on (state_at (InWord glyph done) depth book) (Some (state_at (InWord glyph (done ++ b ∷ [])) depth book)) b (word ++ rest)
+    goes_on (state_at (InWord glyph done) depth book) (Some (state_at (InWord glyph (done ++ b ∷ [])) depth book)) b
+    (word ++ rest)
     (step_word glyph done depth book b parts.0 (omega arith))
     ∙ word_read glyph word rest (done ++ b ∷ []) depth book parts.1 (omega arith) stops
     ∙ ap (λ (w : List ℕ). read_behind (took book (piece_of glyph w)) depth rest) (append_assoc done (b ∷ []) word)
@@ -126,22 +153,27 @@ step_quote : (text : List ℕ) (depth : ℕ) (book : Book) →
 unfolding step
 step_quote text depth book = refl
 
-step_stroke : (text : List ℕ) (depth : ℕ) (book : Book) → step (state_at (InQuotes text) depth book) 92 ≡ silent (Some (state_at (InStroke text) depth book))
+step_stroke : (text : List ℕ) (depth : ℕ) (book : Book)
+    → step (state_at (InQuotes text) depth book) 92 ≡ silent (Some (state_at (InStroke text) depth book))
 unfolding step
 step_stroke text depth book = refl
 
 is_longer : (text : List ℕ) (b depth : ℕ) (book : Book) → length text < 255 →
     longer (InQuotes (text ++ b ∷ [])) text depth book ≡ Some (state_at (InQuotes (text ++ b ∷ [])) depth book)
-is_longer text b depth book room = ap (λ (t : Bool). cond t (Some (state_at (InQuotes (text ++ b ∷ [])) depth book)) None) (is_below (length text) 255 room)
+is_longer text b depth book room =
+    ap (λ (t : Bool). cond t (Some (state_at (InQuotes (text ++ b ∷ [])) depth book)) None)
+    (is_below (length text) 255 room)
 
-step_stroked : (text : List ℕ) (depth : ℕ) (book : Book) (b : ℕ) → is_among (34 ∷ 92 ∷ []) b ≡ true → length text < 255 →
+step_stroked : (text : List ℕ) (depth : ℕ) (book : Book) (b : ℕ) → is_among (34 ∷ 92 ∷ []) b ≡ true
+    → length text < 255 →
     step (state_at (InStroke text) depth book) b ≡ silent (Some (state_at (InQuotes (text ++ b ∷ [])) depth book))
 unfolding step
 step_stroked text depth book b e room =
     ap (λ (t : Bool). silent (cond t (longer (InQuotes (text ++ b ∷ [])) text depth book) None)) e
     ∙ ap silent (is_longer text b depth book room)
 
-step_text : (text : List ℕ) (depth : ℕ) (book : Book) (b : ℕ) → (b == 34) ≡ false → (b == 92) ≡ false → is_of_text b ≡ true → length text < 255 →
+step_text : (text : List ℕ) (depth : ℕ) (book : Book) (b : ℕ) → (b == 34) ≡ false → (b == 92) ≡ false
+    → is_of_text b ≡ true → length text < 255 →
     step (state_at (InQuotes text) depth book) b ≡ silent (Some (state_at (InQuotes (text ++ b ∷ [])) depth book))
 unfolding step
 step_text text depth book b quote stroke e room =
@@ -153,32 +185,43 @@ step_text text depth book b quote stroke e room =
     ∙ ap (λ (t : Bool). silent (cond t more None)) e
     ∙ ap silent (is_longer text b depth book room)
 
-text_read : (text rest done : List ℕ) (depth : ℕ) (book : Book) → Every is_of_text text → length done + length text ≤ 255 →
+text_read : (text rest done : List ℕ) (depth : ℕ) (book : Book) → Every is_of_text text
+    → length done + length text ≤ 255 →
     read_from (Some (state_at (InQuotes done) depth book)) (escaped text ++ 34 ∷ rest)
     ≡ read_from (to_place (Between false) depth (took book (Quoted (done ++ text))).on) rest
 text_read [] rest done depth book h most =
-    goes_on (state_at (InQuotes done) depth book) (to_place (Between false) depth (took book (Quoted done)).on) 34 rest (step_quote done depth book)
-    ∙ ap (λ (t : List ℕ). read_from (to_place (Between false) depth (took book (Quoted t)).on) rest) (sym (append-nil done))
+    goes_on (state_at (InQuotes done) depth book) (to_place (Between false) depth (took book (Quoted done)).on) 34 rest
+    (step_quote done depth book)
+    ∙ ap (λ (t : List ℕ). read_from (to_place (Between false) depth (took book (Quoted t)).on) rest)
+    (sym (append-nil done))
 text_read (b ∷ text) rest done depth book h most =
     let parts = and_parts (is_of_text b) (list_all is_of_text text) h in
     let grown : length (done ++ b ∷ []) ≡ length done + 1 = length-append done (b ∷ []) in
     let tail : List ℕ = escaped text ++ 34 ∷ rest in
     let next : Option State = Some (state_at (InQuotes (done ++ b ∷ [])) depth book) in
-    let again : read_from next tail ≡ read_from (to_place (Between false) depth (took book (Quoted (done ++ b ∷ text))).on) rest =
+    let again : read_from next tail
+    ≡ read_from (to_place (Between false) depth (took book (Quoted (done ++ b ∷ text))).on) rest =
     text_read text rest (done ++ b ∷ []) depth book parts.1 (omega arith)
-    ∙ ap (λ (t : List ℕ). read_from (to_place (Between false) depth (took book (Quoted t)).on) rest) (append_assoc done (b ∷ []) text) in
+    ∙ ap (λ (t : List ℕ). read_from (to_place (Between false) depth (took book (Quoted t)).on) rest)
+    (append_assoc done (b ∷ []) text) in
     let room : length done < 255 = omega arith in
     let first : (c : Bool) → is_among (34 ∷ 92 ∷ []) b ≡ c →
-    read_from (Some (state_at (InQuotes done) depth book)) ((cond c (92 ∷ b ∷ []) (b ∷ []) ++ escaped text) ++ 34 ∷ rest) ≡ read_from next tail =
+    read_from (Some (state_at (InQuotes done) depth book))
+    ((cond c (92 ∷ b ∷ []) (b ∷ []) ++ escaped text) ++ 34 ∷ rest)
+    ≡ read_from next tail =
     (λ c. elim c as (λ c. is_among (34 ∷ 92 ∷ []) b ≡ c →
-    read_from (Some (state_at (InQuotes done) depth book)) ((cond c (92 ∷ b ∷ []) (b ∷ []) ++ escaped text) ++ 34 ∷ rest) ≡ read_from next tail) [
+    read_from (Some (state_at (InQuotes done) depth book))
+    ((cond c (92 ∷ b ∷ []) (b ∷ []) ++ escaped text) ++ 34 ∷ rest)
+    ≡ read_from next tail) [
       | true ↦ λ e.
-          goes_on (state_at (InQuotes done) depth book) (Some (state_at (InStroke done) depth book)) 92 (b ∷ tail) (step_stroke done depth book)
+          goes_on (state_at (InQuotes done) depth book) (Some (state_at (InStroke done) depth book)) 92 (b ∷ tail)
+          (step_stroke done depth book)
           ∙ goes_on (state_at (InStroke done) depth book) next b tail (step_stroked done depth book b e room)
       | false ↦ λ e.
           let apart = or_parts (b == 34) (is_among (92 ∷ []) b) e in
           let other = or_parts (b == 92) false apart.1 in
-          goes_on (state_at (InQuotes done) depth book) next b tail (step_text done depth book b apart.0 other.0 parts.0 room)
+          goes_on (state_at (InQuotes done) depth book) next b tail
+          (step_text done depth book b apart.0 other.0 parts.0 room)
     ]) in
     first (is_among (34 ∷ 92 ∷ []) b) refl ∙ again
 
@@ -189,24 +232,31 @@ first_word : (fresh : Bool) (depth : ℕ) (book : Book) (b : ℕ) → is_word_by
 unfolding step
 first_word fresh depth book b e none =
     let zero_deep : nat_eq depth 0 ≡ true = ap (λ (d : ℕ). nat_eq d 0) none in
-    ap silent (cond-both (is_word_byte b) (nat_eq depth 0) (Some (state_at (InWord false (b ∷ [])) depth book)) (spaced fresh depth book b) e zero_deep)
+    ap silent
+    (cond-both (is_word_byte b) (nat_eq depth 0) (Some (state_at (InWord false (b ∷ [])) depth book))
+    (spaced fresh depth book b) e zero_deep)
 
 first_space : (fresh : Bool) (depth : ℕ) (book : Book) (b : ℕ) → is_space b ≡ true →
     step (state_at (Between fresh) depth book) b ≡ silent (Some (state_at (Between (b == 10)) depth book))
 unfolding step is_word_byte
 first_space fresh depth book b h =
-    each_among (λ (x : ℕ). step (state_at (Between fresh) depth book) x ≡ silent (Some (state_at (Between (x == 10)) depth book))) spaces b
+    each_among
+    (λ (x : ℕ). step (state_at (Between fresh) depth book) x ≡ silent (Some (state_at (Between (x == 10)) depth book)))
+    spaces b
     (refl, (refl, (refl, (refl, (refl, (refl, tt)))))) h
 
-first_percent : (depth : ℕ) (book : Book) → step (state_at (Between true) depth book) 37 ≡ silent (Some (state_at InLine depth book))
+first_percent : (depth : ℕ) (book : Book)
+    → step (state_at (Between true) depth book) 37 ≡ silent (Some (state_at InLine depth book))
 unfolding step is_word_byte
 first_percent depth book = refl
 
-first_semicolon : (fresh : Bool) (depth : ℕ) (book : Book) → step (state_at (Between fresh) depth book) 59 ≡ silent (Some (state_at InLine depth book))
+first_semicolon : (fresh : Bool) (depth : ℕ) (book : Book)
+    → step (state_at (Between fresh) depth book) 59 ≡ silent (Some (state_at InLine depth book))
 unfolding step is_word_byte
 first_semicolon fresh depth book = refl
 
-first_brace : (fresh : Bool) (depth : ℕ) (book : Book) → step (state_at (Between fresh) depth book) 123 ≡ silent (Some (state_at InBraces depth book))
+first_brace : (fresh : Bool) (depth : ℕ) (book : Book)
+    → step (state_at (Between fresh) depth book) 123 ≡ silent (Some (state_at InBraces depth book))
 unfolding step is_word_byte
 first_brace fresh depth book = refl
 
@@ -214,7 +264,8 @@ first_opening : (fresh : Bool) (depth : ℕ) (book : Book) → depth < 100 →
     step (state_at (Between fresh) depth book) 40 ≡ silent (to_place (Between false) (depth + 1) (took book Opening).on)
 unfolding step is_word_byte
 first_opening fresh depth book h =
-    ap (λ (t : Bool). silent (cond t (to_place (Between false) (depth + 1) (took book Opening).on) None)) (is_below depth 100 h)
+    ap (λ (t : Bool). silent (cond t (to_place (Between false) (depth + 1) (took book Opening).on) None))
+    (is_below depth 100 h)
 
 not_zero : (n : ℕ) → 0 < n → nat_eq n 0 ≡ false
 not_zero n h = ne_eqb n 0 (λ e. omega arith)
@@ -223,9 +274,11 @@ first_closing : (fresh : Bool) (depth : ℕ) (book : Book) → 0 < depth →
     step (state_at (Between fresh) depth book) 41 ≡ silent (to_place (Between false) (depth - 1) (took book Closing).on)
 unfolding step is_word_byte
 first_closing fresh depth book h =
-    ap (λ (t : Bool). silent (cond t None (to_place (Between false) (depth - 1) (took book Closing).on))) (not_zero depth h)
+    ap (λ (t : Bool). silent (cond t None (to_place (Between false) (depth - 1) (took book Closing).on)))
+    (not_zero depth h)
 
-first_within : (fresh : Bool) (depth : ℕ) (book : Book) (b : ℕ) → 0 < depth → is_reserved b ≡ false → (b == 37 && fresh) ≡ false →
+first_within : (fresh : Bool) (depth : ℕ) (book : Book) (b : ℕ) → 0 < depth → is_reserved b ≡ false
+    → (b == 37 && fresh) ≡ false →
     step (state_at (Between fresh) depth book) b ≡ silent (to_place (Between false) depth (took book (Within b)).on)
 unfolding step
 first_within fresh depth book b h free percent =
@@ -244,7 +297,8 @@ first_within fresh depth book b h free percent =
     let no_semicolon : Option State = cond (b == 123) braces no_brace in
     let no_percent : Option State = cond (b == 59) line no_semicolon in
     ap silent (
-    cond-second (is_word_byte b) (nat_eq depth 0) (Some (state_at (InWord false (b ∷ [])) depth book)) (spaced fresh depth book b) deep
+    cond-second (is_word_byte b) (nat_eq depth 0) (Some (state_at (InWord false (b ∷ [])) depth book))
+    (spaced fresh depth book b) deep
     ∙ cond-false (is_space b) (Some (state_at (Between (b == 10)) depth book)) (skipping fresh depth book b) s.0
     ∙ cond-false (b == 37 && fresh) line no_percent percent
     ∙ cond-false (b == 59) line no_semicolon semicolon.0
@@ -259,14 +313,18 @@ first_sign : (fresh : Bool) (book : Book) (b : ℕ) → is_sign b ≡ true →
     step (state_at (Between fresh) 0 book) b ≡ silent (to_place (Between false) 0 (took book (Sign b)).on)
 unfolding step is_word_byte
 first_sign fresh book b h =
-    each_among (λ (x : ℕ). step (state_at (Between fresh) 0 book) x ≡ silent (to_place (Between false) 0 (took book (Sign x)).on)) (91 ∷ 93 ∷ 46 ∷ []) b
+    each_among
+    (λ (x : ℕ). step (state_at (Between fresh) 0 book) x ≡ silent (to_place (Between false) 0 (took book (Sign x)).on))
+    (91 ∷ 93 ∷ 46 ∷ []) b
     (refl, (refl, (refl, tt))) h
 
-first_glyph : (fresh : Bool) (book : Book) → step (state_at (Between fresh) 0 book) 36 ≡ silent (Some (state_at (InWord true []) 0 book))
+first_glyph : (fresh : Bool) (book : Book)
+    → step (state_at (Between fresh) 0 book) 36 ≡ silent (Some (state_at (InWord true []) 0 book))
 unfolding step is_word_byte
 first_glyph fresh book = refl
 
-first_quote : (fresh : Bool) (book : Book) → step (state_at (Between fresh) 0 book) 34 ≡ silent (Some (state_at (InQuotes []) 0 book))
+first_quote : (fresh : Bool) (book : Book)
+    → step (state_at (Between fresh) 0 book) 34 ≡ silent (Some (state_at (InQuotes []) 0 book))
 unfolding step is_word_byte
 first_quote fresh book = refl
 
@@ -311,8 +369,10 @@ cond-silent false x y h g = g
 sign-silent : (book : Book) (b : ℕ) → (took book (Sign b)).given ≡ None
 unfolding took
 sign-silent book b =
-    cond-silent (b == 91) (opened book.stage book) (cond (b == 93) (closed book.stage book) (passed_over book.stage book)) (opened-silent book.stage book)
-    (cond-silent (b == 93) (closed book.stage book) (passed_over book.stage book) (closed-silent book.stage book) (passed_over-silent book.stage book))
+    cond-silent (b == 91) (opened book.stage book)
+    (cond (b == 93) (closed book.stage book) (passed_over book.stage book)) (opened-silent book.stage book)
+    (cond-silent (b == 93) (closed book.stage book) (passed_over book.stage book) (closed-silent book.stage book)
+    (passed_over-silent book.stage book))
 
 text-silent : (book : Book) (text : List ℕ) → (took book (Quoted text)).given ≡ None
 unfolding took
@@ -352,47 +412,66 @@ one_more word b h = omega arith
 piece_read : (at : At) (piece : Piece) (rest : List ℕ) (book : Book) → MayStand at piece rest →
     read_from (at_state at (Some book)) (spelling piece ++ rest) ≡ read_after at piece rest book
 piece_read at (Blank b) rest book h =
-    goes_on (state_at (Between at.fresh) at.depth book) (Some (state_at (Between (b == 10)) at.depth book)) b rest (first_space at.fresh at.depth book b h)
+    goes_on (state_at (Between at.fresh) at.depth book) (Some (state_at (Between (b == 10)) at.depth book)) b rest
+    (first_space at.fresh at.depth book b h)
 piece_read at (Escape body) rest book h =
     goes_on (state_at (Between at.fresh) at.depth book) (Some (state_at InLine at.depth book)) 37 (body ++ rest)
     (ap (λ (f : Bool). step (state_at (Between f) at.depth book) 37) h.0 ∙ first_percent at.depth book)
     ∙ line_read body rest at.depth book h.1.no_feed h.1.to_end
 piece_read at (Braces body) rest book h =
-    goes_on (state_at (Between at.fresh) at.depth book) (Some (state_at InBraces at.depth book)) 123 ((body ++ 125 ∷ []) ++ rest) (first_brace at.fresh at.depth book)
+    goes_on (state_at (Between at.fresh) at.depth book) (Some (state_at InBraces at.depth book)) 123
+    ((body ++ 125 ∷ []) ++ rest) (first_brace at.fresh at.depth book)
     ∙ ap (read_from (Some (state_at InBraces at.depth book))) (append_assoc body (125 ∷ []) rest)
     ∙ braces_read body rest at.depth book h
 piece_read at (Comment body) rest book h =
-    goes_on (state_at (Between at.fresh) at.depth book) (Some (state_at InLine at.depth book)) 59 (body ++ rest) (first_semicolon at.fresh at.depth book)
+    goes_on (state_at (Between at.fresh) at.depth book) (Some (state_at InLine at.depth book)) 59 (body ++ rest)
+    (first_semicolon at.fresh at.depth book)
     ∙ line_read body rest at.depth book h.no_feed h.to_end
 piece_read at (Word []) rest book h = absurd (h.1 refl)
 piece_read at (Word (b ∷ word)) rest book h =
     let parts = and_parts (is_word_byte b) (list_all is_word_byte word) h.2.bytes in
-    goes_on (state_at (Between at.fresh) at.depth book) (Some (state_at (InWord false (b ∷ [])) at.depth book)) b (word ++ rest)
+    goes_on (state_at (Between at.fresh) at.depth book) (Some (state_at (InWord false (b ∷ [])) at.depth book)) b
+    (word ++ rest)
     (first_word at.fresh at.depth book b parts.0 h.0)
     ∙ word_read false word rest (b ∷ []) at.depth book parts.1 (one_more word b h.2.most) h.2.whole
 piece_read at (Glyph word) rest book h =
-    goes_on (state_at (Between at.fresh) at.depth book) (Some (state_at (InWord true []) at.depth book)) 36 (word ++ rest)
-    (subst (λ (d : ℕ). step (state_at (Between at.fresh) d book) 36 ≡ silent (Some (state_at (InWord true []) d book))) (sym h.0) (first_glyph at.fresh book))
+    goes_on (state_at (Between at.fresh) at.depth book) (Some (state_at (InWord true []) at.depth book)) 36
+    (word ++ rest)
+    (subst (λ (d : ℕ). step (state_at (Between at.fresh) d book) 36 ≡ silent (Some (state_at (InWord true []) d book)))
+    (sym h.0) (first_glyph at.fresh book))
     ∙ word_read true word rest [] at.depth book h.1.bytes (omega (arith, h.1.most)) h.1.whole
 piece_read at (Quoted text) rest book h =
-    goes_on (state_at (Between at.fresh) at.depth book) (Some (state_at (InQuotes []) at.depth book)) 34 ((escaped text ++ 34 ∷ []) ++ rest)
-    (subst (λ (d : ℕ). step (state_at (Between at.fresh) d book) 34 ≡ silent (Some (state_at (InQuotes []) d book))) (sym h.0) (first_quote at.fresh book))
+    goes_on (state_at (Between at.fresh) at.depth book) (Some (state_at (InQuotes []) at.depth book)) 34
+    ((escaped text ++ 34 ∷ []) ++ rest)
+    (subst (λ (d : ℕ). step (state_at (Between at.fresh) d book) 34 ≡ silent (Some (state_at (InQuotes []) d book)))
+    (sym h.0) (first_quote at.fresh book))
     ∙ ap (read_from (Some (state_at (InQuotes []) at.depth book))) (append_assoc (escaped text) (34 ∷ []) rest)
     ∙ text_read text rest [] at.depth book h.1.bytes (omega (arith, h.1.most))
-    ∙ quietly (took book (Quoted text)) (read_from (to_place (Between false) at.depth (took book (Quoted text)).on) rest) (text-silent book text)
+    ∙ quietly (took book (Quoted text))
+    (read_from (to_place (Between false) at.depth (took book (Quoted text)).on) rest) (text-silent book text)
 piece_read at (Sign b) rest book h =
-    goes_on (state_at (Between at.fresh) at.depth book) (to_place (Between false) at.depth (took book (Sign b)).on) b rest
-    (subst (λ (d : ℕ). step (state_at (Between at.fresh) d book) b ≡ silent (to_place (Between false) d (took book (Sign b)).on)) (sym h.0) (first_sign at.fresh book b h.1))
-    ∙ quietly (took book (Sign b)) (read_from (to_place (Between false) at.depth (took book (Sign b)).on) rest) (sign-silent book b)
+    goes_on (state_at (Between at.fresh) at.depth book) (to_place (Between false) at.depth (took book (Sign b)).on) b
+    rest
+    (subst (λ (d : ℕ).
+    step (state_at (Between at.fresh) d book) b ≡ silent (to_place (Between false) d (took book (Sign b)).on))
+    (sym h.0) (first_sign at.fresh book b h.1))
+    ∙ quietly (took book (Sign b)) (read_from (to_place (Between false) at.depth (took book (Sign b)).on) rest)
+    (sign-silent book b)
 piece_read at Opening rest book h =
-    goes_on (state_at (Between at.fresh) at.depth book) (to_place (Between false) (at.depth + 1) (took book Opening).on) 40 rest (first_opening at.fresh at.depth book h)
-    ∙ quietly (took book Opening) (read_from (to_place (Between false) (at.depth + 1) (took book Opening).on) rest) (opening-silent book)
+    goes_on (state_at (Between at.fresh) at.depth book) (to_place (Between false) (at.depth + 1) (took book Opening).on)
+    40 rest (first_opening at.fresh at.depth book h)
+    ∙ quietly (took book Opening) (read_from (to_place (Between false) (at.depth + 1) (took book Opening).on) rest)
+    (opening-silent book)
 piece_read at Closing rest book h =
-    goes_on (state_at (Between at.fresh) at.depth book) (to_place (Between false) (at.depth - 1) (took book Closing).on) 41 rest (first_closing at.fresh at.depth book h)
-    ∙ quietly (took book Closing) (read_from (to_place (Between false) (at.depth - 1) (took book Closing).on) rest) (closing-silent book)
+    goes_on (state_at (Between at.fresh) at.depth book) (to_place (Between false) (at.depth - 1) (took book Closing).on)
+    41 rest (first_closing at.fresh at.depth book h)
+    ∙ quietly (took book Closing) (read_from (to_place (Between false) (at.depth - 1) (took book Closing).on) rest)
+    (closing-silent book)
 piece_read at (Within b) rest book h =
-    goes_on (state_at (Between at.fresh) at.depth book) (to_place (Between false) at.depth (took book (Within b)).on) b rest (first_within at.fresh at.depth book b h.0 h.1 h.2)
-    ∙ quietly (took book (Within b)) (read_from (to_place (Between false) at.depth (took book (Within b)).on) rest) (within-silent book b)
+    goes_on (state_at (Between at.fresh) at.depth book) (to_place (Between false) at.depth (took book (Within b)).on) b
+    rest (first_within at.fresh at.depth book b h.0 h.1 h.2)
+    ∙ quietly (took book (Within b)) (read_from (to_place (Between false) at.depth (took book (Within b)).on) rest)
+    (within-silent book b)
 
 -- ---- whole texts
 
@@ -400,7 +479,8 @@ piece_read at (Within b) rest book h =
 abbrev pub telling : List Piece → List Piece
 telling pieces = filter (λ piece. not (is_skipped piece)) pieces
 
-both : (skipped : Bool) (given : Option PgnGame) (x x' y y' : Outcome) → x ≡ x' → y ≡ y' → cond skipped x (adding given y) ≡ cond skipped x' (adding given y')
+both : (skipped : Bool) (given : Option PgnGame) (x x' y y' : Outcome) → x ≡ x' → y ≡ y'
+    → cond skipped x (adding given y) ≡ cond skipped x' (adding given y')
 both true given x x' y y' h g = h
 both false given x x' y y' h g = ap (adding given) g
 
@@ -423,18 +503,21 @@ lexed_read (piece ∷ pieces) at text (Some book) h =
     let taken : Taken = took book piece in
     ap (read_from (at_state at (Some book))) h.1
     ∙ piece_read at piece rest book h.2
-    ∙ both (is_skipped piece) taken.given (read_from (at_state next (Some book)) rest) (all_told (Some book) (telling pieces))
+    ∙ both (is_skipped piece) taken.given (read_from (at_state next (Some book)) rest)
+    (all_told (Some book) (telling pieces))
     (read_from (at_state next taken.on) rest) (all_told taken.on (telling pieces))
     (lexed_read pieces next rest (Some book) h.3) (lexed_read pieces next rest taken.on h.3)
     ∙ told_so (is_skipped piece) book piece (telling pieces)
 
 -- ---- the mark of UTF-8
 
-marked_start : (rest : List ℕ) → read_from (Some first_state) (239 ∷ 187 ∷ 191 ∷ rest) ≡ read_from (Some (state_at (Between true) 0 no_book)) rest
+marked_start : (rest : List ℕ)
+    → read_from (Some first_state) (239 ∷ 187 ∷ 191 ∷ rest) ≡ read_from (Some (state_at (Between true) 0 no_book)) rest
 unfolding step
 marked_start rest = refl
 
-start_step : (b : ℕ) (rest : List ℕ) → (b == 239) ≡ false → read_from (Some first_state) (b ∷ rest) ≡ read_from (Some (state_at (Between true) 0 no_book)) (b ∷ rest)
+start_step : (b : ℕ) (rest : List ℕ) → (b == 239) ≡ false
+    → read_from (Some first_state) (b ∷ rest) ≡ read_from (Some (state_at (Between true) 0 no_book)) (b ∷ rest)
 unfolding step
 start_step b rest e =
     ap (λ (t : Bool). read_from (cond t (Some (state_at AfterOne 0 no_book)) (begun true 0 no_book b)) rest) e
@@ -444,25 +527,34 @@ lone_mark : (rest : List ℕ) → read_from (Some (state_at (Between true) 0 no_
 unfolding step is_word_byte
 lone_mark rest = refl
 
-after_two : (rest : List ℕ) → bytes_eq (239 ∷ 187 ∷ take 1 rest) (239 ∷ 187 ∷ 191 ∷ []) ≡ false → read_from (Some (state_at AfterTwo 0 no_book)) rest ≡ nothing_read
+after_two : (rest : List ℕ) → bytes_eq (239 ∷ 187 ∷ take 1 rest) (239 ∷ 187 ∷ 191 ∷ []) ≡ false
+    → read_from (Some (state_at AfterTwo 0 no_book)) rest ≡ nothing_read
 unfolding step
 after_two [] h = refl
 after_two (b ∷ rest) h =
-    elim (b == 191) as (λ t. (b == 191) ≡ t → read_from (cond t (Some (state_at (Between true) 0 no_book)) None) rest ≡ nothing_read) [
-      | true ↦ λ e. absurd (let f : true ≡ false = ap (λ (x : ℕ). bytes_eq (239 ∷ 187 ∷ x ∷ []) (239 ∷ 187 ∷ 191 ∷ [])) (sym (eqb-true b 191 e)) ∙ h in cc)
+    elim (b == 191)
+    as (λ t. (b == 191) ≡ t → read_from (cond t (Some (state_at (Between true) 0 no_book)) None) rest ≡ nothing_read) [
+      | true ↦ λ e.
+          absurd (let f : true ≡ false =
+          ap (λ (x : ℕ). bytes_eq (239 ∷ 187 ∷ x ∷ []) (239 ∷ 187 ∷ 191 ∷ [])) (sym (eqb-true b 191 e)) ∙ h in cc)
       | false ↦ λ e. refl
     ] refl
 
-after_one : (rest : List ℕ) → bytes_eq (239 ∷ take 2 rest) (239 ∷ 187 ∷ 191 ∷ []) ≡ false → read_from (Some (state_at AfterOne 0 no_book)) rest ≡ nothing_read
+after_one : (rest : List ℕ) → bytes_eq (239 ∷ take 2 rest) (239 ∷ 187 ∷ 191 ∷ []) ≡ false
+    → read_from (Some (state_at AfterOne 0 no_book)) rest ≡ nothing_read
 unfolding step
 after_one [] h = refl
 after_one (b ∷ rest) h =
-    elim (b == 187) as (λ t. (b == 187) ≡ t → read_from (cond t (Some (state_at AfterTwo 0 no_book)) None) rest ≡ nothing_read) [
-      | true ↦ λ e. after_two rest (ap (λ (x : ℕ). bytes_eq (239 ∷ x ∷ take 1 rest) (239 ∷ 187 ∷ 191 ∷ [])) (sym (eqb-true b 187 e)) ∙ h)
+    elim (b == 187)
+    as (λ t. (b == 187) ≡ t → read_from (cond t (Some (state_at AfterTwo 0 no_book)) None) rest ≡ nothing_read) [
+      | true ↦ λ e.
+          after_two rest
+          (ap (λ (x : ℕ). bytes_eq (239 ∷ x ∷ take 1 rest) (239 ∷ 187 ∷ 191 ∷ [])) (sym (eqb-true b 187 e)) ∙ h)
       | false ↦ λ e. refl
     ] refl
 
-start_lone : (rest : List ℕ) → read_from (Some first_state) (239 ∷ rest) ≡ read_from (Some (state_at AfterOne 0 no_book)) rest
+start_lone : (rest : List ℕ)
+    → read_from (Some first_state) (239 ∷ rest) ≡ read_from (Some (state_at AfterOne 0 no_book)) rest
 unfolding step
 start_lone rest = refl
 
@@ -471,11 +563,17 @@ plain_start : (text : List ℕ) → bytes_eq (take 3 text) (239 ∷ 187 ∷ 191 
     read_from (Some first_state) text ≡ read_from (Some (state_at (Between true) 0 no_book)) text
 plain_start [] h = refl
 plain_start (b ∷ rest) h =
-    elim (b == 239) as (λ t. (b == 239) ≡ t → read_from (Some first_state) (b ∷ rest) ≡ read_from (Some (state_at (Between true) 0 no_book)) (b ∷ rest)) [
+    elim (b == 239)
+    as (λ t.
+    (b == 239) ≡ t
+    → read_from (Some first_state) (b ∷ rest) ≡ read_from (Some (state_at (Between true) 0 no_book)) (b ∷ rest)) [
       | true ↦ λ e.
           let is : b ≡ 239 = eqb-true b 239 e in
-          let other : bytes_eq (239 ∷ take 2 rest) (239 ∷ 187 ∷ 191 ∷ []) ≡ false = ap (λ (x : ℕ). bytes_eq (x ∷ take 2 rest) (239 ∷ 187 ∷ 191 ∷ [])) (sym is) ∙ h in
-          subst (λ (x : ℕ). read_from (Some first_state) (x ∷ rest) ≡ read_from (Some (state_at (Between true) 0 no_book)) (x ∷ rest)) (sym is)
+          let other : bytes_eq (239 ∷ take 2 rest) (239 ∷ 187 ∷ 191 ∷ []) ≡ false =
+          ap (λ (x : ℕ). bytes_eq (x ∷ take 2 rest) (239 ∷ 187 ∷ 191 ∷ [])) (sym is) ∙ h in
+          subst (λ (x : ℕ).
+          read_from (Some first_state) (x ∷ rest) ≡ read_from (Some (state_at (Between true) 0 no_book)) (x ∷ rest))
+          (sym is)
           (start_lone rest ∙ after_one rest other ∙ sym (lone_mark rest))
       | false ↦ λ e. start_step b rest e
     ] refl
@@ -486,12 +584,15 @@ take_three (p ∷ []) x a b c e = cc
 take_three (p ∷ q ∷ []) x a b c e = cc
 take_three (p ∷ q ∷ r ∷ rest) x a b c e = cc
 
-pub start_read : (text : List ℕ) → read_from (Some first_state) text ≡ read_from (Some (state_at (Between true) 0 no_book)) (unmarked text)
+pub start_read : (text : List ℕ)
+    → read_from (Some first_state) text ≡ read_from (Some (state_at (Between true) 0 no_book)) (unmarked text)
 start_read text =
     elim (bytes_eq (take 3 text) (239 ∷ 187 ∷ 191 ∷ [])) as (λ t. bytes_eq (take 3 text) (239 ∷ 187 ∷ 191 ∷ []) ≡ t →
-    read_from (Some first_state) text ≡ read_from (Some (state_at (Between true) 0 no_book)) (cond t (drop 3 text) text)) [
+    read_from (Some first_state) text
+    ≡ read_from (Some (state_at (Between true) 0 no_book)) (cond t (drop 3 text) text)) [
       | true ↦ λ e.
-          let front : take 3 text ≡ 239 ∷ 187 ∷ 191 ∷ [] = (bytes_eq-Decides (take 3 text) (239 ∷ 187 ∷ 191 ∷ [])).0 e in
+          let front : take 3 text ≡ 239 ∷ 187 ∷ 191 ∷ [] =
+          (bytes_eq-Decides (take 3 text) (239 ∷ 187 ∷ 191 ∷ [])).0 e in
           ap (read_from (Some first_state)) (take_three text [] 239 187 191 front) ∙ marked_start (drop 3 text)
       | false ↦ λ e. plain_start text e
     ] refl

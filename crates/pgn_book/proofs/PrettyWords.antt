@@ -34,7 +34,8 @@ pub record IsPlain (text : List ℕ) (n : ℕ) : Type 0 where
   pub bytes : list_all is_plain text ≡ true
   pub most : length text ≤ n
 
-all-append : (f : ℕ → Bool) (xs ys : List ℕ) → list_all f xs ≡ true → list_all f ys ≡ true → list_all f (xs ++ ys) ≡ true
+all-append : (f : ℕ → Bool) (xs ys : List ℕ) → list_all f xs ≡ true → list_all f ys ≡ true
+    → list_all f (xs ++ ys) ≡ true
 all-append f [] ys h g = g
 all-append f (x ∷ xs) ys h g =
     let parts = and_parts (f x) (list_all f xs) h in
@@ -43,7 +44,9 @@ all-append f (x ∷ xs) ys h g =
 join : (xs ys : List ℕ) (m n : ℕ) → IsPlain xs m → IsPlain ys n → IsPlain (xs ++ ys) (m + n)
 join xs ys m n h g = record {
   bytes = all-append is_plain xs ys h.bytes g.bytes;
-  most = let both : length (xs ++ ys) ≡ length xs + length ys = length-append xs ys in let a = h.most in let b = g.most in omega arith;
+  most =
+      let both : length (xs ++ ys) ≡ length xs + length ys = length-append xs ys in let a = h.most in let b = g.most in
+      omega arith;
 }
 
 one : (b : ℕ) → is_plain b ≡ true → IsPlain (b ∷ []) 1
@@ -119,14 +122,17 @@ piece_origin : (shown : Shown) (from : ℕ) (k : Kind) → from < 64 →
     IsPlain ((letter_of k ∷ only_if shown.by_file (file_letter from)) ++ only_if shown.by_rank (rank_digit from)) 3
 piece_origin shown from k h =
     join (letter_of k ∷ only_if shown.by_file (file_letter from)) (only_if shown.by_rank (rank_digit from)) 2 1
-    (join (letter_of k ∷ []) (only_if shown.by_file (file_letter from)) 1 1 (one (letter_of k) (man_plain k)) (if_plain shown.by_file (file_letter from) (file_plain from)))
+    (join (letter_of k ∷ []) (only_if shown.by_file (file_letter from)) 1 1 (one (letter_of k) (man_plain k))
+    (if_plain shown.by_file (file_letter from) (file_plain from)))
     (if_plain shown.by_rank (rank_digit from) (rank_plain from h))
 
 longer : (text : List ℕ) (m n : ℕ) → m ≤ n → IsPlain text m → IsPlain text n
 longer text m n h p = record { bytes = p.bytes; most = let most = p.most in omega arith }
 
 origin_plain : (shown : Shown) (from : ℕ) (k : Kind) → from < 64 → IsPlain (origin_text shown from k) 3
-origin_plain shown from Pawn h = longer (only_if shown.takes (file_letter from)) 1 3 (omega arith) (if_plain shown.takes (file_letter from) (file_plain from))
+origin_plain shown from Pawn h =
+    longer (only_if shown.takes (file_letter from)) 1 3 (omega arith)
+    (if_plain shown.takes (file_letter from) (file_plain from))
 origin_plain shown from Knight h = piece_origin shown from Knight h
 origin_plain shown from Bishop h = piece_origin shown from Bishop h
 origin_plain shown from Rook h = piece_origin shown from Rook h
@@ -144,7 +150,17 @@ allowed_on_squares p (move.Plain a b promo) h = (h.move.from, h.move.to)
 allowed_on_squares p (move.Castle long) h = tt
 allowed_on_squares p (move.Drop k to) h = h.move.square
 
-castle_plain : (long : Bool) → IsPlain (pretty_move (record { what = move.Castle long; kind = King; takes = false; by_file = false; by_rank = false; after = Safe }) (move.Castle long)) 8
+castle_plain : (long : Bool)
+    → IsPlain
+    (pretty_move (record {
+      what = move.Castle long;
+      kind = King;
+      takes = false;
+      by_file = false;
+      by_rank = false;
+      after = Safe;
+    }) (move.Castle long))
+    8
 unfolding is_plain is_word_byte
 castle_plain false = record { bytes = refl; most = omega arith }
 castle_plain true = record { bytes = refl; most = omega arith }
@@ -153,16 +169,20 @@ move_plain : (shown : Shown) (m : Move) → IsOnSquares m → IsPlain (pretty_mo
 move_plain shown (move.Plain a b promo) h =
     join ((origin_text shown a shown.kind ++ only_if shown.takes 120) ++ square_text b) (promotion_text promo) 6 2
     (join (origin_text shown a shown.kind ++ only_if shown.takes 120) (square_text b) 4 2
-    (join (origin_text shown a shown.kind) (only_if shown.takes 120) 3 1 (origin_plain shown a shown.kind h.0) (if_plain shown.takes 120 x_plain))
+    (join (origin_text shown a shown.kind) (only_if shown.takes 120) 3 1 (origin_plain shown a shown.kind h.0)
+    (if_plain shown.takes 120 x_plain))
     (square_plain b h.1)) (promotion_plain promo)
 move_plain shown (move.Castle false) h = castle_plain false
 move_plain shown (move.Castle true) h = castle_plain true
 move_plain shown (move.Drop k to) h =
     longer (letter_of k ∷ 64 ∷ square_text to) 4 8 (omega arith)
-    (join (letter_of k ∷ []) (64 ∷ square_text to) 1 3 (one (letter_of k) (man_plain k)) (join (64 ∷ []) (square_text to) 1 2 at_plain (square_plain to h)))
+    (join (letter_of k ∷ []) (64 ∷ square_text to) 1 3 (one (letter_of k) (man_plain k))
+    (join (64 ∷ []) (square_text to) 1 2 at_plain (square_plain to h)))
 
 pub pretty_plain : (shown : Shown) → IsOnSquares shown.what → IsPlain (pretty_of shown) 9
-pretty_plain shown h = join (pretty_move shown shown.what) (mark_text shown.after) 8 1 (move_plain shown shown.what h) (mark_plain shown.after)
+pretty_plain shown h =
+    join (pretty_move shown shown.what) (mark_text shown.after) 8 1 (move_plain shown shown.what h)
+    (mark_plain shown.after)
 
 -- the first byte
 pub record HasHead (text : List ℕ) : Type 0 where
@@ -171,15 +191,23 @@ pub record HasHead (text : List ℕ) : Type 0 where
   pub is : text ≡ byte ∷ rest
   pub head : is_head byte ≡ true
 
-plain_head : (shown : Shown) (a b : ℕ) (promo : Option Kind) (takes : Bool) (k : Kind) → shown.takes ≡ takes → HasHead (origin_text shown a k ++ only_if takes 120 ++ square_text b ++ promotion_text promo ++ mark_text shown.after)
+plain_head : (shown : Shown) (a b : ℕ) (promo : Option Kind) (takes : Bool) (k : Kind) → shown.takes ≡ takes
+    → HasHead
+    (origin_text shown a k ++ only_if takes 120 ++ square_text b ++ promotion_text promo ++ mark_text shown.after)
 plain_head shown a b promo true Pawn e =
-    subst (λ (t : Bool). HasHead (only_if t (file_letter a) ++ codes "x" ++ square_text b ++ promotion_text promo ++ mark_text shown.after)) (sym e)
+    subst (λ (t : Bool).
+    HasHead (only_if t (file_letter a) ++ codes "x" ++ square_text b ++ promotion_text promo ++ mark_text shown.after))
+    (sym e)
     (record { byte = file_letter a; rest = _; is = refl; head = letter_head (a % 8) (omega arith) })
 plain_head shown a b promo false Pawn e =
-    subst (λ (t : Bool). HasHead (only_if t (file_letter a) ++ [] ++ square_text b ++ promotion_text promo ++ mark_text shown.after)) (sym e)
+    subst (λ (t : Bool).
+    HasHead (only_if t (file_letter a) ++ [] ++ square_text b ++ promotion_text promo ++ mark_text shown.after))
+    (sym e)
     (record { byte = file_letter b; rest = _; is = refl; head = letter_head (b % 8) (omega arith) })
-plain_head shown a b promo takes Knight e = record { byte = letter_of Knight; rest = _; is = refl; head = man_head Knight }
-plain_head shown a b promo takes Bishop e = record { byte = letter_of Bishop; rest = _; is = refl; head = man_head Bishop }
+plain_head shown a b promo takes Knight e =
+    record { byte = letter_of Knight; rest = _; is = refl; head = man_head Knight }
+plain_head shown a b promo takes Bishop e =
+    record { byte = letter_of Bishop; rest = _; is = refl; head = man_head Bishop }
 plain_head shown a b promo takes Rook e = record { byte = letter_of Rook; rest = _; is = refl; head = man_head Rook }
 plain_head shown a b promo takes Queen e = record { byte = letter_of Queen; rest = _; is = refl; head = man_head Queen }
 plain_head shown a b promo takes King e = record { byte = letter_of King; rest = _; is = refl; head = man_head King }
@@ -213,13 +241,15 @@ pub no_result : (text : List ℕ) → HasHead text → is_result text ≡ false
 unfolding is_head
 no_result text h =
     let parts = and_parts (not (is_digit h.byte)) (not (is_among (49 ∷ 48 ∷ 42 ∷ []) h.byte)) h.head in
-    let t = apart (h.byte == 49) (h.byte == 48) (h.byte == 42) (not-true (is_among (49 ∷ 48 ∷ 42 ∷ []) h.byte) parts.1) in
+    let t =
+    apart (h.byte == 49) (h.byte == 48) (h.byte == 42) (not-true (is_among (49 ∷ 48 ∷ 42 ∷ []) h.byte) parts.1) in
     let white : Bool = bytes_eq h.rest (45 ∷ 48 ∷ []) in
     let black : Bool = bytes_eq h.rest (45 ∷ 49 ∷ []) in
     let draw : Bool = bytes_eq h.rest (47 ∷ 50 ∷ 45 ∷ 49 ∷ 47 ∷ 50 ∷ []) in
     let star : Bool = bytes_eq h.rest [] in
     ap is_result h.is
-    ∙ ap (λ (x : Bool). (x && white) || ((nat_eq h.byte 48 && black) || ((x && draw) || (nat_eq h.byte 42 && star)))) t.0
+    ∙ ap (λ (x : Bool). (x && white) || ((nat_eq h.byte 48 && black) || ((x && draw) || (nat_eq h.byte 42 && star))))
+    t.0
     ∙ ap (λ (x : Bool). (x && black) || (nat_eq h.byte 42 && star)) t.1
     ∙ ap (λ (x : Bool). x && star) t.2
 
@@ -231,14 +261,16 @@ no_praise b h = not-true (is_praise b) (and_parts (is_word_byte b) (not (is_prai
 no_leading : (text : List ℕ) → list_all is_plain text ≡ true → without_leading is_praise text ≡ text
 no_leading [] h = refl
 no_leading (b ∷ text) h =
-    ap (λ (t : Bool). cond t (without_leading is_praise text) (b ∷ text)) (no_praise b (and_parts (is_plain b) (list_all is_plain text) h).0)
+    ap (λ (t : Bool). cond t (without_leading is_praise text) (b ∷ text))
+    (no_praise b (and_parts (is_plain b) (list_all is_plain text) h).0)
 
 all-reverse : (text : List ℕ) → list_all is_plain text ≡ true → list_all is_plain (reverse text) ≡ true
 all-reverse [] h = refl
 all-reverse (b ∷ text) h =
     let parts = and_parts (is_plain b) (list_all is_plain text) h in
     let end : list_all is_plain (b ∷ []) ≡ true = ap (λ (t : Bool). t && true) parts.0 in
-    let whole : list_all is_plain (reverse text ++ b ∷ []) ≡ true = all-append is_plain (reverse text) (b ∷ []) (all-reverse text parts.1) end in
+    let whole : list_all is_plain (reverse text ++ b ∷ []) ≡ true =
+    all-append is_plain (reverse text) (b ∷ []) (all-reverse text parts.1) end in
     ap (list_all is_plain) (reverse-append (b ∷ []) text) ∙ whole
 
 pub unpraised : (text : List ℕ) → list_all is_plain text ≡ true → without_praise text ≡ text
@@ -249,4 +281,5 @@ unfolding is_plain
 plain_word [] h = refl
 plain_word (b ∷ text) h =
     let parts = and_parts (is_plain b) (list_all is_plain text) h in
-    ap (λ (t : Bool). t && list_all is_word_byte text) (and_parts (is_word_byte b) (not (is_praise b)) parts.0).0 ∙ plain_word text parts.1
+    ap (λ (t : Bool). t && list_all is_word_byte text) (and_parts (is_word_byte b) (not (is_praise b)) parts.0).0
+    ∙ plain_word text parts.1

@@ -41,21 +41,25 @@ took_byte s t goes line byte now new read was lined h st newon newline rest =
           ∙ ap (λ (o : Option State). line_from new.line o (rest ++ more)) (sym newon);
     }
 
-read_on : (now new : Reader) (given : Option PgnGame) → GoesOn now given new → read_from now.on now.rest ≡ adding given (read_from new.on new.rest)
+read_on : (now new : Reader) (given : Option PgnGame) → GoesOn now given new
+    → read_from now.on now.rest ≡ adding given (read_from new.on new.rest)
 read_on now new given h =
-    ap (read_from now.on) (sym (append-nil now.rest)) ∙ h.read [] ∙ ap (λ (l : List ℕ). adding given (read_from new.on l)) (append-nil new.rest)
+    ap (read_from now.on) (sym (append-nil now.rest)) ∙ h.read []
+    ∙ ap (λ (l : List ℕ). adding given (read_from new.on l)) (append-nil new.rest)
 
 lines_on : (now new : Reader) (given : Option PgnGame) → GoesOn now given new
     → line_from now.line now.on now.rest ≡ line_from new.line new.on new.rest
 lines_on now new given h =
-    ap (line_from now.line now.on) (sym (append-nil now.rest)) ∙ h.line [] ∙ ap (line_from new.line new.on) (append-nil new.rest)
+    ap (line_from now.line now.on) (sym (append-nil now.rest)) ∙ h.line []
+    ∙ ap (line_from new.line new.on) (append-nil new.rest)
 
 -- a game that ended is the first one at the end of the text, too
 gives_last : (now new : Reader) (g : PgnGame) → GoesOn now (Some g) new → GivesLast now g new
 gives_last now new g h = record { read = read_on now new (Some g) h; line = lines_on now new (Some g) h }
 
 -- what comes behind a reader that goes on comes behind the one before it, too
-goes_on_both : (now mid new : Reader) (given : Option PgnGame) → GoesOn now None mid → GoesOn mid given new → GoesOn now given new
+goes_on_both : (now mid new : Reader) (given : Option PgnGame) → GoesOn now None mid → GoesOn mid given new
+    → GoesOn now given new
 goes_on_both now mid new given one other = record {
   games = λ more. one.games more ∙ other.games more;
   read = λ more. one.read more ∙ other.read more;
@@ -63,7 +67,8 @@ goes_on_both now mid new given one other = record {
 }
 
 -- all was read and no game ended: what is told of it
-told_next : (now new : Reader) (scan : Scan) → new ≡ facing scan [] → GoesOn now None new → IsNext now (told_at_end scan) new
+told_next : (now new : Reader) (scan : Scan) → new ≡ facing scan [] → GoesOn now None new
+    → IsNext now (told_at_end scan) new
 told_next now new scan e h = by scan.on refl
   where
     there : (on : Option State) → scan.on ≡ on → new.on ≡ on
@@ -75,7 +80,8 @@ told_next now new scan e h = by scan.on refl
     lost : scan.on ≡ None → line_from now.line now.on now.rest ≡ scan.line
     lost is =
         ap (line_from now.line now.on) (sym (append-nil now.rest)) ∙ h.line []
-        ∙ ap (λ (o : Option State). line_from new.line o (new.rest ++ [])) (there None is) ∙ ap (λ (r : Reader). r.line) e
+        ∙ ap (λ (o : Option State). line_from new.line o (new.rest ++ [])) (there None is)
+        ∙ ap (λ (r : Reader). r.line) e
 
     by : (on : Option State) → scan.on ≡ on → IsNext now (told_at_end scan) new
     by None is =
@@ -126,7 +132,8 @@ behind : (old : Reader) (mid new : Scan) (bytes : List ℕ) (i : ℕ) (given : O
     → GoesOn old given (facing new (drop (i + 1) bytes))
 behind old mid new bytes i given within h took =
     goes_on_both old (facing mid (drop i bytes)) (facing new (drop (i + 1) bytes)) given h.goes_on
-    (subst (λ (l : List ℕ). GoesOn (facing mid l) given (facing new (drop (i + 1) bytes))) (sym (byte_at bytes i within))
+    (subst (λ (l : List ℕ). GoesOn (facing mid l) given (facing new (drop (i + 1) bytes)))
+    (sym (byte_at bytes i within))
     (took (drop (i + 1) bytes)))
 
 fewer_by : (old : Reader) (mid new : Scan) (bytes : List ℕ) (i : ℕ) → i < length bytes
@@ -168,8 +175,10 @@ pub record HasRead (now : Reader) (game : Option PgnGame) (to : Scan) (rest : Li
   pub goes_on : GoesOn now game (facing to rest)
   pub all : game ≡ None → rest ≡ []
 
-pub has_read : (now : Reader) (from to : Scan) (bytes : List ℕ) (read : ℕ) (game : Option PgnGame) → facing from now.rest ≡ now
-    → bytes ≡ now.rest → GoesOn (facing from bytes) game (facing to (drop read bytes)) → (game ≡ None → drop read bytes ≡ [])
+pub has_read : (now : Reader) (from to : Scan) (bytes : List ℕ) (read : ℕ) (game : Option PgnGame)
+    → facing from now.rest ≡ now
+    → bytes ≡ now.rest → GoesOn (facing from bytes) game (facing to (drop read bytes))
+    → (game ≡ None → drop read bytes ≡ [])
     → HasRead now game to (drop read now.rest)
 has_read now from to bytes read game stands are goes all =
     let same : GoesOn (facing from now.rest) game (facing to (drop read now.rest)) =
@@ -179,20 +188,25 @@ has_read now from to bytes read game stands are goes all =
       all = λ none. ap (λ (l : List ℕ). drop read l) (sym are) ∙ all none;
     }
 
-pub none_is_next : (now new : Reader) (game : Option PgnGame) (to : Scan) (rest : List ℕ) → HasRead now game to rest → game ≡ None
+pub none_is_next : (now new : Reader) (game : Option PgnGame) (to : Scan) (rest : List ℕ) → HasRead now game to rest
+    → game ≡ None
     → new ≡ facing to rest → IsNext now (told_at_end to) new
 none_is_next now new game to rest h none e =
     let goes : GoesOn now None new =
-    subst (λ (r : Reader). GoesOn now None r) (sym e) (subst (λ (g : Option PgnGame). GoesOn now g (facing to rest)) none h.goes_on) in
+    subst (λ (r : Reader). GoesOn now None r) (sym e)
+    (subst (λ (g : Option PgnGame). GoesOn now g (facing to rest)) none h.goes_on) in
     told_next now new to (e ∙ ap (facing to) (h.all none)) goes
 
-pub game_is_last : (now new : Reader) (game : Option PgnGame) (g : PgnGame) (to : Scan) (rest : List ℕ) → HasRead now game to rest
+pub game_is_last : (now new : Reader) (game : Option PgnGame) (g : PgnGame) (to : Scan) (rest : List ℕ)
+    → HasRead now game to rest
     → game ≡ Some g → new ≡ facing to rest → GivesLast now g new
 game_is_last now new game g to rest h some e =
     gives_last now new g
-    (subst (λ (r : Reader). GoesOn now (Some g) r) (sym e) (subst (λ (x : Option PgnGame). GoesOn now x (facing to rest)) some h.goes_on))
+    (subst (λ (r : Reader). GoesOn now (Some g) r) (sym e)
+    (subst (λ (x : Option PgnGame). GoesOn now x (facing to rest)) some h.goes_on))
 
-pub end_is_last : (now new : Reader) (game : Option PgnGame) (to last : Scan) (rest : List ℕ) (step : PgnStep) → HasRead now game to rest
+pub end_is_last : (now new : Reader) (game : Option PgnGame) (to last : Scan) (rest : List ℕ) (step : PgnStep)
+    → HasRead now game to rest
     → game ≡ None → IsLast (facing to []) step (facing last []) → new ≡ facing last rest → IsLast now step new
 end_is_last now new game to last rest step h none is e =
     let goes : GoesOn now None (facing to []) =

@@ -13,10 +13,12 @@ use Rattle.pgn_book.specs.Games.{on_board, position_of}
 use Rattle.pgn_book.specs.Reading.{from_word, move_read}
 use Rattle.pgn_book.proofs.Laying.{stands_at}
 
-pub at_moves : (p : Position) (kept moves : List Move) → p.variant ≡ Chess → Stands p (map on_board kept) 1 → kept ≡ moves → p ≡ position_of moves
+pub at_moves : (p : Position) (kept moves : List Move) → p.variant ≡ Chess → Stands p (map on_board kept) 1
+    → kept ≡ moves → p ≡ position_of moves
 at_moves p kept moves chess stands e = stands_at p kept chess stands ∙ ap position_of e
 
-pub word_read : (p q : Position) (text : List ℕ) (word : MoveWord) (r : Result Move Rejection) → Some word ≡ reading text
+pub word_read : (p q : Position) (text : List ℕ) (word : MoveWord) (r : Result Move Rejection)
+    → Some word ≡ reading text
     → r ≡ word_answer p word → p ≡ q → result_ok r ≡ move_read q text
 unfolding move_read
 word_read p q text word r e f g =

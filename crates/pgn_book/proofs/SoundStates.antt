@@ -47,7 +47,8 @@ record IsSoundTaken (taken : Taken) : Type 0 where
   given : IsExportableIf taken.given
   on : IsSoundBookIf taken.on
 
-sound_if : (x : Bool) (a c : Taken) → (x ≡ true → IsSoundTaken a) → (x ≡ false → IsSoundTaken c) → IsSoundTaken (cond x a c)
+sound_if : (x : Bool) (a c : Taken) → (x ≡ true → IsSoundTaken a) → (x ≡ false → IsSoundTaken c)
+    → IsSoundTaken (cond x a c)
 sound_if true a c h g = h refl
 sound_if false a c h g = g refl
 
@@ -109,11 +110,13 @@ told_if : (x : Bool) (text : List ℕ) → IsText text → IsTextIfTold (cond x 
 told_if true text h = h
 told_if false text h = tt
 
-noting : (key name text : List ℕ) (old : Option (List ℕ)) → IsText text → IsTextIfTold old → IsTextIfTold (noted_as key name text old)
+noting : (key name text : List ℕ) (old : Option (List ℕ)) → IsText text → IsTextIfTold old
+    → IsTextIfTold (noted_as key name text old)
 noting key name text None h g = told_if (bytes_eq name key) text h
 noting key name text (Some first) h g = g
 
-quoting : (stage : GameStage) (book : Book) (text : List ℕ) → IsText text → IsSoundBook book → IsSoundTaken (quoted stage book text)
+quoting : (stage : GameStage) (book : Book) (text : List ℕ) → IsText text → IsSoundBook book
+    → IsSoundTaken (quoted stage book text)
 quoting Before book text is h = failing
 quoting Tags book text is h = failing
 quoting Opened book text is h = failing
@@ -142,18 +145,23 @@ naming book word h =
 -- the answer to a word is an allowed move
 allowed_answer : (p : Position) (text : List ℕ) (m : Move) → IsReadAs p text m → Allowed p m
 allowed_answer p text m h =
-    let answer : IsAnswer p h.word m = subst (λ r. MatchResult r (IsAnswer p h.word) (IsRefusal p h.word)) h.answered (word_answer-holds p h.word) in
+    let answer : IsAnswer p h.word m =
+    subst (λ r. MatchResult r (IsAnswer p h.word) (IsRefusal p h.word)) h.answered (word_answer-holds p h.word) in
     answer.choice.allowed
 
-moving_on : (book : Book) (text : List ℕ) (m : Option Move) → length book.moves < 1200 → IsSoundBook book → move_read (position_of book.moves) text ≡ m →
+moving_on : (book : Book) (text : List ℕ) (m : Option Move) → length book.moves < 1200 → IsSoundBook book
+    → move_read (position_of book.moves) text ≡ m →
     IsSoundTaken (with_move book m)
 moving_on book text None room h e = failing
 moving_on book text (Some m) room h e =
-    let allowed : Allowed (position_of book.moves) m = allowed_answer (position_of book.moves) text m (move_found (position_of book.moves) text m e) in
+    let allowed : Allowed (position_of book.moves) m =
+    allowed_answer (position_of book.moves) text m (move_found (position_of book.moves) text m e) in
     let long : length (book.moves ++ m ∷ []) ≡ length book.moves + 1 = length-append book.moves (m ∷ []) in
     going (record { stage = Moves; row = book.row; moves = book.moves ++ m ∷ [] })
     (record {
-      legal = subst (λ (T : List HalfMove). IsLegal Chess T) (sym (map-append on_board book.moves (m ∷ []))) (legal_lists.grows Chess (map on_board book.moves) (on_board m) h.legal allowed);
+      legal =
+          subst (λ (T : List HalfMove). IsLegal Chess T) (sym (map-append on_board book.moves (m ∷ [])))
+          (legal_lists.grows Chess (map on_board book.moves) (on_board m) h.legal allowed);
       most = omega arith;
       event = h.event;
       site = h.site;
@@ -167,7 +175,8 @@ moving : (book : Book) (word : List ℕ) → IsSoundBook book → IsSoundTaken (
 moving book word h =
     let text : List ℕ = without_praise word in
     sound_if (nat_lt (length book.moves) 1200) (with_move book (move_read (position_of book.moves) text)) fails
-    (λ e. moving_on book text (move_read (position_of book.moves) text) (below (length book.moves) 1200 e) h refl) (λ e. failing)
+    (λ e. moving_on book text (move_read (position_of book.moves) text) (below (length book.moves) 1200 e) h refl)
+    (λ e. failing)
 
 -- a text of a game is one that was told, or another that may stand in a tag
 shown : (absent : List ℕ) (told : Option (List ℕ)) → IsText absent → IsTextIfTold told → IsText (unwrap_or told absent)
@@ -197,9 +206,12 @@ ending book word h = record {
 
 telling : (book : Book) (word : List ℕ) → IsSoundBook book → IsSoundTaken (told book word)
 telling book word h =
-    sound_if (list_all is_digit word) (passed_over book.stage book) (cond (is_result word) (gives (game_of book word)) (moved book word))
+    sound_if (list_all is_digit word) (passed_over book.stage book)
+    (cond (is_result word) (gives (game_of book word)) (moved book word))
     (λ e. passing book.stage book h)
-    (λ e. sound_if (is_result word) (gives (game_of book word)) (moved book word) (λ f. ending book word h) (λ f. moving book word h))
+    (λ e.
+    sound_if (is_result word) (gives (game_of book word)) (moved book word) (λ f. ending book word h)
+    (λ f. moving book word h))
 
 wording : (stage : GameStage) (book : Book) (word : List ℕ) → IsSoundBook book → IsSoundTaken (worded stage book word)
 wording Before book word h = telling book word h
@@ -212,13 +224,16 @@ wording Moves book word h = telling book word h
 glyphing : (book : Book) (word : List ℕ) → IsSoundBook book → IsSoundTaken (glyphed book word)
 glyphing book [] h = failing
 glyphing book (b ∷ word) h =
-    sound_if (list_all is_digit (b ∷ word)) (passed_over book.stage book) fails (λ e. passing book.stage book h) (λ e. failing)
+    sound_if (list_all is_digit (b ∷ word)) (passed_over book.stage book) fails (λ e. passing book.stage book h)
+    (λ e. failing)
 
 signing : (book : Book) (b : ℕ) → IsSoundBook book → IsSoundTaken (signed book b)
 signing book b h =
     sound_if (b == 91) (opened book.stage book) (cond (b == 93) (closed book.stage book) (passed_over book.stage book))
     (λ e. opening book.stage book h)
-    (λ e. sound_if (b == 93) (closed book.stage book) (passed_over book.stage book) (λ f. closing book.stage book h) (λ f. passing book.stage book h))
+    (λ e.
+    sound_if (b == 93) (closed book.stage book) (passed_over book.stage book) (λ f. closing book.stage book h)
+    (λ f. passing book.stage book h))
 
 -- ---- states
 
@@ -229,17 +244,20 @@ pub record IsSoundStep (t : Step) : Type 0 where
   pub given : IsExportableIf t.given
   pub on : IsSoundIf t.on
 
-on_either : (x : Bool) (p q : Option State) → (x ≡ true → IsSoundIf p) → (x ≡ false → IsSoundIf q) → IsSoundIf (cond x p q)
+on_either : (x : Bool) (p q : Option State) → (x ≡ true → IsSoundIf p) → (x ≡ false → IsSoundIf q)
+    → IsSoundIf (cond x p q)
 on_either true p q h g = h refl
 on_either false p q h g = g refl
 
 -- outside of variations any piece may follow
-behind_piece : (place : PlaceInText) (depth : ℕ) (on : Option Book) → ((stage : GameStage) → IsSoundPlace place depth stage) → IsSoundBookIf on → IsSoundIf (to_place place depth on)
+behind_piece : (place : PlaceInText) (depth : ℕ) (on : Option Book)
+    → ((stage : GameStage) → IsSoundPlace place depth stage) → IsSoundBookIf on → IsSoundIf (to_place place depth on)
 behind_piece place depth None is h = tt
 behind_piece place depth (Some book) is h = record { place = is book.stage; book = h }
 
 -- what is passed over is in the moves
-behind_passed : (depth : ℕ) (stage : GameStage) (book : Book) → book.stage ≡ stage → IsSoundBook book → IsSoundIf (to_place (Between false) depth (passed_over stage book).on)
+behind_passed : (depth : ℕ) (stage : GameStage) (book : Book) → book.stage ≡ stage → IsSoundBook book
+    → IsSoundIf (to_place (Between false) depth (passed_over stage book).on)
 behind_passed depth Before book e h = record { place = inr refl; book = at_stage Moves book h }
 behind_passed depth Tags book e h = record { place = inr refl; book = at_stage Moves book h }
 behind_passed depth Opened book e h = tt
@@ -278,27 +296,34 @@ sound_nested depth book b h =
     on_either (b == 40) (opens depth book) (cond (b == 41) (closes depth book) behind)
     (λ e. sound_opens depth book h)
     (λ e. on_either (b == 41) (closes depth book) behind (λ f. sound_closes depth book h)
-    (λ f. on_either (nat_eq depth 0) (outside book b) within (λ g. sound_outside book b h) (λ g. behind_passed depth book.stage book refl h)))
+    (λ f.
+    on_either (nat_eq depth 0) (outside book b) within (λ g. sound_outside book b h)
+    (λ g. behind_passed depth book.stage book refl h)))
 
 abbrev InMoves : ℕ → GameStage → Type 0
 InMoves depth stage = (depth ≡ 0) ⊎ (stage ≡ Moves)
 
-sound_skipping : (fresh : Bool) (depth : ℕ) (book : Book) (b : ℕ) → InMoves depth book.stage → IsSoundBook book → IsSoundIf (skipping fresh depth book b)
+sound_skipping : (fresh : Bool) (depth : ℕ) (book : Book) (b : ℕ) → InMoves depth book.stage → IsSoundBook book
+    → IsSoundIf (skipping fresh depth book b)
 sound_skipping fresh depth book b at h =
     let braces : Option State = cond (b == 123) (here InBraces depth book) (nested depth book b) in
     let line : Option State = here InLine depth book in
     on_either (b == 37 && fresh) line (cond (b == 59) line braces) (λ e. record { place = at; book = h })
     (λ e. on_either (b == 59) line braces (λ f. record { place = at; book = h })
-    (λ f. on_either (b == 123) (here InBraces depth book) (nested depth book b) (λ g. record { place = at; book = h }) (λ g. sound_nested depth book b h)))
+    (λ f.
+    on_either (b == 123) (here InBraces depth book) (nested depth book b) (λ g. record { place = at; book = h })
+    (λ g. sound_nested depth book b h)))
 
-sound_begun : (fresh : Bool) (depth : ℕ) (book : Book) (b : ℕ) → InMoves depth book.stage → IsSoundBook book → IsSoundIf (begun fresh depth book b)
+sound_begun : (fresh : Bool) (depth : ℕ) (book : Book) (b : ℕ) → InMoves depth book.stage → IsSoundBook book
+    → IsSoundIf (begun fresh depth book b)
 sound_begun fresh depth book b at h =
     on_either (is_word_byte b && nat_eq depth 0) (here (InWord false (b ∷ [])) depth book) (spaced fresh depth book b)
     (λ e. record { place = eqb-true depth 0 (and_parts (is_word_byte b) (nat_eq depth 0) e).1; book = h })
     (λ e. on_either (is_space b) (here (Between (b == 10)) depth book) (skipping fresh depth book b)
     (λ f. record { place = at; book = h }) (λ f. sound_skipping fresh depth book b at h))
 
-sound_behind : (depth : ℕ) (on : Option Book) (b : ℕ) → depth ≡ 0 → IsSoundBookIf on → IsSoundIf (begun_behind depth on b)
+sound_behind : (depth : ℕ) (on : Option Book) (b : ℕ) → depth ≡ 0 → IsSoundBookIf on
+    → IsSoundIf (begun_behind depth on b)
 sound_behind depth None b at h = tt
 sound_behind depth (Some book) b at h = sound_begun false depth book b (inl at) h
 
@@ -307,17 +332,21 @@ text_more : (text : List ℕ) (b : ℕ) → IsText text → is_of_text b ≡ tru
 text_more text b h e room =
     let long : length (text ++ b ∷ []) ≡ length text + 1 = length-append text (b ∷ []) in
     record {
-      bytes = list_all-append is_of_text text (b ∷ []) ∙ ap (λ (t : Bool). t && list_all is_of_text (b ∷ [])) h.bytes ∙ ap (λ (t : Bool). t && true) e;
+      bytes =
+          list_all-append is_of_text text (b ∷ []) ∙ ap (λ (t : Bool). t && list_all is_of_text (b ∷ [])) h.bytes
+          ∙ ap (λ (t : Bool). t && true) e;
       most = omega arith;
     }
 
-sound_longer : (text : List ℕ) (b depth : ℕ) (book : Book) → depth ≡ 0 → IsText text → is_of_text b ≡ true → IsSoundBook book →
+sound_longer : (text : List ℕ) (b depth : ℕ) (book : Book) → depth ≡ 0 → IsText text → is_of_text b ≡ true
+    → IsSoundBook book →
     IsSoundIf (longer (InQuotes (text ++ b ∷ [])) text depth book)
 sound_longer text b depth book at is e h =
     on_either (nat_lt (length text) 255) (here (InQuotes (text ++ b ∷ [])) depth book) None
     (λ room. record { place = (at, text_more text b is e (below (length text) 255 room)); book = h }) (λ room. tt)
 
-sound_in_quotes : (text : List ℕ) (depth : ℕ) (book : Book) (b : ℕ) → depth ≡ 0 → IsText text → IsSoundBook book → IsSoundIf (in_quotes text depth book b)
+sound_in_quotes : (text : List ℕ) (depth : ℕ) (book : Book) (b : ℕ) → depth ≡ 0 → IsText text → IsSoundBook book
+    → IsSoundIf (in_quotes text depth book b)
 unfolding took
 sound_in_quotes text depth book b at is h =
     let on : Option Book = (quoted book.stage book text).on in
@@ -328,10 +357,14 @@ sound_in_quotes text depth book b at is h =
     (λ e. on_either (b == 92) (here (InStroke text) depth book) rest (λ f. record { place = (at, is); book = h })
     (λ f. on_either (is_of_text b) more None (λ g. sound_longer text b depth book at is g h) (λ g. tt)))
 
-sound_in_stroke : (text : List ℕ) (depth : ℕ) (book : Book) (b : ℕ) → depth ≡ 0 → IsText text → IsSoundBook book → IsSoundIf (in_stroke text depth book b)
+sound_in_stroke : (text : List ℕ) (depth : ℕ) (book : Book) (b : ℕ) → depth ≡ 0 → IsText text → IsSoundBook book
+    → IsSoundIf (in_stroke text depth book b)
 sound_in_stroke text depth book b at is h =
     on_either (is_among (34 ∷ 92 ∷ []) b) (longer (InQuotes (text ++ b ∷ [])) text depth book) None
-    (λ e. sound_longer text b depth book at is (each_among (λ (x : ℕ). is_of_text x ≡ true) (34 ∷ 92 ∷ []) b (refl, (refl, tt)) e) h) (λ e. tt)
+    (λ e.
+    sound_longer text b depth book at is
+    (each_among (λ (x : ℕ). is_of_text x ≡ true) (34 ∷ 92 ∷ []) b (refl, (refl, tt)) e) h)
+    (λ e. tt)
 
 -- ---- steps
 
@@ -345,35 +378,45 @@ step_if false a c h g = g
 ended : (taken : Taken) (depth b : ℕ) → depth ≡ 0 → IsSoundTaken taken → IsSoundStep (word_ended taken depth b)
 ended taken depth b at h = record { given = h.given; on = sound_behind depth taken.on b at h.on }
 
-took_word : (glyph : Bool) (book : Book) (word : List ℕ) → IsSoundBook book → IsSoundTaken (took book (piece_of glyph word))
+took_word : (glyph : Bool) (book : Book) (word : List ℕ) → IsSoundBook book
+    → IsSoundTaken (took book (piece_of glyph word))
 unfolding took
 took_word true book word h = glyphing book word h
 took_word false book word h = wording book.stage book word h
 
-sound_step_in : (place : PlaceInText) (depth : ℕ) (book : Book) (b : ℕ) → IsSoundPlace place depth book.stage → IsSoundBook book → IsSoundStep (step_in place depth book b)
+sound_step_in : (place : PlaceInText) (depth : ℕ) (book : Book) (b : ℕ) → IsSoundPlace place depth book.stage
+    → IsSoundBook book → IsSoundStep (step_in place depth book b)
 sound_step_in Start depth book b at h =
     quietly (started depth book b)
-    (on_either (b == 239) (here AfterOne depth book) (begun true depth book b) (λ e. record { place = at; book = h }) (λ e. sound_begun true depth book b at h))
+    (on_either (b == 239) (here AfterOne depth book) (begun true depth book b) (λ e. record { place = at; book = h })
+    (λ e. sound_begun true depth book b at h))
 sound_step_in AfterOne depth book b at h =
     quietly (cond (b == 187) (here AfterTwo depth book) None)
     (on_either (b == 187) (here AfterTwo depth book) None (λ e. record { place = at; book = h }) (λ e. tt))
 sound_step_in AfterTwo depth book b at h =
     quietly (cond (b == 191) (here (Between true) depth book) None)
     (on_either (b == 191) (here (Between true) depth book) None (λ e. record { place = at; book = h }) (λ e. tt))
-sound_step_in (Between fresh) depth book b at h = quietly (begun fresh depth book b) (sound_begun fresh depth book b at h)
+sound_step_in (Between fresh) depth book b at h =
+    quietly (begun fresh depth book b) (sound_begun fresh depth book b at h)
 sound_step_in InLine depth book b at h =
     quietly (in_line depth book b)
-    (on_either (is_of_line b) (here InLine depth book) (here (Between true) depth book) (λ e. record { place = at; book = h }) (λ e. record { place = at; book = h }))
+    (on_either (is_of_line b) (here InLine depth book) (here (Between true) depth book)
+    (λ e. record { place = at; book = h }) (λ e. record { place = at; book = h }))
 sound_step_in InBraces depth book b at h =
     quietly (in_braces depth book b)
-    (on_either (is_of_braces b) (here InBraces depth book) (here (Between false) depth book) (λ e. record { place = at; book = h }) (λ e. record { place = at; book = h }))
+    (on_either (is_of_braces b) (here InBraces depth book) (here (Between false) depth book)
+    (λ e. record { place = at; book = h }) (λ e. record { place = at; book = h }))
 sound_step_in (InWord glyph word) depth book b at h =
     let more : Option State = longer (InWord glyph (word ++ b ∷ [])) word depth book in
     step_if (is_word_byte b) (silent more) (word_ended (took book (piece_of glyph word)) depth b)
-    (quietly more (on_either (nat_lt (length word) 255) (here (InWord glyph (word ++ b ∷ [])) depth book) None (λ e. record { place = at; book = h }) (λ e. tt)))
+    (quietly more
+    (on_either (nat_lt (length word) 255) (here (InWord glyph (word ++ b ∷ [])) depth book) None
+    (λ e. record { place = at; book = h }) (λ e. tt)))
     (ended (took book (piece_of glyph word)) depth b at (took_word glyph book word h))
-sound_step_in (InQuotes text) depth book b at h = quietly (in_quotes text depth book b) (sound_in_quotes text depth book b at.0 at.1 h)
-sound_step_in (InStroke text) depth book b at h = quietly (in_stroke text depth book b) (sound_in_stroke text depth book b at.0 at.1 h)
+sound_step_in (InQuotes text) depth book b at h =
+    quietly (in_quotes text depth book b) (sound_in_quotes text depth book b at.0 at.1 h)
+sound_step_in (InStroke text) depth book b at h =
+    quietly (in_stroke text depth book b) (sound_in_stroke text depth book b at.0 at.1 h)
 
 pub step_sound : (s : State) (b : ℕ) → IsSound s → IsSoundStep (step s b)
 unfolding step
@@ -390,7 +433,8 @@ at_end s = ended_in s.place s.depth s.book
 pub end_sound : (s : State) → IsSound s → IsSoundStep (at_end s)
 end_sound s h = by s.place s.depth s.book h.place h.book
   where
-    by : (place : PlaceInText) (depth : ℕ) (book : Book) → IsSoundPlace place depth book.stage → IsSoundBook book → IsSoundStep (ended_in place depth book)
+    by : (place : PlaceInText) (depth : ℕ) (book : Book) → IsSoundPlace place depth book.stage → IsSoundBook book
+        → IsSoundStep (ended_in place depth book)
     by Start depth book at h = quietly (here (Between false) depth book) (record { place = at; book = h })
     by AfterOne depth book at h = quietly None tt
     by AfterTwo depth book at h = quietly None tt
@@ -399,7 +443,10 @@ end_sound s h = by s.place s.depth s.book h.place h.book
     by InBraces depth book at h = quietly None tt
     by (InWord glyph word) depth book at h =
         let taken : IsSoundTaken (took book (piece_of glyph word)) = took_word glyph book word h in
-        record { given = taken.given; on = behind_piece (Between false) depth (took book (piece_of glyph word)).on (λ stage. inl at) taken.on }
+        record {
+          given = taken.given;
+          on = behind_piece (Between false) depth (took book (piece_of glyph word)).on (λ stage. inl at) taken.on;
+        }
     by (InQuotes text) depth book at h = quietly None tt
     by (InStroke text) depth book at h = quietly None tt
 
@@ -422,13 +469,17 @@ sound_on : (goes : Bool) (s : State) → goes ≡ true → IsSoundIf (on_if goes
 sound_on true s e h = h
 sound_on false s e h = cc
 
-pub byte_sound : (old new : State) (goes : Bool) (byte : ℕ) (read : Read) → goes ≡ true → IsSoundIf (on_if goes old) → IsStep read new (step old byte) → IsSoundRead read new
-byte_sound old new goes byte read e h is = read_sound read new (step old byte) is (step_sound old byte (sound_on goes old e h))
+pub byte_sound : (old new : State) (goes : Bool) (byte : ℕ) (read : Read) → goes ≡ true → IsSoundIf (on_if goes old)
+    → IsStep read new (step old byte) → IsSoundRead read new
+byte_sound old new goes byte read e h is =
+    read_sound read new (step old byte) is (step_sound old byte (sound_on goes old e h))
 
-pub last_sound : (old new rested : State) (goes : Bool) (read : Read) → goes ≡ true → IsSoundIf (on_if goes old) → IsStep read (between new) (at_end old) →
+pub last_sound : (old new rested : State) (goes : Bool) (read : Read) → goes ≡ true → IsSoundIf (on_if goes old)
+    → IsStep read (between new) (at_end old) →
     rested ≡ between new → IsSoundRead read rested
 last_sound old new rested goes read e h is same =
-    read_sound read rested (at_end old) (subst (λ (s : State). IsStep read s (at_end old)) (sym same) is) (end_sound old (sound_on goes old e h))
+    read_sound read rested (at_end old) (subst (λ (s : State). IsStep read s (at_end old)) (sym same) is)
+    (end_sound old (sound_on goes old e h))
 
 pub some_given : (given : Option PgnGame) (g : PgnGame) → given ≡ Some g → IfSome given IsExportable → IsExportable g
 some_given given g e h = subst (λ (x : Option PgnGame). IfSome x IsExportable) e h
@@ -438,11 +489,13 @@ some_given given g e h = subst (λ (x : Option PgnGame). IfSome x IsExportable) 
 abbrev pub EachExportable : List PgnGame → Type 0
 EachExportable games = AllByRecursion IsExportable games
 
-more_given : (given : Option PgnGame) (o : Outcome) → IsExportableIf given → EachExportable o.games → EachExportable (adding given o).games
+more_given : (given : Option PgnGame) (o : Outcome) → IsExportableIf given → EachExportable o.games
+    → EachExportable (adding given o).games
 more_given None o h all = all
 more_given (Some g) o h all = (h, all)
 
-finished_exportable : (place : PlaceInText) (depth : ℕ) (book : Book) → IsSoundBook book → EachExportable (finished_in place depth book).games
+finished_exportable : (place : PlaceInText) (depth : ℕ) (book : Book) → IsSoundBook book
+    → EachExportable (finished_in place depth book).games
 finished_exportable Start depth book h = tt
 finished_exportable AfterOne depth book h = tt
 finished_exportable AfterTwo depth book h = tt
@@ -475,4 +528,5 @@ gone_sound (b ∷ text) (Some s) h =
 
 pub reads_exportable : ReadsExportable
 reads_exportable text games h =
-    subst EachExportable (ap (λ (o : Outcome). o.games) (reads_told text games h)) (read_exportable text (Some first_state) first_sound)
+    subst EachExportable (ap (λ (o : Outcome). o.games) (reads_told text games h))
+    (read_exportable text (Some first_state) first_sound)

@@ -26,20 +26,27 @@ use Rattle.pgn_book.specs.Stored.{IsStoredChess, names_row}
 
 -- ---- half-moves that can be played are legal
 
-moves-end : (halves : List Half) (h : Half) → half_moves (halves ++ h ∷ []) ≡ half_moves halves ++ record { board = h.board; what = h.what } ∷ []
+moves-end : (halves : List Half) (h : Half)
+    → half_moves (halves ++ h ∷ []) ≡ half_moves halves ++ record { board = h.board; what = h.what } ∷ []
 moves-end [] h = refl
-moves-end (x ∷ halves) h = ap (λ (l : List HalfMove). record { board = x.board; what = x.what } ∷ l) (moves-end halves h)
+moves-end (x ∷ halves) h =
+    ap (λ (l : List HalfMove). record { board = x.board; what = x.what } ∷ l) (moves-end halves h)
 
-legal_behind : (t : Terms) (before rest : List Half) → IsLegal t.variant (half_moves before) → CanBePlayed t (before ++ rest) →
+legal_behind : (t : Terms) (before rest : List Half) → IsLegal t.variant (half_moves before)
+    → CanBePlayed t (before ++ rest) →
     IsLegal t.variant (half_moves (before ++ rest))
-legal_behind t before [] legal played = subst (λ (l : List Half). IsLegal t.variant (half_moves l)) (sym (append-nil before)) legal
+legal_behind t before [] legal played =
+    subst (λ (l : List Half). IsLegal t.variant (half_moves l)) (sym (append-nil before)) legal
 legal_behind t before (h ∷ rest) legal played =
     let come : MayCome t before h = played.each before rest h refl in
     let half : HalfMove = record { board = h.board; what = h.what } in
-    let grown : IsLegal t.variant (half_moves before ++ half ∷ []) = legal_lists.grows t.variant (half_moves before) half legal come.follows.allowed in
-    let longer : IsLegal t.variant (half_moves (before ++ h ∷ [])) = subst (IsLegal t.variant) (sym (moves-end before h)) grown in
+    let grown : IsLegal t.variant (half_moves before ++ half ∷ []) =
+    legal_lists.grows t.variant (half_moves before) half legal come.follows.allowed in
+    let longer : IsLegal t.variant (half_moves (before ++ h ∷ [])) =
+    subst (IsLegal t.variant) (sym (moves-end before h)) grown in
     let same : (before ++ h ∷ []) ++ rest ≡ before ++ h ∷ rest = append_assoc before (h ∷ []) rest in
-    subst (λ (l : List Half). IsLegal t.variant (half_moves l)) same (legal_behind t (before ++ h ∷ []) rest longer (subst (CanBePlayed t) (sym same) played))
+    subst (λ (l : List Half). IsLegal t.variant (half_moves l)) same
+    (legal_behind t (before ++ h ∷ []) rest longer (subst (CanBePlayed t) (sym same) played))
 
 legal : (t : Terms) (halves : List Half) → CanBePlayed t halves → IsLegal t.variant (half_moves halves)
 legal t halves played = legal_behind t [] halves (legal_lists.none t.variant) played
@@ -48,7 +55,8 @@ legal t halves played = legal_behind t [] halves (legal_lists.none t.variant) pl
 
 -- a handle may stand in a tag
 handle_text : (name : List ℕ) → IsHandle name → IsText name
-handle_text name h = record { bytes = recursive name (recursion_from_All IsAsciiAlphabetic name h.2); most = omega (arith, h.1) }
+handle_text name h =
+    record { bytes = recursive name (recursion_from_All IsAsciiAlphabetic name h.2); most = omega (arith, h.1) }
   where
     at_least : (b : ℕ) → 32 ≤ b → is_of_text b ≡ true
     at_least b l = grind (arith, nat_tests)
@@ -59,12 +67,14 @@ handle_text name h = record { bytes = recursive name (recursion_from_All IsAscii
 
     recursive : (name : List ℕ) → AllByRecursion IsAsciiAlphabetic name → list_all is_of_text name ≡ true
     recursive [] each = refl
-    recursive (b ∷ name) each = ap (λ (t : Bool). t && list_all is_of_text name) (letter b each.0) ∙ recursive name each.1
+    recursive (b ∷ name) each =
+        ap (λ (t : Bool). t && list_all is_of_text name) (letter b each.0) ∙ recursive name each.1
 
 on_one : (h : Half) → IsHalf Chess h → h.board ≡ 1
 on_one h is = omega (arith, is.first, is.last)
 
-one_board : (halves : List Half) → AllByRecursion (IsHalf Chess) halves → half_moves halves ≡ map on_board (map (λ h. h.what) halves)
+one_board : (halves : List Half) → AllByRecursion (IsHalf Chess) halves
+    → half_moves halves ≡ map on_board (map (λ h. h.what) halves)
 one_board [] each = refl
 one_board (h ∷ halves) each =
     ap (λ (b : ℕ). record { board = b; what = h.what } ∷ half_moves halves) (on_one h each.0)
@@ -74,14 +84,20 @@ same_length : (halves : List Half) → length (map (λ (h : Half). h.what) halve
 same_length [] = refl
 same_length (h ∷ halves) = ap suc (same_length halves)
 
-pub exportable : (g : StoredGame) (moves : List Move) (tags : TagRow) (white black : List ℕ) → IsStoredChess g → moves ≡ map (λ h. h.what) g.halves →
-    tags ≡ names_row white black → IsHandle white → IsHandle black → IsExportable (record { tags = tags; moves = moves; result = Open })
+pub exportable : (g : StoredGame) (moves : List Move) (tags : TagRow) (white black : List ℕ) → IsStoredChess g
+    → moves ≡ map (λ h. h.what) g.halves →
+    tags ≡ names_row white black → IsHandle white → IsHandle black
+    → IsExportable (record { tags = tags; moves = moves; result = Open })
 exportable g moves tags white black stored are is w b =
-    let halves : AreHalves Chess g.halves = subst (λ (v : Variant). AreHalves v g.halves) stored.variant stored.replays.spelled.halves in
+    let halves : AreHalves Chess g.halves =
+    subst (λ (v : Variant). AreHalves v g.halves) stored.variant stored.replays.spelled.halves in
     let lawful : IsLegal Chess (half_moves g.halves) =
-    subst (λ (v : Variant). IsLegal v (half_moves g.halves)) stored.variant (legal g.terms g.halves stored.replays.played) in
+    subst (λ (v : Variant). IsLegal v (half_moves g.halves)) stored.variant
+    (legal g.terms g.halves stored.replays.played) in
     subst (λ (l : List Move). IsExportable (record { tags = tags; moves = l; result = Open })) (sym are)
-    (subst (λ (row : TagRow). IsExportable (record { tags = row; moves = map (λ (h : Half). h.what) g.halves; result = Open })) (sym is)
+    (subst
+    (λ (row : TagRow). IsExportable (record { tags = row; moves = map (λ (h : Half). h.what) g.halves; result = Open }))
+    (sym is)
     (record {
       legal = subst (λ (T : List HalfMove). IsLegal Chess T) (one_board g.halves halves.each) lawful;
       most = omega (arith, same_length g.halves, halves.few);

@@ -14,12 +14,14 @@ pub record ExportsReadBack : Type 0 where
 
 -- reading from left to right finds whole games exactly in the texts that the grammar reads, and these games
 pub record ReaderReads : Type 0 where
-  pub sound : (text : List ℕ) (games : List PgnGame) → read_from (Some first_state) text ≡ record { games = games; whole = true }
+  pub sound : (text : List ℕ) (games : List PgnGame)
+      → read_from (Some first_state) text ≡ record { games = games; whole = true }
       → Reads text games
   pub complete : (text : List ℕ) (games : List PgnGame) → Reads text games
       → read_from (Some first_state) text ≡ record { games = games; whole = true }
 
--- a text is read alike however it is cut, and where no reading goes on behind its first bytes, the grammar reads nothing
+-- a text is read alike however it is cut, and where no reading goes on behind its first bytes, the grammar reads
+-- nothing
 -- that begins with them
 pub record ReadsInPieces : Type 0 where
   pub read : (s : Option State) (front rest : List ℕ) → read_from s (front ++ rest)

@@ -38,7 +38,8 @@ one_cut (c ∷ a) (d ∷ b) x y p q e =
 -- the word before the first blank
 word_of-fails : (bytes : List ℕ) → ((k : ℕ) → k < length bytes → is_blank (get_or bytes k 0) ≡ false) → IsWord bytes
 word_of-fails [] h = tt
-word_of-fails (byte ∷ bytes) h = (λ e. eqb-false byte blank (h 0 (omega arith)) e, word_of-fails bytes (λ k lt. h (suc k) (omega arith)))
+word_of-fails (byte ∷ bytes) h =
+    (λ e. eqb-false byte blank (h 0 (omega arith)) e, word_of-fails bytes (λ k lt. h (suc k) (omega arith)))
 
 pub word_of-none : (bytes : List ℕ) → position is_blank bytes ≡ None → IsWord bytes
 word_of-none bytes e =
@@ -46,29 +47,37 @@ word_of-none bytes e =
     let all : length bytes ≤ position_or_len is_blank bytes = grind (arith, common_steps) in
     word_of-fails bytes (λ k lt. fails_before_first is_blank bytes k 0 (omega arith))
 
-pub cut_at_first : (bytes : List ℕ) (place : ℕ) → position is_blank bytes ≡ Some place → (bytes ≡ take place bytes ++ blank ∷ drop (place + 1) bytes) × IsWord (take place bytes)
+pub cut_at_first : (bytes : List ℕ) (place : ℕ) → position is_blank bytes ≡ Some place
+    → (bytes ≡ take place bytes ++ blank ∷ drop (place + 1) bytes) × IsWord (take place bytes)
 cut_at_first bytes place e =
     let first = position-Some is_blank bytes place 0 e in
     let byte : get_or bytes place 0 ≡ blank = eqb-true (get_or bytes place 0) blank first.1 in
     let short = length-take place bytes in (
-      sym (take-append-drop place bytes) ∙ ap (λ (l : List ℕ). take place bytes ++ l) (drop_more bytes place 0 first.0 ∙ ap (λ (b : ℕ). b ∷ drop (place + 1) bytes) byte),
-      word_of-fails (take place bytes) (λ k lt. ap is_blank (get_or-take place bytes k 0 (omega arith)) ∙ first.2 k (omega arith)),
+      sym (take-append-drop place bytes)
+          ∙ ap (λ (l : List ℕ). take place bytes ++ l)
+          (drop_more bytes place 0 first.0 ∙ ap (λ (b : ℕ). b ∷ drop (place + 1) bytes) byte),
+      word_of-fails (take place bytes)
+          (λ k lt. ap is_blank (get_or-take place bytes k 0 (omega arith)) ∙ first.2 k (omega arith)),
     )
 
 -- ---- words that are read
 
 pub decimal_is_word : (n : ℕ) → n < 2 ^ 64 → IsWord (decimal n)
-decimal_is_word n small = each-weaker IsDigit (λ b. b ≢ blank) (λ b h e. omega arith) (decimal n) (digits_of_decimal n small)
+decimal_is_word n small =
+    each-weaker IsDigit (λ b. b ≢ blank) (λ b h e. omega arith) (decimal n) (digits_of_decimal n small)
 
 letter_is_no_blank : (b : ℕ) → IsAsciiAlphabetic b → b ≢ blank
 letter_is_no_blank b (inl h) e = omega arith
 letter_is_no_blank b (inr h) e = omega arith
 
 pub handle_is_word : (name : List ℕ) → IsHandle name → IsWord name
-handle_is_word name h = each-weaker IsAsciiAlphabetic (λ b. b ≢ blank) letter_is_no_blank name (recursion_from_All IsAsciiAlphabetic name h.2)
+handle_is_word name h =
+    each-weaker IsAsciiAlphabetic (λ b. b ≢ blank) letter_is_no_blank name
+    (recursion_from_All IsAsciiAlphabetic name h.2)
 
 -- a number at the front of a text, and what follows its blank, are fixed by the text
-pub one_number : (m n : ℕ) (x y : List ℕ) → m < 2 ^ 64 → n < 2 ^ 64 → decimal m ++ blank ∷ x ≡ decimal n ++ blank ∷ y → (m ≡ n) × (x ≡ y)
+pub one_number : (m n : ℕ) (x y : List ℕ) → m < 2 ^ 64 → n < 2 ^ 64 → decimal m ++ blank ∷ x ≡ decimal n ++ blank ∷ y
+    → (m ≡ n) × (x ≡ y)
 one_number m n x y p q e =
     let parts = one_cut (decimal m) (decimal n) x y (decimal_is_word m p) (decimal_is_word n q) e in
     (decimal_injective m n p q parts.0, parts.1)

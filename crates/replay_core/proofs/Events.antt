@@ -33,7 +33,8 @@ sign-first (Ack stamp) = refl
 same_sign : (one other : ScriptEvent) → event_text one ≡ event_text other → sign_of one ≡ sign_of other
 same_sign one other e = sym (sign-first one) ∙ ap first_of_text e ∙ sign-first other
 
-one_stamped : (m n : ℕ) (x y : List ℕ) → m < 10000000 → n < 10000000 → 42 ∷ blank ∷ (decimal m ++ blank ∷ x) ≡ 42 ∷ blank ∷ (decimal n ++ blank ∷ y) → Stamped m x ≡ Stamped n y
+one_stamped : (m n : ℕ) (x y : List ℕ) → m < 10000000 → n < 10000000
+    → 42 ∷ blank ∷ (decimal m ++ blank ∷ x) ≡ 42 ∷ blank ∷ (decimal n ++ blank ∷ y) → Stamped m x ≡ Stamped n y
 one_stamped m n x y p q e =
     let both : decimal m ++ blank ∷ x ≡ decimal n ++ blank ∷ y = cc in
     let one = one_number m n x y (omega arith) (omega arith) both in
@@ -98,7 +99,8 @@ is_ack (Plain text) e = absurd (omega arith)
 is_ack (Stamped stamp text) e = absurd (omega arith)
 is_ack (Ack stamp) e = (stamp, refl)
 
-pub one_event : (one other : ScriptEvent) → IsScriptEvent one → IsScriptEvent other → event_text one ≡ event_text other → one ≡ other
+pub one_event : (one other : ScriptEvent) → IsScriptEvent one → IsScriptEvent other → event_text one ≡ event_text other
+    → one ≡ other
 one_event Connect other p q e = sym (is_connect other (sym (same_sign Connect other e)))
 one_event Cut other p q e = sym (is_cut other (sym (same_sign Cut other e)))
 one_event Quiet other p q e = sym (is_quiet other (sym (same_sign Quiet other e)))
@@ -113,14 +115,20 @@ one_event (Ack m) other p q e =
     let found = is_ack other (sym (same_sign (Ack m) other e)) in
     one_ack m found.0 p (subst IsScriptEvent found.1 q) (e ∙ ap event_text found.1) ∙ sym found.1
 
-same_line : (one other : ScriptLine) → one.moment ≡ other.moment → one.session ≡ other.session → one.event ≡ other.event → one ≡ other
+same_line : (one other : ScriptLine) → one.moment ≡ other.moment → one.session ≡ other.session → one.event ≡ other.event
+    → one ≡ other
 same_line one other moment session event =
     ap (λ (n : ℕ). record one { moment = n }) moment
     ∙ ap (λ (n : ℕ). record one { moment = other.moment; session = n }) session
     ∙ ap (λ (e : ScriptEvent). record other { event = e }) event
 
-pub one_line : (one other : ScriptLine) → IsScriptLine one → IsScriptLine other → script_text one ≡ script_text other → one ≡ other
+pub one_line : (one other : ScriptLine) → IsScriptLine one → IsScriptLine other → script_text one ≡ script_text other
+    → one ≡ other
 one_line one other p q e =
-    let moment = one_number one.moment other.moment (decimal one.session ++ blank ∷ event_text one.event) (decimal other.session ++ blank ∷ event_text other.event) (omega (arith, p.moment)) (omega (arith, q.moment)) e in
-    let session = one_number one.session other.session (event_text one.event) (event_text other.event) (omega (arith, p.last)) (omega (arith, q.last)) moment.1 in
+    let moment =
+    one_number one.moment other.moment (decimal one.session ++ blank ∷ event_text one.event)
+    (decimal other.session ++ blank ∷ event_text other.event) (omega (arith, p.moment)) (omega (arith, q.moment)) e in
+    let session =
+    one_number one.session other.session (event_text one.event) (event_text other.event) (omega (arith, p.last))
+    (omega (arith, q.last)) moment.1 in
     same_line one other moment.0 session.0 (one_event one.event other.event p.event q.event session.1)

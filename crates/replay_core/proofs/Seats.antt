@@ -21,12 +21,16 @@ use Rattle.replay_core.proofs.Cuts.{one_cut, one_number, decimal_is_word, handle
 use Rattle.fics_words.proofs.Digits.{IsDigit, digits_of_decimal}
 
 -- one word more
-pub words_before-push : (words : List (List ℕ)) (word rest : List ℕ) → words_before (words ++ word ∷ []) rest ≡ words_before words (word ++ blank ∷ rest)
+pub words_before-push : (words : List (List ℕ)) (word rest : List ℕ)
+    → words_before (words ++ word ∷ []) rest ≡ words_before words (word ++ blank ∷ rest)
 words_before-push [] word rest = refl
-words_before-push (first ∷ words) word rest = ap (λ (t : List ℕ). first ++ blank ∷ t) (words_before-push words word rest)
+words_before-push (first ∷ words) word rest =
+    ap (λ (t : List ℕ). first ++ blank ∷ t) (words_before-push words word rest)
 
 -- the words of the line: the first, the names, and the three behind them
-pub seat_split : (first : List ℕ) (names : List (List ℕ)) (a b c : List ℕ) → join_with_byte blank (first ∷ (names ++ a ∷ b ∷ c ∷ [])) ≡ first ++ blank ∷ words_before names (a ++ blank ∷ (b ++ blank ∷ c))
+pub seat_split : (first : List ℕ) (names : List (List ℕ)) (a b c : List ℕ)
+    → join_with_byte blank (first ∷ (names ++ a ∷ b ∷ c ∷ []))
+    ≡ first ++ blank ∷ words_before names (a ++ blank ∷ (b ++ blank ∷ c))
 seat_split first [] a b c = refl
 seat_split first (name ∷ names) a b c = ap (λ (t : List ℕ). first ++ blank ∷ t) (seat_split name names a b c)
 
@@ -46,7 +50,8 @@ number_no_handle n rest small name more h e =
     digits_no_handle (decimal n) (digits_of_decimal n small) (subst IsHandle (sym one.0) h)
 
 -- the handles at the front of a text, and what follows them, are fixed by the text
-pub one_run : (ns ms : List (List ℕ)) (x y : List ℕ) → AllByRecursion IsHandle ns → AllByRecursion IsHandle ms → NoHandle x → NoHandle y → words_before ns x ≡ words_before ms y → (ns ≡ ms) × (x ≡ y)
+pub one_run : (ns ms : List (List ℕ)) (x y : List ℕ) → AllByRecursion IsHandle ns → AllByRecursion IsHandle ms
+    → NoHandle x → NoHandle y → words_before ns x ≡ words_before ms y → (ns ≡ ms) × (x ≡ y)
 one_run [] [] x y p q f g e = (refl, e)
 one_run [] (m ∷ ms) x y p q f g e = absurd (f m (words_before ms y) q.0 e)
 one_run (n ∷ ns) [] x y p q f g e = absurd (g n (words_before ns x) p.0 (sym e))
@@ -58,9 +63,17 @@ one_run (n ∷ ns) (m ∷ ms) x y p q f g e =
     (cc, rest.1)
 
 -- the player of the key isn't among the names before a place
-pub not_before : (names : List (List ℕ)) (place : ℕ) (key : List ℕ) → place ≤ length names → (Any (λ name. key_of name ≡ key) (take place names) → ⊥) → (k : ℕ) (d : List ℕ) → k < place → key_of (get_or names k d) ≢ key
+pub not_before : (names : List (List ℕ)) (place : ℕ) (key : List ℕ) → place ≤ length names
+    → (Any (λ name. key_of name ≡ key) (take place names) → ⊥) → (k : ℕ) (d : List ℕ) → k < place
+    → key_of (get_or names k d) ≢ key
 not_before names place key le none k d lt e =
-    none (k, get_or names k d, omega (arith, length-take place names), get_or-take place names k (get_or names k d) lt ∙ get_or_default names k (get_or names k d) d (omega arith), e)
+    none (
+      k,
+      get_or names k d,
+      omega (arith, length-take place names),
+      get_or-take place names k (get_or names k d) lt ∙ get_or_default names k (get_or names k d) d (omega arith),
+      e,
+    )
 
 -- ---- terms and seat lines
 
@@ -70,7 +83,8 @@ first_byte word = get_or word 0 0
 -- the word of an array is fixed by the number, and no other variant's
 one_array : (m n : ℕ) → m < 960 → n < 960 → word_of (Fischer m) ≡ word_of (Fischer n) → m ≡ n
 one_array m n few less e =
-    let digits : decimal (m % 960) ≡ decimal (n % 960) = append_cancel_left (codes "fischer ") (decimal (m % 960)) (decimal (n % 960)) e in
+    let digits : decimal (m % 960) ≡ decimal (n % 960) =
+    append_cancel_left (codes "fischer ") (decimal (m % 960)) (decimal (n % 960)) e in
     let same : m % 960 ≡ n % 960 = decimal_injective (m % 960) (n % 960) (omega arith) (omega arith) digits in
     omega (arith, few, less, same)
 
@@ -92,7 +106,8 @@ one_variant (Fischer m) Crazyhouse p q e = let first : 102 ≡ 99 = ap first_byt
 one_variant (Fischer m) Bughouse p q e = let first : 102 ≡ 98 = ap first_byte e in absurd (omega (arith, first))
 one_variant (Fischer m) (Fischer n) p q e = ap (λ (k : ℕ). Fischer k) (one_array m n p q e)
 
-same_terms : (a b : Terms) → a.minutes ≡ b.minutes → a.increment ≡ b.increment → a.variant ≡ b.variant → a.colour ≡ b.colour → a ≡ b
+same_terms : (a b : Terms) → a.minutes ≡ b.minutes → a.increment ≡ b.increment → a.variant ≡ b.variant
+    → a.colour ≡ b.colour → a ≡ b
 same_terms a b minutes increment variant colour =
     ap (λ (n : ℕ). record a { minutes = n }) minutes
     ∙ ap (λ (n : ℕ). record a { minutes = b.minutes; increment = n }) increment
@@ -101,21 +116,32 @@ same_terms a b minutes increment variant colour =
 
 pub one_terms : (a b : Terms) → AreSeatTerms a → AreSeatTerms b → terms_text a ≡ terms_text b → a ≡ b
 one_terms a b p q e =
-    let minutes = one_number a.minutes b.minutes (decimal a.increment ++ blank ∷ word_of a.variant) (decimal b.increment ++ blank ∷ word_of b.variant) (omega (arith, p.minutes)) (omega (arith, q.minutes)) e in
-    let increment = one_number a.increment b.increment (word_of a.variant) (word_of b.variant) (omega (arith, p.increment)) (omega (arith, q.increment)) minutes.1 in
+    let minutes =
+    one_number a.minutes b.minutes (decimal a.increment ++ blank ∷ word_of a.variant)
+    (decimal b.increment ++ blank ∷ word_of b.variant) (omega (arith, p.minutes)) (omega (arith, q.minutes)) e in
+    let increment =
+    one_number a.increment b.increment (word_of a.variant) (word_of b.variant) (omega (arith, p.increment))
+    (omega (arith, q.increment)) minutes.1 in
     let variant = one_variant a.variant b.variant p.numbered q.numbered increment.1 in
     same_terms a b minutes.0 increment.0 variant (p.white ∙ sym q.white)
 
 pub terms_no_handle : (terms : Terms) → AreSeatTerms terms → NoHandle (terms_text terms)
-terms_no_handle terms h = number_no_handle terms.minutes (decimal terms.increment ++ blank ∷ word_of terms.variant) (omega (arith, h.minutes))
+terms_no_handle terms h =
+    number_no_handle terms.minutes (decimal terms.increment ++ blank ∷ word_of terms.variant) (omega (arith, h.minutes))
 
 -- the names and the terms behind the first word are those of the line
-pub one_seat : (seat : SeatLine) → IsSeatLine seat → (rest : List ℕ) (names : List (List ℕ)) (tail : List ℕ) → codes "seat" ++ blank ∷ rest ≡ seat_text seat → rest ≡ words_before names tail → AllByRecursion IsHandle names → NoHandle tail → (names ≡ seat.names) × (tail ≡ terms_text seat.terms)
+pub one_seat : (seat : SeatLine) → IsSeatLine seat → (rest : List ℕ) (names : List (List ℕ)) (tail : List ℕ)
+    → codes "seat" ++ blank ∷ rest ≡ seat_text seat → rest ≡ words_before names tail → AllByRecursion IsHandle names
+    → NoHandle tail → (names ≡ seat.names) × (tail ≡ terms_text seat.terms)
 one_seat seat h rest names tail line parts handles end =
-    let split = seat_split (codes "seat") seat.names (decimal seat.terms.minutes) (decimal seat.terms.increment) (word_of seat.terms.variant) in
-    let both : codes "seat" ++ blank ∷ rest ≡ codes "seat" ++ blank ∷ words_before seat.names (terms_text seat.terms) = line ∙ split in
+    let split =
+    seat_split (codes "seat") seat.names (decimal seat.terms.minutes) (decimal seat.terms.increment)
+    (word_of seat.terms.variant) in
+    let both : codes "seat" ++ blank ∷ rest ≡ codes "seat" ++ blank ∷ words_before seat.names (terms_text seat.terms) =
+    line ∙ split in
     let same : rest ≡ words_before seat.names (terms_text seat.terms) = cc in
-    one_run names seat.names tail (terms_text seat.terms) handles (recursion_from_All IsHandle seat.names h.handles) end (terms_no_handle seat.terms h.terms) (sym parts ∙ same)
+    one_run names seat.names tail (terms_text seat.terms) handles (recursion_from_All IsHandle seat.names h.handles) end
+    (terms_no_handle seat.terms h.terms) (sym parts ∙ same)
 
 same_seat : (one other : SeatLine) → one.names ≡ other.names → one.terms ≡ other.terms → one ≡ other
 same_seat one other names terms =
@@ -123,18 +149,29 @@ same_seat one other names terms =
     ∙ ap (λ (t : Terms). record other { terms = t }) terms
 
 -- a seat line is fixed by how it is written
-pub one_seat_line : (one other : SeatLine) → IsSeatLine one → IsSeatLine other → seat_text one ≡ seat_text other → one ≡ other
+pub one_seat_line : (one other : SeatLine) → IsSeatLine one → IsSeatLine other → seat_text one ≡ seat_text other
+    → one ≡ other
 one_seat_line one other p q e =
-    let split = seat_split (codes "seat") one.names (decimal one.terms.minutes) (decimal one.terms.increment) (word_of one.terms.variant) in
-    let parts = one_seat other q (words_before one.names (terms_text one.terms)) one.names (terms_text one.terms) (sym split ∙ e) refl (recursion_from_All IsHandle one.names p.handles) (terms_no_handle one.terms p.terms) in
+    let split =
+    seat_split
+    (codes "seat") one.names (decimal one.terms.minutes) (decimal one.terms.increment) (word_of one.terms.variant) in
+    let parts =
+    one_seat other q (words_before one.names (terms_text one.terms)) one.names (terms_text one.terms) (sym split ∙ e)
+    refl (recursion_from_All IsHandle one.names p.handles) (terms_no_handle one.terms p.terms) in
     same_seat one other parts.0 (one_terms one.terms other.terms p.terms q.terms parts.1)
 
 -- the first word of a seat line is no decimal
-pub seat_apart : (seat : SeatLine) (line : ScriptLine) → IsSeatLine seat → IsScriptLine line → seat_text seat ≢ script_text line
+pub seat_apart : (seat : SeatLine) (line : ScriptLine) → IsSeatLine seat → IsScriptLine line
+    → seat_text seat ≢ script_text line
 seat_apart seat line h p e =
-    let split = seat_split (codes "seat") seat.names (decimal seat.terms.minutes) (decimal seat.terms.increment) (word_of seat.terms.variant) in
+    let split =
+    seat_split (codes "seat") seat.names (decimal seat.terms.minutes) (decimal seat.terms.increment)
+    (word_of seat.terms.variant) in
     let small : line.moment < 2 ^ 64 = omega (arith, p.moment) in
-    let word : IsWord (codes "seat") = (λ e. omega arith, (λ e. omega arith, (λ e. omega arith, (λ e. omega arith, tt)))) in
-    let cut = one_cut (codes "seat") (decimal line.moment) (words_before seat.names (terms_text seat.terms)) (decimal line.session ++ blank ∷ event_text line.event) word (decimal_is_word line.moment small) (sym split ∙ e) in
+    let word : IsWord
+    (codes "seat") = (λ e. omega arith, (λ e. omega arith, (λ e. omega arith, (λ e. omega arith, tt)))) in
+    let cut =
+    one_cut (codes "seat") (decimal line.moment) (words_before seat.names (terms_text seat.terms))
+    (decimal line.session ++ blank ∷ event_text line.event) word (decimal_is_word line.moment small) (sym split ∙ e) in
     let digits = subst (AllByRecursion IsDigit) (sym cut.0) (digits_of_decimal line.moment small) in
     omega (arith, digits.0)

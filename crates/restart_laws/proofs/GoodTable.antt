@@ -54,40 +54,53 @@ account_row key bytes account typed at text = record {
   own = sym (same_key (account_key (key_of account.name)) key at);
 }
 
-game_row : (key bytes : List ℕ) (row : Shelved) → IsKept row → is_game_at key row ≡ true → spelling (a.Game row.game) ≡ bytes
+game_row : (key bytes : List ℕ) (row : Shelved) → IsKept row → is_game_at key row ≡ true
+    → spelling (a.Game row.game) ≡ bytes
     → IsGameRow row.number row.game (key, bytes)
 game_row key bytes row kept at text = record {
-  spelled = record { typed = (kept.handles, on_the_board row.game kept.replays); bounds = kept.replays.spelled; text = sym text };
+  spelled =
+      record {
+        typed = (kept.handles, on_the_board row.game kept.replays);
+        bounds = kept.replays.spelled;
+        text = sym text;
+      };
   own = sym (same_key (game_key row.number) key at);
   positive = kept.positive;
   small = kept.small;
   replays = kept.replays;
 }
 
-row_by : (key bytes : List ℕ) (one : Option Account) (other : Option Shelved) → IfSome one (λ x. IsTyped (a.Account x)) → IfSome one (λ x. is_account_at key x ≡ true)
-    → IfSome other IsKept → IfSome other (λ x. is_game_at key x ≡ true) → either_record (account_record one) (game_record other) ≡ Some bytes
+row_by : (key bytes : List ℕ) (one : Option Account) (other : Option Shelved) → IfSome one (λ x. IsTyped (a.Account x))
+    → IfSome one (λ x. is_account_at key x ≡ true)
+    → IfSome other IsKept → IfSome other (λ x. is_game_at key x ≡ true)
+    → either_record (account_record one) (game_record other) ≡ Some bytes
     → IsAccount (key, bytes) ⊎ IsGame (key, bytes)
 row_by key bytes None None typed at kept found e = absurd cc
 row_by key bytes None (Some row) typed at kept found e =
-    let text : spelling (a.Game row.game) ≡ bytes = cc in inr (row.number, row.game, game_row key bytes row kept found text)
+    let text : spelling (a.Game row.game) ≡ bytes = cc in
+    inr (row.number, row.game, game_row key bytes row kept found text)
 row_by key bytes (Some account) other typed at kept found e =
     let text : spelling (a.Account account) ≡ bytes = cc in inl (account, account_row key bytes account typed at text)
 
-module _ (accounts : List Account) (games : List Shelved) (typed : All (λ x. IsTyped (a.Account x)) accounts) (kept : All IsKept games) where
-  wanted_row : (key bytes : List ℕ) → wanted accounts games key ≡ Some bytes → IsAccount (key, bytes) ⊎ IsGame (key, bytes)
+module _ (accounts : List Account) (games : List Shelved) (typed : All (λ x. IsTyped (a.Account x)) accounts)
+    (kept : All IsKept games) where
+  wanted_row : (key bytes : List ℕ) → wanted accounts games key ≡ Some bytes
+      → IsAccount (key, bytes) ⊎ IsGame (key, bytes)
   wanted_row key bytes e =
       row_by key bytes (find (is_account_at key) accounts) (find (is_game_at key) games)
       (found_is (λ x. IsTyped (a.Account x)) (is_account_at key) accounts typed) (found_so (is_account_at key) accounts)
       (found_is IsKept (is_game_at key) games kept) (found_so (is_game_at key) games) e
 
-  each_row : (done rest : Pairs) → IsAscending (done ++ rest) → ((key : List ℕ) → wanted accounts games key ≡ find_row keys_order key (done ++ rest))
+  each_row : (done rest : Pairs) → IsAscending (done ++ rest)
+      → ((key : List ℕ) → wanted accounts games key ≡ find_row keys_order key (done ++ rest))
       → All (λ row. IsAccount row ⊎ IsGame row) rest
   each_row done [] rise holds = All-nil (λ row. IsAccount row ⊎ IsGame row)
   each_row done (row ∷ rest) rise holds =
       let again : (done ++ row ∷ []) ++ rest ≡ done ++ row ∷ rest = append_assoc done (row ∷ []) rest in
       All-cons (λ x. IsAccount x ⊎ IsGame x) row rest
       (wanted_row row.0 row.1 (holds row.0 ∙ find-itself done rest row rise))
-      (each_row (done ++ row ∷ []) rest (subst IsAscending (sym again) rise) (λ key. holds key ∙ ap (find_row keys_order key) (sym again)))
+      (each_row (done ++ row ∷ []) rest (subst IsAscending (sym again) rise)
+      (λ key. holds key ∙ ap (find_row keys_order key) (sym again)))
 
 -- ---- the table
 
@@ -95,7 +108,8 @@ true_of : (b : Bool) → T b → b ≡ true
 true_of true h = refl
 true_of false h = absurd h
 
-pub good_table : (table : Records) (lobby : LobbyState) → IsWellFormed lobby → AreOfTypes lobby → ((key : List ℕ) → held table key ≡ wanted_by lobby key)
+pub good_table : (table : Records) (lobby : LobbyState) → IsWellFormed lobby → AreOfTypes lobby
+    → ((key : List ℕ) → held table key ≡ wanted_by lobby key)
     → IsGoodStore table
 good_table table lobby formed types holds =
     let rows : Pairs = map.entries table in
@@ -103,17 +117,29 @@ good_table table lobby formed types holds =
     let games = lobby.shelf.games in
     let sound = formed.shelf.sound in
     let rise : IsAscending rows = true_of _ (entries_sorted table) in
-    let found : (key : List ℕ) → wanted accounts games key ≡ find_row keys_order key rows = λ key. sym (holds key) ∙ get-entries table key in
+    let found : (key : List ℕ) → wanted accounts games key ≡ find_row keys_order key rows = λ key.
+    sym (holds key) ∙ get-entries table key in
     let positive = positive_numbers 0 games sound.numbers in
     let small = small_numbers 0 games sound.numbers in
     let kept : All IsKept games =
-    λ k d lt. record { replays = sound.replay k d lt; handles = types.players k d lt; positive = positive k d lt; small = small k d lt } in
+    λ k d lt.
+    record {
+      replays = sound.replay k d lt;
+      handles = types.players k d lt;
+      positive = positive k d lt;
+      small = small k d lt;
+    } in
     let made : HasRows rows (opening_with accounts games) = record {
       wanted = found;
       opening = record { nobody = refl; no_game = refl; no_orders = refl; else_opening = refl };
       spelled = record {
         accounts = λ k d lt. record { typed = types.accounts k d lt; bounds = tt; text = refl };
-        games = λ k d lt. record { typed = (types.players k d lt, on_the_board _ (sound.replay k d lt)); bounds = (sound.replay k d lt).spelled; text = refl };
+        games = λ k d lt.
+            record {
+              typed = (types.players k d lt, on_the_board _ (sound.replay k d lt));
+              bounds = (sound.replay k d lt).spelled;
+              text = refl;
+            };
       };
       each = each_row accounts games types.accounts kept [] rows rise found;
       in_order = sound.numbers;

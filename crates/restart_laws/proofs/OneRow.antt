@@ -53,38 +53,48 @@ one_account (Some one) (Some other) e =
 abbrev IsOwn : Shelved → Type 0
 IsOwn row = IsSpelled (a.Game row.game) (spelling (a.Game row.game))
 
-own_test : (number : ℕ) (row : Shelved) → number < 2 ^ 64 → row.number < 2 ^ 64 → is_game_at (game_key number) row ≡ has_number number row
+own_test : (number : ℕ) (row : Shelved) → number < 2 ^ 64 → row.number < 2 ^ 64
+    → is_game_at (game_key number) row ≡ has_number number row
 own_test number row fits small =
     both_ways (is_game_at (game_key number) row) (has_number number row)
-    (λ same. eq-eqb row.number number (one_game row.number number small fits (same_key (game_key row.number) (game_key number) same)))
-    (λ same. (bytes_eq-Decides (game_key row.number) (game_key number)).1 (ap game_key (eqb-true row.number number same)))
+    (λ same.
+    eq-eqb row.number number
+    (one_game row.number number small fits (same_key (game_key row.number) (game_key number) same)))
+    (λ same.
+    (bytes_eq-Decides (game_key row.number) (game_key number)).1 (ap game_key (eqb-true row.number number same)))
 
 found_by_number : (number : ℕ) (games : List Shelved) → number < 2 ^ 64 → All (λ row. row.number < 2 ^ 64) games
     → find (is_game_at (game_key number)) games ≡ find (has_number number) games
 found_by_number number [] fits small = refl
 found_by_number number (row ∷ games) fits small =
     let P : Shelved → Type 0 = λ z. z.number < 2 ^ 64 in
-    ap (λ t. cond t (Some row) (find (is_game_at (game_key number)) games)) (own_test number row fits (All-head P row games small))
-    ∙ ap (λ r. cond (has_number number row) (Some row) r) (found_by_number number games fits (All-tail P row games small))
+    ap (λ t. cond t (Some row) (find (is_game_at (game_key number)) games))
+    (own_test number row fits (All-head P row games small))
+    ∙ ap (λ r. cond (has_number number row) (Some row) r)
+    (found_by_number number games fits (All-tail P row games small))
 
 -- under the key of a number stands the record of its game
 under_number : (accounts : List Account) (games : List Shelved) (number : ℕ) → number < 2 ^ 64 → RiseAbove 0 games
     → wanted accounts games (game_key number) ≡ game_record (find (has_number number) games)
 under_number accounts games number fits rise =
-    ap (λ r. either_record (account_record r) (game_record (find (is_game_at (game_key number)) games))) (no_account accounts number)
+    ap (λ r. either_record (account_record r) (game_record (find (is_game_at (game_key number)) games)))
+    (no_account accounts number)
     ∙ ap game_record (found_by_number number games fits (small_numbers 0 games rise))
 
-one_game_in : (one other : Option Shelved) → IfSome one (λ row. Replays row.game) → IfSome other IsOwn → game_record one ≡ game_record other
+one_game_in : (one other : Option Shelved) → IfSome one (λ row. Replays row.game) → IfSome other IsOwn
+    → game_record one ≡ game_record other
     → game_in one ≡ game_in other
 one_game_in None None replays own e = refl
 one_game_in None (Some row) replays own e = absurd cc
 one_game_in (Some row) None replays own e = absurd cc
 one_game_in (Some one) (Some other) replays own e =
-    let texts : game_text one.game ≡ game_text other.game = cc in ap Some (same_stored one.game other.game replays own texts)
+    let texts : game_text one.game ≡ game_text other.game = cc in
+    ap Some (same_stored one.game other.game replays own texts)
 
 -- ---- both
 
-module _ (accounts others : List Account) (games rows : List Shelved) (same : (key : List ℕ) → wanted others rows key ≡ wanted accounts games key) where
+module _ (accounts others : List Account) (games rows : List Shelved)
+    (same : (key : List ℕ) → wanted others rows key ≡ wanted accounts games key) where
   pub same_accounts : (letters : List ℕ) → account_of others letters ≡ account_of accounts letters
   same_accounts letters =
       one_account (account_of others letters) (account_of accounts letters)
@@ -94,5 +104,7 @@ module _ (accounts others : List Account) (games rows : List Shelved) (same : (k
       → (number : ℕ) → number < 2 ^ 64 → stored_game games number ≡ stored_game rows number
   same_stored_games rise rise_too replay own number fits =
       one_game_in (find (has_number number) games) (find (has_number number) rows)
-      (found_is (λ row. Replays row.game) (has_number number) games replay) (found_is IsOwn (has_number number) rows own)
-      (sym (under_number accounts games number fits rise) ∙ sym (same (game_key number)) ∙ under_number others rows number fits rise_too)
+      (found_is (λ row. Replays row.game) (has_number number) games replay)
+      (found_is IsOwn (has_number number) rows own)
+      (sym (under_number accounts games number fits rise) ∙ sym (same (game_key number))
+      ∙ under_number others rows number fits rise_too)

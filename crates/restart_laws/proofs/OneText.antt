@@ -32,7 +32,8 @@ account name digest = record { name = name; digest = digest }
 pub same_account : (one other : Account) → account_text one ≡ account_text other → one ≡ other
 same_account one other e =
     let rest : name_text one.name ++ one.digest ≡ name_text other.name ++ other.digest = ap (drop 2) e in
-    let names : one.name ≡ other.name = sym (name-read one.name one.digest) ∙ ap name_in rest ∙ name-read other.name other.digest in
+    let names : one.name ≡ other.name =
+    sym (name-read one.name one.digest) ∙ ap name_in rest ∙ name-read other.name other.digest in
     let digests : one.digest ≡ other.digest =
     sym (name-behind one.name one.digest) ∙ ap behind_name rest ∙ name-behind other.name other.digest in
     ap (λ (n : List ℕ). account n one.digest) names ∙ ap (account other.name) digests
@@ -44,7 +45,8 @@ squares_of p (Plain from to promo) is = (is.from, is.to)
 squares_of p (Castle long) is = tt
 squares_of p (Drop man to) is = is.square
 
-squares_from : (t : Terms) (before rest : List Half) → CanBePlayed t (before ++ rest) → AllByRecursion (λ h. AreSquares h.what) rest
+squares_from : (t : Terms) (before rest : List Half) → CanBePlayed t (before ++ rest)
+    → AllByRecursion (λ h. AreSquares h.what) rest
 squares_from t before [] can = tt
 squares_from t before (h ∷ rest) can = (
   squares_of (position_on t.variant before h.board) h.what (can.each before rest h refl).follows.allowed.move,
@@ -84,7 +86,8 @@ names_back : (g : StoredGame) → IsGame g → names_told (game_text g) ≡ g.na
 unfolding names_told
 names_back g h =
     let v = g.terms.variant in
-    ap (λ (w : Variant). names_in (seats w) (drop 4 (behind_variant (game_text g)))) (variant-read v (body g) h.terms.array)
+    ap (λ (w : Variant). names_in (seats w) (drop 4 (behind_variant (game_text g))))
+    (variant-read v (body g) h.terms.array)
     ∙ ap (λ (l : List ℕ). names_in (seats v) (drop 4 l)) (variant-behind v (body g))
     ∙ ap (names_in (seats v)) (two_two-behind g.terms.minutes g.terms.increment (names_part g))
     ∙ ap (λ (n : ℕ). names_in n (names_part g)) (sym h.players)
@@ -99,5 +102,6 @@ same_stored one other replays spelled e =
     let handles : AllByRecursion IsHandle one.names = subst (AllByRecursion IsHandle) names spelled.typed.0 in
     let own : IsSpelled (a.Game one) (game_text one) =
     record { typed = (handles, on_the_board one replays); bounds = replays.spelled; text = refl } in
-    let its : IsSpelled (a.Game other) (game_text one) = record { typed = spelled.typed; bounds = spelled.bounds; text = e } in
+    let its : IsSpelled (a.Game other) (game_text one) =
+    record { typed = spelled.typed; bounds = spelled.bounds; text = e } in
     same_game one other (one_spelled (a.Game one) (a.Game other) (game_text one) own its)

@@ -44,35 +44,45 @@ use Rattle.steward_core.specs.declared.turn.StewardEnd.TheVariants as steward
 
 -- ---- lobbies of whole states
 
-formed_in : (parts : List Part) (lobby : LobbyState) → IsWhole parts → slice_get parts 0 ≡ Some (TheLobby lobby) → IsWellFormed lobby
-formed_in parts lobby whole there = subst IsWellFormed (one_lobby parts whole.lobby lobby whole.first there) whole.formed
+formed_in : (parts : List Part) (lobby : LobbyState) → IsWhole parts → slice_get parts 0 ≡ Some (TheLobby lobby)
+    → IsWellFormed lobby
+formed_in parts lobby whole there =
+    subst IsWellFormed (one_lobby parts whole.lobby lobby whole.first there) whole.formed
 
 first_part : (lobby : LobbyState) → slice_get (opened lobby) 0 ≡ Some (TheLobby lobby)
 unfolding opened
 first_part lobby = refl
 
-module _ (old new : Store) (first : LobbyState) (end : ServeEnd) (pass : PassState) (evening : Evening old new first end pass) where
+module _ (old new : Store) (first : LobbyState) (end : ServeEnd) (pass : PassState)
+    (evening : Evening old new first end pass) where
   abbrev at_end : List Part
   at_end = state house pass.opening pass.seen
 
   opens_formed : IsWellFormed first
-  opens_formed = formed_in (opened first) first (subst IsWhole evening.served.hall.opens evening.served.hall.opens_whole) (first_part first)
+  opens_formed =
+      formed_in (opened first) first (subst IsWhole evening.served.hall.opens evening.served.hall.opens_whole)
+      (first_part first)
 
   ends_formed : (last : LobbyState) → EndsWith pass last → IsWellFormed last
   ends_formed last ends =
-      formed_in at_end last (stays_whole house house_lawful pass.opening pass.seen evening.served.hall.opens_whole evening.served.hall.legal) ends
+      formed_in at_end last
+      (stays_whole house house_lawful pass.opening pass.seen evening.served.hall.opens_whole evening.served.hall.legal)
+      ends
 
   -- what the table agrees with
   agrees_at_end : IfSome old.table (λ table. TellsAgreed new.table at_end)
   agrees_at_end =
-      table_agrees evening.shows first end evening.door evening.before evening.after old evening.loaded new pass evening.opens evening.served
+      table_agrees evening.shows first end evening.door evening.before evening.after old evening.loaded new pass
+      evening.opens evening.served
 
   -- no order stands where serving ended well
   none_stand : (last : LobbyState) → EndsWith pass last → IsClean end
       → (last.shelf.orders ≡ []) ⊎ (evening.served.last ≡ steward.Done (most_answers * 16))
   none_stand last ends clean =
       let served = evening.served in
-      by served.last (clean_last end served.last (text_last end pass.short served.last evening.door pass.splits evening.before evening.after served.text) clean)
+      by served.last
+      (clean_last end served.last
+      (text_last end pass.short served.last evening.door pass.splits evening.before evening.after served.text) clean)
       served.steward.orders
     where
       by : (turn : StewardEnd) → IsDone turn → LeavesNoOrders turn at_end
@@ -84,15 +94,19 @@ module _ (old new : Store) (first : LobbyState) (end : ServeEnd) (pass : PassSta
 
   resumes_in_each : (part rest : Log) → pass.seen ≡ part ++ rest → ResumesAsLeft (state house pass.opening part)
   resumes_in_each part rest is =
-      let all : Legal house pass.opening (part ++ rest) = subst (Legal house pass.opening) is evening.served.hall.legal in
+      let all : Legal house pass.opening (part ++ rest) =
+      subst (Legal house pass.opening) is evening.served.hall.legal in
       resumes_as_left (state house pass.opening part)
-      (stays_whole house house_lawful pass.opening part evening.served.hall.opens_whole (legal_front house pass.opening part rest all))
+      (stays_whole house house_lawful pass.opening part evening.served.hall.opens_whole
+      (legal_front house pass.opening part rest all))
 
 -- ---- the table between the two
 
 -- a table that one left and the next one loaded
-behind : (told again : Option Records) (parts : List Part) (last next : LobbyState) → slice_get parts 0 ≡ Some (TheLobby last)
-    → TellsAgreed told parts → Stays told again → IfSome again (λ table. HasLoaded table next) → AgreesWith (wanted_by next) last
+behind : (told again : Option Records) (parts : List Part) (last next : LobbyState)
+    → slice_get parts 0 ≡ Some (TheLobby last)
+    → TellsAgreed told parts → Stays told again → IfSome again (λ table. HasLoaded table next)
+    → AgreesWith (wanted_by next) last
 behind None again parts last next ends (table, is, agrees) stays loads = absurd cc
 behind (Some left) None parts last next ends (table, is, agrees) stays loads = absurd stays
 behind (Some left) (Some found) parts last next ends (table, is, agrees) stays loads = λ key.
@@ -107,21 +121,27 @@ where_told (Some table) P Q f p = f p
 pub opens_behind : OpensBehind
 opens_behind old new again later first last next end end_later pass pass_later one ends stays two =
     where_told old.table (TellsAgreed new.table (state house pass.opening pass.seen)) (AgreesWith (wanted_by next) last)
-    (λ told. behind new.table again.table (state house pass.opening pass.seen) last next ends told stays two.opens.holds)
+    (λ told.
+    behind new.table again.table (state house pass.opening pass.seen) last next ends told stays two.opens.holds)
     (agrees_at_end old new first end pass one)
 
 -- no order stands: the same accounts and games
-restores : (last next : LobbyState) (pass : PassState) → IsWellFormed last → IsWellFormed next → AreSpelled next → last.shelf.orders ≡ []
-    → AgreesWith (wanted_by next) last → ((part rest : Log) → pass.seen ≡ part ++ rest → ResumesAsLeft (state house pass.opening part))
+restores : (last next : LobbyState) (pass : PassState) → IsWellFormed last → IsWellFormed next → AreSpelled next
+    → last.shelf.orders ≡ []
+    → AgreesWith (wanted_by next) last
+    → ((part rest : Log) → pass.seen ≡ part ++ rest → ResumesAsLeft (state house pass.opening part))
     → Restores last next pass
 restores last next pass formed formed_too spelled none agrees resumes =
     let same : (key : List ℕ) → wanted_by next key ≡ wanted_by last key =
     λ key. sym (ap (λ (orders : List Order). table_with (wanted_by next) orders key) none) ∙ agrees key in
-    let stored = same_stored_games last.accounts next.accounts last.shelf.games next.shelf.games same formed.shelf.sound.numbers
+    let stored =
+    same_stored_games last.accounts next.accounts last.shelf.games next.shelf.games same formed.shelf.sound.numbers
     formed_too.shelf.sound.numbers formed.shelf.sound.replay spelled.games in
     record {
       accounts = same_accounts last.accounts next.accounts last.shelf.games next.shelf.games same;
-      games = sym (same_games 0 last.shelf.games next.shelf.games formed.shelf.sound.numbers formed_too.shelf.sound.numbers stored);
+      games =
+          sym (same_games 0 last.shelf.games next.shelf.games formed.shelf.sound.numbers formed_too.shelf.sound.numbers
+          stored);
       resumes = resumes;
     }
 
@@ -132,10 +152,12 @@ restart_restores old new again later first last next end end_later pass pass_lat
     (λ agrees clean. by agrees (none_stand old new first end pass one last ends clean))
     (opens_behind old new again later first last next end end_later pass pass_later one ends stays two)
   where
-    by : AgreesWith (wanted_by next) last → (last.shelf.orders ≡ []) ⊎ (one.served.last ≡ steward.Done (most_answers * 16))
+    by : AgreesWith (wanted_by next) last
+        → (last.shelf.orders ≡ []) ⊎ (one.served.last ≡ steward.Done (most_answers * 16))
         → Restores last next pass_later ⊎ (one.served.last ≡ steward.Done (most_answers * 16))
     by agrees (inl none) =
-        inl (restores last next pass_later (ends_formed old new first end pass one last ends) (opens_formed again later next end_later pass_later two)
+        inl (restores last next pass_later (ends_formed old new first end pass one last ends)
+        (opens_formed again later next end_later pass_later two)
         two.opens.spelled none agrees (resumes_in_each again later next end_later pass_later two))
     by agrees (inr most) = inr most
 
@@ -148,7 +170,8 @@ leaves_good old new first last end pass one ends clean types =
     (λ told. by told (none_stand old new first end pass one last ends clean))
     (agrees_at_end old new first end pass one)
   where
-    by : TellsAgreed new.table (state house pass.opening pass.seen) → (last.shelf.orders ≡ []) ⊎ (one.served.last ≡ steward.Done (most_answers * 16))
+    by : TellsAgreed new.table (state house pass.opening pass.seen)
+        → (last.shelf.orders ≡ []) ⊎ (one.served.last ≡ steward.Done (most_answers * 16))
         → TellsGood new.table ⊎ (one.served.last ≡ steward.Done (most_answers * 16))
     by (table, is, agrees) (inl none) =
         let holds : (key : List ℕ) → held table key ≡ wanted_by last key =

@@ -23,7 +23,8 @@ use Rattle.steward_core.specs.Saving.{most_answers}
 use Rattle.steward_core.specs.declared.turn.StewardEnd.{StewardEnd}
 use Rattle.steward_core.specs.declared.turn.StewardEnd.TheVariants as steward
 
--- an evening, as a call of `serve` that gives a hall back tells of it: over a keeper that stood so before and after, this
+-- an evening, as a call of `serve` that gives a hall back tells of it: over a keeper that stood so before and after,
+-- this
 -- lobby was loaded, and served from; serving ended so, with this pass
 pub record Evening (old new : Store) (first : LobbyState) (end : ServeEnd) (pass : PassState) : Type 0 where
   -- there is
@@ -50,14 +51,16 @@ EndsWith pass last = slice_get (state house pass.opening pass.seen) 0 ≡ Some (
 -- lobby and pass
 abbrev pub OfTwoEvenings : (ServeEnd → StewardEnd → LobbyState → LobbyState → PassState → Type 0) → Type 0
 OfTwoEvenings Follows =
-    (old new again later : Store) (first last next : LobbyState) (end end_later : ServeEnd) (pass pass_later : PassState)
+    (old new again later : Store) (first last next : LobbyState) (end end_later : ServeEnd)
+    (pass pass_later : PassState)
     → (one : Evening old new first end pass) → EndsWith pass last → Stays new.table again.table
     → Evening again later next end_later pass_later
     → IfSome old.table (λ table. Follows end (last_turn one) last next pass_later)
 
 -- the next lobby has for each handle the account of the last one, with the same spelling and the same digest of its
 -- password, or none where this had none; it has the same adjourned games under the same numbers; and in each state of
--- the evening that it opens a game that is resumed goes on as it was left: with its half-moves and their charges, and so
+-- the evening that it opens a game that is resumed goes on as it was left: with its half-moves and their charges, and
+-- so
 -- with its positions, the men in hand, the rights, the counts and the clocks
 pub record Restores (last next : LobbyState) (pass : PassState) : Type 0 where
   pub accounts : (key : List ℕ) → account_of next.accounts key ≡ account_of last.accounts key
@@ -70,7 +73,8 @@ abbrev pub RestartRestores : Type 0
 RestartRestores = OfTwoEvenings (λ end turn last next pass_later. IsClean end
     → Restores last next pass_later ⊎ (turn ≡ steward.Done (most_answers * 16)))
 
--- however serving ended, a store that holds what the next lobby is of holds, once the save orders that stood in the last
+-- however serving ended, a store that holds what the next lobby is of holds, once the save orders that stood in the
+-- last
 -- state are carried out, what it is to hold for the last lobby
 abbrev pub OpensBehind : Type 0
 OpensBehind = OfTwoEvenings (λ end turn last next pass_later. AgreesWith (wanted_by next) last)

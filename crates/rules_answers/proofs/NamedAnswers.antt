@@ -47,7 +47,9 @@ pub named_ambiguous : (p : Position) (w : NamedWord) (a b : ℕ) → a < b → I
     IsRefusal p (word_of w) Ambiguous
 named_ambiguous p w a b lt here there = record {
   unanswered = λ m answer.
-      differ p w a b lt (answer.only (move_from p w a) (choice_of p w a here) ∙ sym (answer.only (move_from p w b) (choice_of p w b there)));
+      differ p w a b lt
+      (answer.only (move_from p w a) (choice_of p w a here)
+      ∙ sym (answer.only (move_from p w b) (choice_of p w b there)));
   applies = record {
     one = move_from p w a;
     two = move_from p w b;
@@ -72,7 +74,8 @@ named_first p w n a g h most LeavesKing lt = g lt
 named_first p w n a g h most NoPiece lt = h lt
 named_first p w n a g h most CannotReach lt = λ _. absurd (omega arith)
 
-unanswered : (p : Position) (w : NamedWord) → ((k : ℕ) → 0 ≤ k → k < 64 → ¬ IsChoiceFrom p w k) → (m : Move) → ¬ IsChoice p (word_of w) m
+unanswered : (p : Position) (w : NamedWord) → ((k : ℕ) → 0 ≤ k → k < 64 → ¬ IsChoiceFrom p w k) → (m : Move)
+    → ¬ IsChoice p (word_of w) m
 unanswered p w none m choice = let from = choice_from p w m choice in none from.0 (omega arith) from.1 from.2
 
 pub named_leaves_king : (p : Position) (w : NamedWord) (a : ℕ) → ((k : ℕ) → 0 ≤ k → k < 64 → ¬ IsChoiceFrom p w k) →
@@ -81,7 +84,9 @@ unfolding IsExposedFrom
 named_leaves_king p w a none exposed = record {
   unanswered = λ m answer. unanswered p w none m answer.choice;
   applies = (move_from p w a, record { matches = (a, exposed.0, refl); move = exposed.1; unsafe_after = exposed.2 });
-  first = named_first p w 6 (λ two. unanswered p w none two.one two.one_choice) (λ lt. absurd (omega arith)) (λ lt. absurd (omega arith)) (omega arith);
+  first =
+      named_first p w 6 (λ two. unanswered p w none two.one two.one_choice) (λ lt. absurd (omega arith))
+      (λ lt. absurd (omega arith)) (omega arith);
 }
 
 pub named_out_of_reach : (p : Position) (w : NamedWord) (a : ℕ) → ((k : ℕ) → 0 ≤ k → k < 64 → ¬ IsChoiceFrom p w k) →

@@ -55,7 +55,8 @@ held-recoloured : (c : Colour) (man : Option Man) → IsHeldBy c man → IsHeldB
 held-recoloured c None h = h
 held-recoloured c (Some m) h = ap opposite h
 
-held_as-recoloured : (c : Colour) (k : Kind) (man : Option Man) → IsHeldAs c k man → IsHeldAs (opposite c) k (recoloured man)
+held_as-recoloured : (c : Colour) (k : Kind) (man : Option Man) → IsHeldAs c k man
+    → IsHeldAs (opposite c) k (recoloured man)
 held_as-recoloured c k None h = h
 held_as-recoloured c k (Some m) h = (ap opposite h.0, h.1)
 
@@ -65,14 +66,16 @@ held-turned P Q h c s less held =
     let C : Option Man → Type 0 = λ man. IsHeldBy (opposite c) man in
     subst C (sym (h.each s less)) (held-recoloured c (man_at P s) held)
 
-held_as-turned : (P Q : Placement) → AreTurned P Q → (c : Colour) (k : Kind) (s : ℕ) → s < 64 → IsHeldAs c k (man_at P s) →
+held_as-turned : (P Q : Placement) → AreTurned P Q → (c : Colour) (k : Kind) (s : ℕ) → s < 64
+    → IsHeldAs c k (man_at P s) →
     IsHeldAs (opposite c) k (man_at Q (turned s))
 held_as-turned P Q h c k s less held =
     let C : Option Man → Type 0 = λ man. IsHeldAs (opposite c) k man in
     subst C (sym (h.each s less)) (held_as-recoloured c k (man_at P s) held)
 
 -- what holds of the turned square of the turned square holds of the square
-pub held-from : (P Q : Placement) → AreTurned P Q → (c : Colour) (s : ℕ) → s < 64 → IsHeldBy (opposite c) (man_at Q (turned s)) →
+pub held-from : (P Q : Placement) → AreTurned P Q → (c : Colour) (s : ℕ) → s < 64
+    → IsHeldBy (opposite c) (man_at Q (turned s)) →
     IsHeldBy c (man_at P s)
 held-from P Q h c s less held =
     let back = held-turned Q P (AreTurned-back P Q h) (opposite c) (turned s) (turned-lt s less) held in
@@ -82,7 +85,8 @@ held-from P Q h c s less held =
 
 -- lines
 
-pub forward-turned : (c : Colour) (n a b : ℕ) → a < 64 → b < 64 → IsForward c n a b → IsForward (opposite c) n (turned a) (turned b)
+pub forward-turned : (c : Colour) (n a b : ℕ) → a < 64 → b < 64 → IsForward c n a b
+    → IsForward (opposite c) n (turned a) (turned b)
 forward-turned White n a b ha hb h = omega (arith, ha, hb, h, rank-turned a ha, rank-turned b hb)
 forward-turned Black n a b ha hb h = omega (arith, ha, hb, h, rank-turned a ha, rank-turned b hb)
 
@@ -105,16 +109,19 @@ knight-turned a b ha hb h = elim h [
   | inr e ↦ inr (files-turned a b ha hb ∙ e.0, ranks-turned a b ha hb ∙ e.1)
 ]
 
-pub step-turned : (c : Colour) (k : Kind) (a b : ℕ) → a < 64 → b < 64 → IsStep c k a b → IsStep (opposite c) k (turned a) (turned b)
+pub step-turned : (c : Colour) (k : Kind) (a b : ℕ) → a < 64 → b < 64 → IsStep c k a b
+    → IsStep (opposite c) k (turned a) (turned b)
 unfolding IsStep
 step-turned c Pawn a b ha hb h = (files-turned a b ha hb ∙ h.0, forward-turned c 1 a b ha hb h.1)
 step-turned c Knight a b ha hb h = knight-turned a b ha hb h
 step-turned c Bishop a b ha hb h = diagonal-turned a b ha hb h
 step-turned c Rook a b ha hb h = straight-turned a b ha hb h
-step-turned c Queen a b ha hb h = elim h [ inl e ↦ inl (straight-turned a b ha hb e) | inr e ↦ inr (diagonal-turned a b ha hb e) ]
+step-turned c Queen a b ha hb h =
+    elim h [ inl e ↦ inl (straight-turned a b ha hb e) | inr e ↦ inr (diagonal-turned a b ha hb e) ]
 step-turned c King a b ha hb h = distance-turned a b ha hb ∙ h
 
-pub clear-turned : (P Q : Placement) → AreTurned P Q → (a b : ℕ) → a < 64 → b < 64 → Clear P a b → Clear Q (turned a) (turned b)
+pub clear-turned : (P Q : Placement) → AreTurned P Q → (a b : ℕ) → a < 64 → b < 64 → Clear P a b
+    → Clear Q (turned a) (turned b)
 clear-turned P Q h a b ha hb clear = record {
   empty = λ k some less.
       ap (man_at Q) (along-turned a b k ha hb) ∙
@@ -131,7 +138,8 @@ open-turned P Q h Rook a b ha hb way = clear-turned P Q h a b ha hb way
 open-turned P Q h Queen a b ha hb way = clear-turned P Q h a b ha hb way
 open-turned P Q h King a b ha hb way = clear-turned P Q h a b ha hb way
 
-pub strikes-turned : (P Q : Placement) → AreTurned P Q → (c : Colour) (k : Kind) (a b : ℕ) → a < 64 → b < 64 → Strikes P c k a b →
+pub strikes-turned : (P Q : Placement) → AreTurned P Q → (c : Colour) (k : Kind) (a b : ℕ) → a < 64 → b < 64
+    → Strikes P c k a b →
     Strikes Q (opposite c) k (turned a) (turned b)
 strikes-turned P Q h c k a b ha hb strikes = record {
   step = step-turned c k a b ha hb strikes.step;
@@ -143,7 +151,8 @@ strikes-turned P Q h c k a b ha hb strikes = record {
 strikes_as-turned : (P Q : Placement) → AreTurned P Q → (c : Colour) (a s : ℕ) → a < 64 → s < 64 → (man : Option Man) →
     StrikesAs P c a s man → StrikesAs Q (opposite c) (turned a) (turned s) (recoloured man)
 strikes_as-turned P Q h c a s ha hs None strikes = strikes
-strikes_as-turned P Q h c a s ha hs (Some m) strikes = (ap opposite strikes.0, strikes-turned P Q h c m.kind a s ha hs strikes.1)
+strikes_as-turned P Q h c a s ha hs (Some m) strikes =
+    (ap opposite strikes.0, strikes-turned P Q h c m.kind a s ha hs strikes.1)
 
 pub attacked-turned : (P Q : Placement) → AreTurned P Q → (c : Colour) (s : ℕ) → s < 64 → IsAttacked P c s →
     IsAttacked Q (opposite c) (turned s)
@@ -156,7 +165,8 @@ attacked-turned P Q h c s less attack =
       subst C (sym (h.each a attack.1)) (strikes_as-turned P Q h c a s attack.1 less (man_at P a) attack.2),
     )
 
-pub attacked-from : (P Q : Placement) → AreTurned P Q → (c : Colour) (s : ℕ) → s < 64 → IsAttacked Q (opposite c) (turned s) →
+pub attacked-from : (P Q : Placement) → AreTurned P Q → (c : Colour) (s : ℕ) → s < 64
+    → IsAttacked Q (opposite c) (turned s) →
     IsAttacked P c s
 attacked-from P Q h c s less attack =
     let back = attacked-turned Q P (AreTurned-back P Q h) (opposite c) (turned s) (turned-lt s less) attack in

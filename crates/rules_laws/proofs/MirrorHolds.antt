@@ -32,7 +32,8 @@ use Rattle.rules_laws.proofs.Turning.{turned-lt, turned-square, file-turned, ran
 
 -- reach
 
-second-turned : (c : Colour) (a : ℕ) → a < 64 → rank_of a ≡ second_rank c → rank_of (turned a) ≡ second_rank (opposite c)
+second-turned : (c : Colour) (a : ℕ) → a < 64 → rank_of a ≡ second_rank c
+    → rank_of (turned a) ≡ second_rank (opposite c)
 second-turned White a h e = omega (arith, e, rank-turned a h)
 second-turned Black a h e = omega (arith, e, rank-turned a h)
 
@@ -51,7 +52,8 @@ advances-turned P Q h c a b ha hb goes = record {
   free = empty-turned P Q h b hb goes.free;
 }
 
-takes-turned : (P Q : Placement) → AreTurned P Q → (e : Option ℕ) (c : Colour) (a b : ℕ) → a < 64 → b < 64 → PawnTakes P e c a b →
+takes-turned : (P Q : Placement) → AreTurned P Q → (e : Option ℕ) (c : Colour) (a b : ℕ) → a < 64 → b < 64
+    → PawnTakes P e c a b →
     PawnTakes Q (option_map turned e) (opposite c) (turned a) (turned b)
 takes-turned P Q h e c a b ha hb takes = record {
   step = step-turned c Pawn a b ha hb takes.step;
@@ -68,7 +70,8 @@ goes-turned P Q h c k a b ha hb goes = record {
   not_own = λ own. goes.not_own (held-from P Q h c b hb own);
 }
 
-reaches-turned : (P Q : Placement) → AreTurned P Q → (e : Option ℕ) (c : Colour) (k : Kind) (a b : ℕ) → a < 64 → b < 64 →
+reaches-turned : (P Q : Placement) → AreTurned P Q → (e : Option ℕ) (c : Colour) (k : Kind) (a b : ℕ) → a < 64
+    → b < 64 →
     Reaches P e c k a b → Reaches Q (option_map turned e) (opposite c) k (turned a) (turned b)
 reaches-turned P Q h e c Pawn a b ha hb (inl goes) = inl (advances-turned P Q h c a b ha hb goes)
 reaches-turned P Q h e c Pawn a b ha hb (inr takes) = inr (takes-turned P Q h e c a b ha hb takes)
@@ -108,7 +111,8 @@ is_none-recoloured : (man : Option Man) → is_none (recoloured man) ≡ is_none
 is_none-recoloured None = refl
 is_none-recoloured (Some m) = refl
 
-landed-recoloured : (man : Option Man) (promo : Option Kind) → landed (recoloured man) promo ≡ recoloured (landed man promo)
+landed-recoloured : (man : Option Man) (promo : Option Kind)
+    → landed (recoloured man) promo ≡ recoloured (landed man promo)
 landed-recoloured None None = refl
 landed-recoloured None (Some k) = refl
 landed-recoloured (Some m) None = refl
@@ -117,13 +121,16 @@ landed-recoloured (Some m) (Some k) = refl
 en_passant-turned : (P Q : Placement) → AreTurned P Q → (a b : ℕ) → a < 64 → b < 64 →
     is_en_passant Q (turned a) (turned b) ≡ is_en_passant P a b
 en_passant-turned P Q h a b ha hb =
-    let pawn : is_pawn (man_at Q (turned a)) ≡ is_pawn (man_at P a) = ap is_pawn (h.each a ha) ∙ is_pawn-recoloured (man_at P a) in
-    let free : is_none (man_at Q (turned b)) ≡ is_none (man_at P b) = ap is_none (h.each b hb) ∙ is_none-recoloured (man_at P b) in
+    let pawn : is_pawn (man_at Q (turned a)) ≡ is_pawn (man_at P a) =
+    ap is_pawn (h.each a ha) ∙ is_pawn-recoloured (man_at P a) in
+    let free : is_none (man_at Q (turned b)) ≡ is_none (man_at P b) =
+    ap is_none (h.each b hb) ∙ is_none-recoloured (man_at P b) in
     let file : nat_eq (file_of (turned a)) (file_of (turned b)) ≡ nat_eq (file_of a) (file_of b) =
     (λ i. nat_eq (file-turned a ha i) (file-turned b hb i)) in
     λ i. pawn i && (free i && not (file i))
 
-square-turned : (a b : ℕ) → a < 64 → b < 64 → square_at (file_of (turned b)) (rank_of (turned a)) ≡ turned (square_at (file_of b) (rank_of a))
+square-turned : (a b : ℕ) → a < 64 → b < 64
+    → square_at (file_of (turned b)) (rank_of (turned a)) ≡ turned (square_at (file_of b) (rank_of a))
 square-turned a b ha hb =
     (λ i. square_at (file-turned b hb i) (rank-turned a ha i)) ∙
     sym (turned-square (file_of b) (rank_of a) (file-le b) (rank-le a ha))
@@ -144,10 +151,12 @@ pub record AreMirrored (P Q : Placement) : Type 0 where
   first : length P ≡ 64
   second : length Q ≡ 64
 
-set-each : (P Q : Placement) → AreMirrored P Q → (t : ℕ) (man : Option Man) → t < 64 → (s : ℕ) → s < 64 → (s ≡ t) ⊎ (s ≢ t) →
+set-each : (P Q : Placement) → AreMirrored P Q → (t : ℕ) (man : Option Man) → t < 64 → (s : ℕ) → s < 64
+    → (s ≡ t) ⊎ (s ≢ t) →
     man_at (slice_set Q (turned t) (recoloured man)) (turned s) ≡ recoloured (man_at (slice_set P t man) s)
 set-each P Q h t man ht s hs (inl same) =
-    let C : ℕ → Type 0 = λ x. man_at (slice_set Q (turned t) (recoloured man)) (turned x) ≡ recoloured (man_at (slice_set P t man) x) in
+    let C : ℕ → Type 0 = λ x.
+    man_at (slice_set Q (turned t) (recoloured man)) (turned x) ≡ recoloured (man_at (slice_set P t man) x) in
     subst C (sym same)
     (get_or-set_same Q (turned t) (recoloured man) None (omega (arith, h.second, turned-lt t ht)) ∙
     ap recoloured (sym (get_or-set_same P t man None (omega (arith, h.first, ht)))))
@@ -170,19 +179,23 @@ set-mirrored_as P Q h t u man other ht square colour =
     let C : Placement → Type 0 = λ R. AreMirrored (slice_set P t man) R in
     subst C (λ i. slice_set Q (sym square i) (sym colour i)) (set-mirrored P Q h t man ht)
 
-plain-mirrored : (v : Variant) (P Q : Placement) → AreMirrored P Q → (c : Colour) (a b : ℕ) (promo : Option Kind) → a < 64 → b < 64 →
+plain-mirrored : (v : Variant) (P Q : Placement) → AreMirrored P Q → (c : Colour) (a b : ℕ) (promo : Option Kind)
+    → a < 64 → b < 64 →
     AreMirrored (place_after v P c (Plain a b promo)) (place_after v Q (opposite c) (Plain (turned a) (turned b) promo))
 plain-mirrored v P Q h c a b promo ha hb =
     let t : ℕ = taking_square P a b in
     let u : ℕ = taking_square Q (turned a) (turned b) in
-    let taken = set-mirrored_as P Q h t u None None (taking_square-lt P a b ha hb) (taking-turned P Q h.turn a b ha hb) refl in
+    let taken =
+    set-mirrored_as P Q h t u None None (taking_square-lt P a b ha hb) (taking-turned P Q h.turn a b ha hb) refl in
     let left = set-mirrored (slice_set P t None) (slice_set Q u None) taken a None ha in
-    set-mirrored_as (slice_set (slice_set P t None) a None) (slice_set (slice_set Q u None) (turned a) None) left b (turned b)
+    set-mirrored_as (slice_set (slice_set P t None) a None) (slice_set (slice_set Q u None) (turned a) None) left b
+    (turned b)
     (landed (man_at P a) promo) (landed (man_at Q (turned a)) promo) hb refl
     (ap (λ (man : Option Man). landed man promo) (h.turn.each a ha) ∙ landed-recoloured (man_at P a) promo)
 
 -- a home stands on its file and the other colour's on the same one
-home-turned : (file : ℕ) (c : Colour) → file < 8 → square_at file (home_rank (opposite c)) ≡ turned (square_at file (home_rank c))
+home-turned : (file : ℕ) (c : Colour) → file < 8
+    → square_at file (home_rank (opposite c)) ≡ turned (square_at file (home_rank c))
 home-turned file White less = sym (turned-square file 0 (omega (arith, less)) (omega arith))
 home-turned file Black less = sym (turned-square file 7 (omega (arith, less)) (omega arith))
 
@@ -190,7 +203,9 @@ king-turned : (v : Variant) (c : Colour) → king_home v (opposite c) ≡ turned
 king-turned v c = let files = files_of v in home-turned (king_file v) c (omega (arith, files.short_rook, files.most))
 
 rook-turned : (v : Variant) (c : Colour) (long : Bool) → rook_home v (opposite c) long ≡ turned (rook_home v c long)
-rook-turned v c true = let files = files_of v in home-turned (rook_file v true) c (omega (arith, files.long_rook, files.short_rook, files.most))
+rook-turned v c true =
+    let files = files_of v in
+    home-turned (rook_file v true) c (omega (arith, files.long_rook, files.short_rook, files.most))
 rook-turned v c false = home-turned (rook_file v false) c (files_of v).most
 
 king_end-turned : (c : Colour) (long : Bool) → king_end (opposite c) long ≡ turned (king_end c long)
@@ -212,7 +227,9 @@ two-mirrored : (P Q : Placement) → AreMirrored P Q → (a b x y : ℕ) → a <
 two-mirrored P Q h a b x y ha hb hx hy =
     let first = set-mirrored P Q h a None ha in
     let second = set-mirrored (slice_set P a None) (slice_set Q (turned a) None) first b None hb in
-    let third = set-mirrored_as (slice_set (slice_set P a None) b None) (slice_set (slice_set Q (turned a) None) (turned b) None) second
+    let third =
+    set-mirrored_as (slice_set (slice_set P a None) b None) (slice_set (slice_set Q (turned a) None) (turned b) None)
+    second
     x (turned x) (man_at P a) (man_at Q (turned a)) hx refl (h.turn.each a ha) in
     set-mirrored_as (slice_set (slice_set (slice_set P a None) b None) x (man_at P a))
     (slice_set (slice_set (slice_set Q (turned a) None) (turned b) None) (turned x) (man_at Q (turned a))) third
@@ -223,8 +240,12 @@ castle-mirrored : (v : Variant) (P Q : Placement) → AreMirrored P Q → (c : C
 castle-mirrored v P Q h c long =
     let at = homes v c long in
     let C : Placement → Type 0 = λ R. AreMirrored (place_after v P c (Castle long)) R in
-    subst C (λ i. two_moved Q (sym (king-turned v c) i) (sym (rook-turned v c long) i) (sym (king_end-turned c long) i) (sym (rook_end-turned c long) i))
-    (two-mirrored P Q h (king_home v c) (rook_home v c long) (king_end c long) (rook_end c long) at.king at.rook at.king_goal at.rook_goal)
+    subst C
+    (λ i.
+    two_moved Q (sym (king-turned v c) i) (sym (rook-turned v c long) i) (sym (king_end-turned c long) i)
+    (sym (rook_end-turned c long) i))
+    (two-mirrored P Q h (king_home v c) (rook_home v c long) (king_end c long) (rook_end c long) at.king at.rook
+    at.king_goal at.rook_goal)
 
 -- castling
 
@@ -234,7 +255,8 @@ free_for-turned P Q h king rook s hs (inl e) = inl (ap turned e)
 free_for-turned P Q h king rook s hs (inr (inl e)) = inr (inl (ap turned e))
 free_for-turned P Q h king rook s hs (inr (inr e)) = inr (inr (empty-turned P Q h s hs e))
 
-free_way-turned : (P Q : Placement) → AreTurned P Q → (king rook a b : ℕ) → a < 64 → b < 64 → IsFreeWay P king rook a b →
+free_way-turned : (P Q : Placement) → AreTurned P Q → (king rook a b : ℕ) → a < 64 → b < 64
+    → IsFreeWay P king rook a b →
     IsFreeWay Q (turned king) (turned rook) (turned a) (turned b)
 free_way-turned P Q h king rook a b ha hb way = record {
   free = λ k less.
@@ -244,7 +266,8 @@ free_way-turned P Q h king rook a b ha hb way = record {
       (way.free k (omega (arith, less, distance-turned a b ha hb))));
 }
 
-unattacked-turned : (P Q : Placement) → AreTurned P Q → (by : Colour) (a b : ℕ) → a < 64 → b < 64 → IsUnattackedWay P by a b →
+unattacked-turned : (P Q : Placement) → AreTurned P Q → (by : Colour) (a b : ℕ) → a < 64 → b < 64
+    → IsUnattackedWay P by a b →
     IsUnattackedWay Q (opposite by) (turned a) (turned b)
 unattacked-turned P Q h by a b ha hb way = record {
   free = λ k less attack.
@@ -253,7 +276,8 @@ unattacked-turned P Q h by a b ha hb way = record {
       (attacked-from P Q h by (along a b k) (along-lt a b k ha hb) (subst C (along-turned a b k ha hb) attack));
 }
 
-right-mirrored : (r : Rights) (c : Colour) (long : Bool) → right_of (mirrored_rights r) (opposite c) long ≡ right_of r c long
+right-mirrored : (r : Rights) (c : Colour) (long : Bool)
+    → right_of (mirrored_rights r) (opposite c) long ≡ right_of r c long
 right-mirrored r White true = refl
 right-mirrored r White false = refl
 right-mirrored r Black true = refl
@@ -273,17 +297,24 @@ can_castle-mirrored p long size h =
     let rook_goal = rook_end-turned c long in
     record {
       right = right-mirrored p.rights c long ∙ h.right;
-      king_way = subst {A = ℕ × ℕ × ℕ} (λ t. IsFreeWay Q t.0 t.1 t.0 t.2) (λ i. (sym king i, sym rook i, sym king_goal i))
-          (free_way-turned P Q turn (king_home v c) (rook_home v c long) (king_home v c) (king_end c long) at.king at.king_goal h.king_way);
-      rook_way = subst {A = ℕ × ℕ × ℕ} (λ t. IsFreeWay Q t.0 t.1 t.1 t.2) (λ i. (sym king i, sym rook i, sym rook_goal i))
-          (free_way-turned P Q turn (king_home v c) (rook_home v c long) (rook_home v c long) (rook_end c long) at.rook at.rook_goal h.rook_way);
-      walk = subst {A = ℕ × ℕ} (λ t. IsUnattackedWay Q (opposite (opposite c)) t.0 t.1) (λ i. (sym king i, sym king_goal i))
+      king_way =
+          subst {A = ℕ × ℕ × ℕ} (λ t. IsFreeWay Q t.0 t.1 t.0 t.2) (λ i. (sym king i, sym rook i, sym king_goal i))
+          (free_way-turned P Q turn (king_home v c) (rook_home v c long) (king_home v c) (king_end c long) at.king
+          at.king_goal h.king_way);
+      rook_way =
+          subst {A = ℕ × ℕ × ℕ} (λ t. IsFreeWay Q t.0 t.1 t.1 t.2) (λ i. (sym king i, sym rook i, sym rook_goal i))
+          (free_way-turned P Q turn (king_home v c) (rook_home v c long) (rook_home v c long) (rook_end c long) at.rook
+          at.rook_goal h.rook_way);
+      walk =
+          subst {A = ℕ × ℕ} (λ t. IsUnattackedWay Q (opposite (opposite c)) t.0 t.1)
+          (λ i. (sym king i, sym king_goal i))
           (unattacked-turned P Q turn (opposite c) (king_home v c) (king_end c long) at.king at.king_goal h.walk);
     }
 
 -- plain moves and drops
 
-goes_as-mirrored : (p : Position) (a b : ℕ) (promo : Option Kind) → a < 64 → b < 64 → (man : Option Man) → GoesAs p a b promo man →
+goes_as-mirrored : (p : Position) (a b : ℕ) (promo : Option Kind) → a < 64 → b < 64 → (man : Option Man)
+    → GoesAs p a b promo man →
     GoesAs (mirrored p) (turned a) (turned b) promo (recoloured man)
 goes_as-mirrored p a b promo ha hb None goes = goes
 goes_as-mirrored p a b promo ha hb (Some m) goes = (
@@ -337,7 +368,8 @@ AreMirrored-men : (P : Placement) → length P ≡ 64 → AreMirrored P (mirrore
 AreMirrored-men P size = record { turn = AreTurned-mirrored P; first = size; second = length-mirrored P }
 
 after-mirrored : (p : Position) (m : Move) → length p.men ≡ 64 → IsMove p m →
-    AreMirrored (place_after p.variant p.men p.to_move m) (place_after p.variant (mirrored_men p.men) (opposite p.to_move) (mirrored_move m))
+    AreMirrored (place_after p.variant p.men p.to_move m)
+    (place_after p.variant (mirrored_men p.men) (opposite p.to_move) (mirrored_move m))
 after-mirrored p (Plain a b promo) size h =
     plain-mirrored p.variant p.men (mirrored_men p.men) (AreMirrored-men p.men size) p.to_move a b promo h.from h.to
 after-mirrored p (Castle long) size h =
@@ -395,7 +427,9 @@ allowed-back p m size h =
 
 array-mirrored : (v : Variant) → mirrored_men (array_of v) ≡ array_of v
 unfolding mirrored_men turned
-array-mirrored v = eight (λ rank. mirrored_men (array_from rank) ≡ array_from rank) (λ a b c d e f g h. refl) (back_rank v) (home_rank_of v).eight
+array-mirrored v =
+    eight (λ rank. mirrored_men (array_from rank) ≡ array_from rank) (λ a b c d e f g h. refl) (back_rank v)
+    (home_rank_of v).eight
 
 pub colours_exchanged : ColoursMayBeExchanged
 colours_exchanged = record {

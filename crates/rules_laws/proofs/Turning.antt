@@ -5,7 +5,8 @@ use Rattle.std.proofs.lemmas.Bool.{cases_lt}
 use Rattle.chess_model.specs.Squares.{file_of, rank_of, square_at, files_apart, ranks_apart, distance, toward, along}
 use Rattle.rules_laws.specs.Mirror.{turned}
 
-turned-choice : (q : Bool) (s : ℕ) → q ≡ true → cond q (square_at (file_of s) (7 - rank_of s)) s ≡ square_at (file_of s) (7 - rank_of s)
+turned-choice : (q : Bool) (s : ℕ) → q ≡ true
+    → cond q (square_at (file_of s) (7 - rank_of s)) s ≡ square_at (file_of s) (7 - rank_of s)
 turned-choice true s e = refl
 turned-choice false s e = cc
 

@@ -37,7 +37,8 @@ file_given : (marked : Bool) (a : ℕ) → OneOf (origin_files (given marked (fi
 file_given true a = OneOf-if (nat_lt (file_of a) 8) ((97 + file_of a) ∷ []) (is_below (file_of a) 8 (omega arith))
 file_given false a = inl refl
 
-rank_given : (marked : Bool) (a : ℕ) → a < 64 → OneOf (origin_ranks (given marked (rank_of a))) (only_if marked (rank_digit a))
+rank_given : (marked : Bool) (a : ℕ) → a < 64
+    → OneOf (origin_ranks (given marked (rank_of a))) (only_if marked (rank_digit a))
 rank_given true a h = OneOf-if (nat_lt (rank_of a) 8) ((49 + rank_of a) ∷ []) (is_below (rank_of a) 8 (omega arith))
 rank_given false a h = inl refl
 
@@ -62,14 +63,19 @@ ending (Some k) mark = 61 ∷ letter_of k ∷ mark
 abbrev pub MayBecome : Option Kind → Type 0
 MayBecome promo = (promo ≡ None) ⊎ IsPromotion promo
 
-ending_made : (promo : Option Kind) (s : State) → MayBecome promo → MadeOf (promotion_and promo (marks ∷ [])) (ending promo (mark_text s))
+ending_made : (promo : Option Kind) (s : State) → MayBecome promo
+    → MadeOf (promotion_and promo (marks ∷ [])) (ending promo (mark_text s))
 ending_made None s h = mark_ends s
 ending_made (Some k) s (inl e) = absurd (let f : None ≡ Some k = sym e in cc)
 ending_made (Some Pawn) s (inr h) = absurd h
-ending_made (Some Knight) s (inr h) = (codes "=", 78 ∷ mark_text s, inr (inl refl), (codes "N", mark_text s, inl refl, mark_ends s, refl), refl)
-ending_made (Some Bishop) s (inr h) = (codes "=", 66 ∷ mark_text s, inr (inl refl), (codes "B", mark_text s, inl refl, mark_ends s, refl), refl)
-ending_made (Some Rook) s (inr h) = (codes "=", 82 ∷ mark_text s, inr (inl refl), (codes "R", mark_text s, inl refl, mark_ends s, refl), refl)
-ending_made (Some Queen) s (inr h) = (codes "=", 81 ∷ mark_text s, inr (inl refl), (codes "Q", mark_text s, inl refl, mark_ends s, refl), refl)
+ending_made (Some Knight) s (inr h) =
+    (codes "=", 78 ∷ mark_text s, inr (inl refl), (codes "N", mark_text s, inl refl, mark_ends s, refl), refl)
+ending_made (Some Bishop) s (inr h) =
+    (codes "=", 66 ∷ mark_text s, inr (inl refl), (codes "B", mark_text s, inl refl, mark_ends s, refl), refl)
+ending_made (Some Rook) s (inr h) =
+    (codes "=", 82 ∷ mark_text s, inr (inl refl), (codes "R", mark_text s, inl refl, mark_ends s, refl), refl)
+ending_made (Some Queen) s (inr h) =
+    (codes "=", 81 ∷ mark_text s, inr (inl refl), (codes "Q", mark_text s, inl refl, mark_ends s, refl), refl)
 ending_made (Some King) s (inr h) = absurd h
 
 -- texts that spell no two squares
@@ -96,9 +102,11 @@ no_second None Mate = refl
 no_second None Stalemate = refl
 no_second (Some k) s = refl
 
-one_square : (f r : ℕ) (promo : Option Kind) (s : State) → f < 8 → r < 8 → coordinate_of ((97 + f) ∷ (49 + r) ∷ ending promo (mark_text s)) ≡ None
+one_square : (f r : ℕ) (promo : Option Kind) (s : State) → f < 8 → r < 8
+    → coordinate_of ((97 + f) ∷ (49 + r) ∷ ending promo (mark_text s)) ≡ None
 one_square f r promo s f_fits r_fits =
-    ap (λ (o : Option ℕ). coordinate_from (squared o (rank_of_digit (49 + r)) (ending promo (mark_text s)))) (file_again f f_fits)
+    ap (λ (o : Option ℕ). coordinate_from (squared o (rank_of_digit (49 + r)) (ending promo (mark_text s))))
+    (file_again f f_fits)
     ∙ ap (λ (o : Option ℕ). coordinate_from (squared (Some f) o (ending promo (mark_text s)))) (rank_again r r_fits)
     ∙ ap (λ (o : Option (ℕ × Text)). target_of (Coordinate (8 * r + f)) is_empty o) (no_second promo s)
 
@@ -107,8 +115,11 @@ one_square f r promo s f_fits r_fits =
 named_read : (text : Text) (k : Kind) (file rank : Option ℕ) (to : ℕ) (promo : Option Kind) → coordinate_of text ≡ None
     → Spells text (Named k file rank to promo) → reading text ≡ Some (Named k file rank to promo)
 named_read text k file rank to promo none spells =
-    ap (λ (x : Option MoveWord). first_of_two x (first_of_two (named_of text) (first_of_two (castle_of text) (drop_of text)))) none
-    ∙ ap (λ (x : Option MoveWord). first_of_two x (first_of_two (castle_of text) (drop_of text))) (named-again text k file rank to promo spells)
+    ap (λ (x : Option MoveWord).
+    first_of_two x (first_of_two (named_of text) (first_of_two (castle_of text) (drop_of text))))
+    none
+    ∙ ap (λ (x : Option MoveWord). first_of_two x (first_of_two (castle_of text) (drop_of text)))
+    (named-again text k file rank to promo spells)
 
 -- any man but a pawn
 abbrev pub IsPiece : Kind → Type 0
@@ -132,10 +143,15 @@ piece_text k a b by_file by_rank takes s = pretty_of (record {
 -- the same, part behind part
 abbrev piece_parts : ℕ → ℕ → ℕ → Bool → Bool → Bool → Text → Text
 piece_parts letter a b by_file by_rank takes mark =
-    letter ∷ (only_if by_file (file_letter a) ++ (only_if by_rank (rank_digit a) ++ (only_if takes 120 ++ (square_text b ++ mark))))
+    letter
+    ∷ (only_if by_file (file_letter a)
+    ++ (only_if by_rank (rank_digit a) ++ (only_if takes 120 ++ (square_text b ++ mark))))
 
 joined : (letter a b : ℕ) (by_file by_rank takes : Bool) (mark : Text) →
-    (((((letter ∷ only_if by_file (file_letter a)) ++ only_if by_rank (rank_digit a)) ++ only_if takes 120) ++ square_text b) ++ []) ++ mark
+    (((((letter ∷ only_if by_file (file_letter a)) ++ only_if by_rank (rank_digit a)) ++ only_if takes 120)
+    ++ square_text b)
+    ++ [])
+    ++ mark
     ≡ piece_parts letter a b by_file by_rank takes mark
 joined letter a b true true true mark = refl
 joined letter a b true true false mark = refl
@@ -156,7 +172,8 @@ piece_text-is Queen a b by_file by_rank takes s h = joined (letter_of Queen) a b
 piece_text-is King a b by_file by_rank takes s h = joined (letter_of King) a b by_file by_rank takes (mark_text s)
 
 piece_spells : (k : Kind) (a b : ℕ) (by_file by_rank takes : Bool) (s : State) → a < 64 → b < 64 →
-    Spells (piece_parts (letter_of k) a b by_file by_rank takes (mark_text s)) (Named k (given by_file (file_of a)) (given by_rank (rank_of a)) b None)
+    Spells (piece_parts (letter_of k) a b by_file by_rank takes (mark_text s))
+    (Named k (given by_file (file_of a)) (given by_rank (rank_of a)) b None)
 piece_spells k a b by_file by_rank takes s ha hb =
     let target : Text = square_text b ++ mark_text s in
     let capture : Text = only_if takes 120 ++ target in
@@ -173,7 +190,13 @@ piece_spells k a b by_file by_rank takes s ha hb =
           only_if by_rank (rank_digit a),
           capture,
           rank_given by_rank a ha,
-          (only_if takes 120, target, capture_given takes, (square_text b, mark_text s, square_named b hb, mark_ends s, refl), refl),
+          (
+            only_if takes 120,
+            target,
+            capture_given takes,
+            (square_text b, mark_text s, square_named b hb, mark_ends s, refl),
+            refl,
+          ),
           refl,
         ),
         refl,
@@ -183,11 +206,15 @@ piece_spells k a b by_file by_rank takes s ha hb =
 
 -- the text of a piece's move
 pub piece_read : (k : Kind) (a b : ℕ) (by_file by_rank takes : Bool) (s : State) → IsPiece k → a < 64 → b < 64 →
-    reading (piece_text k a b by_file by_rank takes s) ≡ Some (Named k (given by_file (file_of a)) (given by_rank (rank_of a)) b None)
+    reading (piece_text k a b by_file by_rank takes s)
+    ≡ Some (Named k (given by_file (file_of a)) (given by_rank (rank_of a)) b None)
 piece_read k a b by_file by_rank takes s piece ha hb =
-    let rest : Text = only_if by_file (file_letter a) ++ (only_if by_rank (rank_digit a) ++ (only_if takes 120 ++ (square_text b ++ mark_text s))) in
+    let rest : Text =
+    only_if by_file (file_letter a)
+    ++ (only_if by_rank (rank_digit a) ++ (only_if takes 120 ++ (square_text b ++ mark_text s))) in
     ap reading (piece_text-is k a b by_file by_rank takes s piece)
-    ∙ named_read (letter_of k ∷ rest) k (given by_file (file_of a)) (given by_rank (rank_of a)) b None (capital_first k rest)
+    ∙ named_read (letter_of k ∷ rest) k (given by_file (file_of a)) (given by_rank (rank_of a)) b None
+    (capital_first k rest)
     (piece_spells k a b by_file by_rank takes s ha hb)
 
 abbrev pub pawn_text : ℕ → ℕ → Option Kind → Bool → State → Text
@@ -200,12 +227,14 @@ pawn_text a b promo takes s = pretty_of (record {
   after = s;
 })
 
-push_parts : (a b : ℕ) (promo : Option Kind) (s : State) → pawn_text a b promo false s ≡ (97 + file_of b) ∷ (49 + rank_of b) ∷ ending promo (mark_text s)
+push_parts : (a b : ℕ) (promo : Option Kind) (s : State)
+    → pawn_text a b promo false s ≡ (97 + file_of b) ∷ (49 + rank_of b) ∷ ending promo (mark_text s)
 push_parts a b None s = refl
 push_parts a b (Some k) s = refl
 
 capture_parts : (a b : ℕ) (promo : Option Kind) (s : State) →
-    pawn_text a b promo true s ≡ (97 + file_of a) ∷ 120 ∷ (97 + file_of b) ∷ (49 + rank_of b) ∷ ending promo (mark_text s)
+    pawn_text a b promo true s
+    ≡ (97 + file_of a) ∷ 120 ∷ (97 + file_of b) ∷ (49 + rank_of b) ∷ ending promo (mark_text s)
 capture_parts a b None s = refl
 capture_parts a b (Some k) s = refl
 
@@ -220,7 +249,19 @@ pawn_read a b promo false s ha hb h =
       [],
       text,
       inl refl,
-      ([], text, inl refl, ([], text, inl refl, ([], text, inl refl, (square_text b, end, square_named b hb, ending_made promo s h, refl), refl), refl), refl),
+      (
+        [],
+        text,
+        inl refl,
+        (
+          [],
+          text,
+          inl refl,
+          ([], text, inl refl, (square_text b, end, square_named b hb, ending_made promo s h, refl), refl),
+          refl,
+        ),
+        refl,
+      ),
       refl,
     )
 pawn_read a b promo true s ha hb h =
@@ -236,7 +277,19 @@ pawn_read a b promo true s ha hb h =
         (97 + file_of a) ∷ [],
         120 ∷ target,
         file_given true a,
-        ([], 120 ∷ target, inl refl, (codes "x", target, inr (inl refl), (square_text b, end, square_named b hb, ending_made promo s h, refl), refl), refl),
+        (
+          [],
+          120 ∷ target,
+          inl refl,
+          (
+            codes "x",
+            target,
+            inr (inl refl),
+            (square_text b, end, square_named b hb, ending_made promo s h, refl),
+            refl,
+          ),
+          refl,
+        ),
         refl,
       ),
       refl,
@@ -279,5 +332,10 @@ pub drop_read : (k : Kind) (to : ℕ) (s : State) → k ≢ King → to < 64 →
 })) ≡ Some (Drop k to)
 drop_read k to s h fits =
     let name : Text = square_text to ++ mark_text s in
-    drop-again (letter_of k ∷ 64 ∷ name) k to
-    (letter_of k ∷ [], 64 ∷ name, drop_named k h, (codes "@", name, inl refl, (square_text to, mark_text s, square_named to fits, mark_ends s, refl), refl), refl)
+    drop-again (letter_of k ∷ 64 ∷ name) k to (
+      letter_of k ∷ [],
+      64 ∷ name,
+      drop_named k h,
+      (codes "@", name, inl refl, (square_text to, mark_text s, square_named to fits, mark_ends s, refl), refl),
+      refl,
+    )

@@ -47,12 +47,14 @@ module _ (old mid new : Option (List ℕ)) (none : Appends old mid []) where
   pub front_from : (bytes : List ℕ) → AppendsFront mid new bytes → AppendsFront old new bytes
   front_from bytes p = (p.0, appends_from (take p.0 bytes) p.1)
 
-wrote_from : (said : Sent) (old mid new : Option (List ℕ)) (bytes : List ℕ) → Appends old mid [] → Wrote mid new bytes said → Wrote old new bytes said
+wrote_from : (said : Sent) (old mid new : Option (List ℕ)) (bytes : List ℕ) → Appends old mid []
+    → Wrote mid new bytes said → Wrote old new bytes said
 wrote_from sent.All old mid new bytes none p = appends_from old mid new none bytes p
 wrote_from sent.Failed old mid new bytes none p = front_from old mid new none bytes p
 wrote_from sent.Memory old mid new bytes none p = front_from old mid new none bytes p
 
-module _ (end : ServeEnd) (last : StewardEnd) (before mid later : Sheet) (none : Appends before.written mid.written []) (same : mid.faults ≡ before.faults) where
+module _ (end : ServeEnd) (last : StewardEnd) (before mid later : Sheet) (none : Appends before.written mid.written [])
+    (same : mid.faults ≡ before.faults) where
   says_from : (text : List ℕ) (said : Sent) (now : Sheet) → Says text said mid now → Says text said before now
   says_from text said now p = record {
     wrote = wrote_from said before.written mid.written now.written text none p.wrote;
@@ -60,8 +62,18 @@ module _ (end : ServeEnd) (last : StewardEnd) (before mid later : Sheet) (none :
     calm = subst (λ (n : ℕ). UnlessWriteFailed said (now.faults ≡ n)) same p.calm;
   }
 
-  text_from : (short : Bool) (count : ℕ) (door : Option DoorTale) → SaysText end short last door count mid later → SaysText end short last door count before later
-  text_from short count door (inl p) = inl (record { none_taken = p.none_taken; said = p.said; supply = p.supply; unwritten = p.unwritten; ready = says_from ready_text p.said later p.ready; ends = p.ends; shortage = p.shortage })
+  text_from : (short : Bool) (count : ℕ) (door : Option DoorTale) → SaysText end short last door count mid later
+      → SaysText end short last door count before later
+  text_from short count door (inl p) =
+      inl (record {
+        none_taken = p.none_taken;
+        said = p.said;
+        supply = p.supply;
+        unwritten = p.unwritten;
+        ready = says_from ready_text p.said later p.ready;
+        ends = p.ends;
+        shortage = p.shortage;
+      })
   text_from short count door (inr p) = inr (record {
     why = p.why;
     stopped = p.stopped;
@@ -76,14 +88,20 @@ module _ (end : ServeEnd) (last : StewardEnd) (before mid later : Sheet) (none :
 
 -- ---- the table stayed at the load
 
-agrees_from : (told told' now : Option Records) (opening parts : List Part) → Stays told told' → IfSome told' (λ table. AgreesIn table opening → TellsAgreed now parts) → IfSome told (λ table. AgreesIn table opening → TellsAgreed now parts)
+agrees_from : (told told' now : Option Records) (opening parts : List Part) → Stays told told'
+    → IfSome told' (λ table. AgreesIn table opening → TellsAgreed now parts)
+    → IfSome told (λ table. AgreesIn table opening → TellsAgreed now parts)
 agrees_from None told' now opening parts stays p = tt
 agrees_from (Some table) None now opening parts stays p = absurd stays
-agrees_from (Some table) (Some table') now opening parts stays p = subst (λ (t : Records). AgreesIn t opening → TellsAgreed now parts) stays p
+agrees_from (Some table) (Some table') now opening parts stays p =
+    subst (λ (t : Records). AgreesIn t opening → TellsAgreed now parts) stays p
 
 -- what was promised once the hall was open is promised from before the load on
-pub served_from : (shows : ℕ → Bool) (opening : List Part) (end : ServeEnd) (door : Option DoorTale) (before mid later : Sheet) (loaded new : Store) (pass : PassState) → Appends before.written mid.written [] → mid.faults ≡ before.faults
-    → HasServedAll shows opening end door mid later loaded new pass → HasServedAll shows opening end door before later loaded new pass
+pub served_from : (shows : ℕ → Bool) (opening : List Part) (end : ServeEnd) (door : Option DoorTale)
+    (before mid later : Sheet) (loaded new : Store) (pass : PassState)
+    → Appends before.written mid.written [] → mid.faults ≡ before.faults
+    → HasServedAll shows opening end door mid later loaded new pass
+    → HasServedAll shows opening end door before later loaded new pass
 served_from shows opening end door before mid later loaded new pass none same p =
     record {
       last = p.last;
@@ -100,7 +118,8 @@ first_part : (lobby : LobbyState) → slice_get (opened lobby) 0 ≡ Some (TheLo
 unfolding opened
 first_part lobby = refl
 
-loaded_agrees : (table : Records) (lobby : LobbyState) → IsAtOpening lobby → HasLoaded table lobby → AgreesIn table (opened lobby)
+loaded_agrees : (table : Records) (lobby : LobbyState) → IsAtOpening lobby → HasLoaded table lobby
+    → AgreesIn table (opened lobby)
 loaded_agrees table lobby at loads other there key =
     let same : other ≡ lobby = one_lobby (opened lobby) other lobby there (first_part lobby) in
     let none : other.shelf.orders ≡ [] = ap (λ (l : LobbyState). l.shelf.orders) same ∙ at.no_orders in
@@ -108,13 +127,20 @@ loaded_agrees table lobby at loads other there key =
     ∙ sym (loads key)
     ∙ ap (λ (l : LobbyState). wanted_by l key) (sym same)
 
-agreed_by : (told now : Option Records) (lobby : LobbyState) (opening parts : List Part) → IsAtOpening lobby → IfSome told (λ table. HasLoaded table lobby) → opening ≡ opened lobby → IfSome told (λ table. AgreesIn table opening → TellsAgreed now parts) → IfSome told (λ table. TellsAgreed now parts)
+agreed_by : (told now : Option Records) (lobby : LobbyState) (opening parts : List Part) → IsAtOpening lobby
+    → IfSome told (λ table. HasLoaded table lobby) → opening ≡ opened lobby
+    → IfSome told (λ table. AgreesIn table opening → TellsAgreed now parts)
+    → IfSome told (λ table. TellsAgreed now parts)
 agreed_by None now lobby opening parts at loads is p = tt
-agreed_by (Some table) now lobby opening parts at loads is p = p (subst (AgreesIn table) (sym is) (loaded_agrees table lobby at loads))
+agreed_by (Some table) now lobby opening parts at loads is p =
+    p (subst (AgreesIn table) (sym is) (loaded_agrees table lobby at loads))
 
 -- the table that is told agrees at the end
-pub table_agrees : (shows : ℕ → Bool) (lobby : LobbyState) (end : ServeEnd) (door : Option DoorTale) (before later : Sheet) (old loaded new : Store) (pass : PassState) → IsLoaded old loaded lobby
-    → HasServedAll shows (opened lobby) end door before later loaded new pass → IfSome old.table (λ table. TellsAgreed new.table (state house pass.opening pass.seen))
+pub table_agrees : (shows : ℕ → Bool) (lobby : LobbyState) (end : ServeEnd) (door : Option DoorTale)
+    (before later : Sheet) (old loaded new : Store) (pass : PassState)
+    → IsLoaded old loaded lobby
+    → HasServedAll shows (opened lobby) end door before later loaded new pass
+    → IfSome old.table (λ table. TellsAgreed new.table (state house pass.opening pass.seen))
 table_agrees shows lobby end door before later old loaded new pass loads p =
     let parts = state house pass.opening pass.seen in
     agreed_by old.table new.table lobby pass.opening parts loads.opening loads.holds p.hall.opens

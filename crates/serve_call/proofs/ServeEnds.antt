@@ -109,12 +109,14 @@ is_complete DoorFault (inl w) = absurd w
 is_complete DoorFault (inr e) = absurd cc
 
 -- words that name no job don't ask to serve
-pub no_serve : (fail : JobFail) (words : List (String Global)) → OnUsage fail ((job : Job) → jobs.Names words job → ⊥) → OnUsage fail (AsksToServe words → ⊥)
+pub no_serve : (fail : JobFail) (words : List (String Global)) → OnUsage fail ((job : Job) → jobs.Names words job → ⊥)
+    → OnUsage fail (AsksToServe words → ⊥)
 no_serve TheFail.Usage words h = λ asks. h (TheJob.Serve asks.0 asks.1 asks.2 asks.3) asks.4
 no_serve TheFail.Memory words h = tt
 
 -- the statuses with which the usage line is written
-pub usage_listed : (written written' : Option (List ℕ)) (status : ℕ) → UsageEnds written written' status → AllStatuses status
+pub usage_listed : (written written' : Option (List ℕ)) (status : ℕ) → UsageEnds written written' status
+    → AllStatuses status
 usage_listed written written' status (inl p) = subst AllStatuses (sym p.0) (1, omega arith, refl)
 usage_listed written written' status (inr (inl e, front)) = subst AllStatuses (sym e) (2, omega arith, refl)
 usage_listed written written' status (inr (inr e, front)) = subst AllStatuses (sym e) (5, omega arith, refl)
@@ -125,18 +127,23 @@ usage_told (inl p) = inr (inl p)
 usage_told (inr p) = inl p
 
 -- no other status is told with it
-pub usage_else : (written written' : Option (List ℕ)) (status : ℕ) → UsageEnds written written' status → (status ≡ 4) ⊎ ((status ≡ 5) ⊎ (status ≡ 8)) → ⊥
+pub usage_else : (written written' : Option (List ℕ)) (status : ℕ) → UsageEnds written written' status
+    → (status ≡ 4) ⊎ ((status ≡ 5) ⊎ (status ≡ 8)) → ⊥
 usage_else written written' status (inl p) e = omega (arith, p.0, e)
 usage_else written written' status (inr (inl is, front)) e = omega (arith, is, e)
 usage_else written written' status (inr (inr is, front)) e = omega (arith, is, e)
 
 -- a front of the usage line was written
-pub usage_front : (written written' : Option (List ℕ)) (status : ℕ) → UsageEnds written written' status → AppendsFront written written' usage_line
-usage_front written written' status (inl p) = (length usage_line, subst (λ (bs : List ℕ). Appends written written' bs) (sym (take-length usage_line)) p.1)
+pub usage_front : (written written' : Option (List ℕ)) (status : ℕ) → UsageEnds written written' status
+    → AppendsFront written written' usage_line
+usage_front written written' status (inl p) =
+    (length usage_line, subst (λ (bs : List ℕ). Appends written written' bs) (sym (take-length usage_line)) p.1)
 usage_front written written' status (inr p) = p.1
 
 -- the sink counted no fault, unless a fault of the last write is told, or one of the door, as from before the load on
-pub told_from : (before mid after : ℕ) (end : ServeEnd) → mid ≡ before → (after ≡ mid) ⊎ ((end ≡ WriteFault) ⊎ (end ≡ DoorFault)) → (after ≡ before) ⊎ ((end ≡ WriteFault) ⊎ (end ≡ DoorFault))
+pub told_from : (before mid after : ℕ) (end : ServeEnd) → mid ≡ before
+    → (after ≡ mid) ⊎ ((end ≡ WriteFault) ⊎ (end ≡ DoorFault))
+    → (after ≡ before) ⊎ ((end ≡ WriteFault) ⊎ (end ≡ DoorFault))
 told_from before mid after end same (inl e) = inl (e ∙ same)
 told_from before mid after end same (inr f) = inr f
 
@@ -147,7 +154,8 @@ status_told end (inr e) = inr (ap status_of e)
 -- ---- a call that opened a hall, or none
 
 -- a table with a bad key is no good store
-pub first_bad : (told : Option Records) (key : List ℕ) → IsFirstBad told key → IfSome told (λ table. IsGoodStore table → ⊥)
+pub first_bad : (told : Option Records) (key : List ℕ) → IsFirstBad told key
+    → IfSome told (λ table. IsGoodStore table → ⊥)
 first_bad None key first = tt
 first_bad (Some table) key first = λ good. good.none_bad key first.bad
 
@@ -176,7 +184,10 @@ module _ (old new : Store) (before after : Sheet) (door door' : ℕ) where
   unopened_bad unopened.BadRecord e = refl
   unopened_bad unopened.Memory e = absurd (omega (arith, e))
 
-  unopened_else : (fault : StoreFault) → (unopened_status fault ≡ 1) ⊎ ((unopened_status fault ≡ 8) ⊎ ((unopened_status fault ≡ 0) ⊎ (unopened_status fault ≡ 9))) → ⊥
+  unopened_else : (fault : StoreFault)
+      → (unopened_status fault ≡ 1)
+      ⊎ ((unopened_status fault ≡ 8) ⊎ ((unopened_status fault ≡ 0) ⊎ (unopened_status fault ≡ 9)))
+      → ⊥
   unopened_else unopened.WriteFault e = omega (arith, e)
   unopened_else unopened.KeeperFault e = omega (arith, e)
   unopened_else unopened.BadRecord e = omega (arith, e)
@@ -188,17 +199,20 @@ module _ (old new : Store) (before after : Sheet) (door door' : ℕ) where
   unopened_listed unopened.BadRecord = (4, omega arith, refl)
   unopened_listed unopened.Memory = (5, omega arith, refl)
 
-  unopened_calm : (fault : StoreFault) → StaysUnopened fault old new before after → (OneRose counts counts' → ⊥) → CalmStatuses (unopened_status fault)
+  unopened_calm : (fault : StoreFault) → StaysUnopened fault old new before after → (OneRose counts counts' → ⊥)
+      → CalmStatuses (unopened_status fault)
   unopened_calm unopened.WriteFault p calm = absurd (calm (inr (inl (p.write_fault refl))))
   unopened_calm unopened.KeeperFault p calm = absurd (calm (inr (inr (p.keeper_fault refl))))
   unopened_calm unopened.BadRecord p calm = (1, omega arith, refl)
   unopened_calm unopened.Memory p calm = (2, omega arith, refl)
 
-  pub call_write : (status : ℕ) → EndsCall status old new before after counts counts' → status ≡ 3 → Rose before.faults after.faults
+  pub call_write : (status : ℕ) → EndsCall status old new before after counts counts' → status ≡ 3
+      → Rose before.faults after.faults
   call_write status (inl (fault, is, p)) e = p.write_fault (unopened_write fault (sym is ∙ e))
   call_write status (inr (end, is, p)) e = p.write_fault (is_write_fault end (sym is ∙ e))
 
-  pub call_keeper : (status : ℕ) → EndsCall status old new before after counts counts' → status ≡ 4 → Rose old.faults new.faults
+  pub call_keeper : (status : ℕ) → EndsCall status old new before after counts counts' → status ≡ 4
+      → Rose old.faults new.faults
   call_keeper status (inl (fault, is, p)) e = p.keeper_fault (unopened_keeper fault (sym is ∙ e))
   call_keeper status (inr (end, is, p)) e = p.keeper_fault (is_keeper_fault end (sym is ∙ e))
 
@@ -210,31 +224,38 @@ module _ (old new : Store) (before after : Sheet) (door door' : ℕ) where
   call_usage status (inl (fault, is, p)) e = unopened_else fault (inl (sym is ∙ e))
   call_usage status (inr (end, is, p)) e = is_no_usage end (sym is ∙ e)
 
-  pub call_text : (status : ℕ) → EndsCall status old new before after counts counts' → (status ≡ 0) ⊎ (status ≡ 9) → Appends before.written after.written whole_text
+  pub call_text : (status : ℕ) → EndsCall status old new before after counts counts' → (status ≡ 0) ⊎ (status ≡ 9)
+      → Appends before.written after.written whole_text
   call_text status (inl (fault, is, p)) (inl e) = absurd (unopened_else fault (inr (inr (inl (sym is ∙ e)))))
   call_text status (inl (fault, is, p)) (inr e) = absurd (unopened_else fault (inr (inr (inr (sym is ∙ e)))))
   call_text status (inr (end, is, p)) (inl e) = p.text (is_whole end (inl (sym is ∙ e)))
   call_text status (inr (end, is, p)) (inr e) = p.text (is_whole end (inr (sym is ∙ e)))
 
-  pub call_bad : (status : ℕ) → EndsCall status old new before after counts counts' → status ≡ 5 → (key : List ℕ) × IsFirstBad old.table key × Appends before.written after.written (bad_record_line key)
-  call_bad status (inl (fault, is, p)) e = subst (λ (f : StoreFault). Tells {A = LobbyState} old.table before.written after.written (Err f)) (unopened_bad fault (sym is ∙ e)) p.wrote
+  pub call_bad : (status : ℕ) → EndsCall status old new before after counts counts' → status ≡ 5
+      → (key : List ℕ) × IsFirstBad old.table key × Appends before.written after.written (bad_record_line key)
+  call_bad status (inl (fault, is, p)) e =
+      subst (λ (f : StoreFault). Tells {A = LobbyState} old.table before.written after.written (Err f))
+      (unopened_bad fault (sym is ∙ e)) p.wrote
   call_bad status (inr (end, is, p)) e = absurd (is_no_bad_record end (sym is ∙ e))
 
   pub call_listed : (status : ℕ) → EndsCall status old new before after counts counts' → AllStatuses status
   call_listed status (inl (fault, is, p)) = subst AllStatuses (sym is) (unopened_listed fault)
   call_listed status (inr (end, is, p)) = subst AllStatuses (sym is) (is_listed end)
 
-  pub call_calm : (status : ℕ) → EndsCall status old new before after counts counts' → (OneRose counts counts' → ⊥) → CalmStatuses status
+  pub call_calm : (status : ℕ) → EndsCall status old new before after counts counts' → (OneRose counts counts' → ⊥)
+      → CalmStatuses status
   call_calm status (inl (fault, is, p)) calm = subst CalmStatuses (sym is) (unopened_calm fault p calm)
   call_calm status (inr (end, is, p)) calm = subst CalmStatuses (sym is) (is_complete end (p.complete calm))
 
-  unopened_told : (fault : StoreFault) → StaysUnopened fault old new before after → (after.faults ≡ before.faults) ⊎ ((unopened_status fault ≡ 3) ⊎ (unopened_status fault ≡ 8))
+  unopened_told : (fault : StoreFault) → StaysUnopened fault old new before after
+      → (after.faults ≡ before.faults) ⊎ ((unopened_status fault ≡ 3) ⊎ (unopened_status fault ≡ 8))
   unopened_told unopened.WriteFault p = inr (inl refl)
   unopened_told unopened.KeeperFault p = inl p.write_calm
   unopened_told unopened.BadRecord p = inl p.write_calm
   unopened_told unopened.Memory p = inl p.write_calm
 
-  served_told : (end : ServeEnd) → (after.faults ≡ before.faults) ⊎ ((end ≡ WriteFault) ⊎ (end ≡ DoorFault)) → (after.faults ≡ before.faults) ⊎ ((status_of end ≡ 3) ⊎ (status_of end ≡ 8))
+  served_told : (end : ServeEnd) → (after.faults ≡ before.faults) ⊎ ((end ≡ WriteFault) ⊎ (end ≡ DoorFault))
+      → (after.faults ≡ before.faults) ⊎ ((status_of end ≡ 3) ⊎ (status_of end ≡ 8))
   served_told end (inl e) = inl e
   served_told end (inr f) = inr (status_told end f)
 
@@ -245,7 +266,8 @@ module _ (old new : Store) (before after : Sheet) (door door' : ℕ) where
   call_told status (inl (fault, is, p)) = subst IsWriteTold (sym is) (unopened_told fault p)
   call_told status (inr (end, is, p)) = subst IsWriteTold (sym is) (served_told end p.write_told)
 
-  pub call_good : (status : ℕ) → EndsCall status old new before after counts counts' → status ≡ 5 → IfSome old.table (λ table. IsGoodStore table → ⊥)
+  pub call_good : (status : ℕ) → EndsCall status old new before after counts counts' → status ≡ 5
+      → IfSome old.table (λ table. IsGoodStore table → ⊥)
   call_good status ends e = let bad = call_bad status ends e in first_bad old.table bad.0 bad.1
 
 pub one_rose : {one two three : Type 0} → (one → ⊥) → (two → ⊥) → (three → ⊥) → one ⊎ (two ⊎ three) → ⊥

@@ -46,8 +46,10 @@ no_failure : (answer : Kept) → answer ≡ Done → answer ≡ Failed → ⊥
 no_failure answer done failed = (let bad : Done ≡ Failed = sym done ∙ failed in cc)
 
 -- what was promised of no hall is promised from before the load on
-pub none_opened : {H : Type 0} (hall : Option H) (end : ServeEnd) (status : ℕ) (old loaded new : Store) (before mid later : Sheet)
-    → status ≡ status_of end → Appends before.written mid.written [] → mid.faults ≡ before.faults → Stays old.table loaded.table
+pub none_opened : {H : Type 0} (hall : Option H) (end : ServeEnd) (status : ℕ) (old loaded new : Store)
+    (before mid later : Sheet)
+    → status ≡ status_of end → Appends before.written mid.written [] → mid.faults ≡ before.faults
+    → Stays old.table loaded.table
     → LoadsOnce old.calls loaded.calls (λ answer. answer ≡ Done)
     → IfNone hall ((end ≡ Memory) × Keeps mid.written later.written) → IfNone hall (new ≡ loaded)
     → (later.faults ≡ mid.faults) ⊎ ((end ≡ WriteFault) ⊎ (end ≡ DoorFault))
@@ -67,19 +69,25 @@ none_opened None end status old loaded new before mid later ends none same stays
 none_opened (Some h) end status old loaded new before mid later ends none same stays called p kept told = tt
 
 -- a store that wasn't opened
-calls_unopened : (fault : StoreFault) (old new : Calls) → LoadsOnce old new (FailsAt fault) → CallsUnopened fault old new
+calls_unopened : (fault : StoreFault) (old new : Calls) → LoadsOnce old new (FailsAt fault)
+    → CallsUnopened fault old new
 calls_unopened unopened.BadRecord old new p = p
 calls_unopened unopened.KeeperFault old new p = p
 calls_unopened unopened.WriteFault old new p = p
 calls_unopened unopened.Memory old new p = inr p
 
-pub unopened_by : (fault : StoreFault) (old new : Store) (before after : Sheet) → Tells {A = LobbyState} old.table before.written after.written (Err fault) → OnReadFault {A = LobbyState} (Err fault) (Rose old.faults new.faults)
-    → OnWriteFault {A = LobbyState} (Err fault) (Rose before.faults after.faults) → UnlessWriteFault {A = LobbyState} (Err fault) (after.faults ≡ before.faults) → Stays old.table new.table
+pub unopened_by : (fault : StoreFault) (old new : Store) (before after : Sheet)
+    → Tells {A = LobbyState} old.table before.written after.written (Err fault)
+    → OnReadFault {A = LobbyState} (Err fault) (Rose old.faults new.faults)
+    → OnWriteFault {A = LobbyState} (Err fault) (Rose before.faults after.faults)
+    → UnlessWriteFault {A = LobbyState} (Err fault) (after.faults ≡ before.faults) → Stays old.table new.table
     → LoadsOnce old.calls new.calls (FailsAt fault) → StaysUnopened fault old new before after
 unopened_by fault old new before after wrote read write calm stays called = record {
   wrote = wrote;
-  keeper_fault = λ e. subst (λ (f : StoreFault). OnReadFault {A = LobbyState} (Err f) (Rose old.faults new.faults)) e read;
-  write_fault = λ e. subst (λ (f : StoreFault). OnWriteFault {A = LobbyState} (Err f) (Rose before.faults after.faults)) e write;
+  keeper_fault = λ e.
+      subst (λ (f : StoreFault). OnReadFault {A = LobbyState} (Err f) (Rose old.faults new.faults)) e read;
+  write_fault = λ e.
+      subst (λ (f : StoreFault). OnWriteFault {A = LobbyState} (Err f) (Rose before.faults after.faults)) e write;
   write_calm = calm;
   table = stays;
   called = calls_unopened fault old.calls new.calls called;

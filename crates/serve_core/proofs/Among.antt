@@ -31,11 +31,13 @@ in_rest x d [] two p = inr p
 in_rest x d (z ∷ one) two (inl e) = inl e
 in_rest x d (z ∷ one) two (inr p) = inr (in_rest x d one two p)
 
-in_deeper : {T : Type 0} (f : T → ℕ) (m : ℕ) (d z : T) (one two : List T) → (m ≡ f d) ⊎ In m (map f (one ++ two)) → (m ≡ f d) ⊎ In m (map f (z ∷ (one ++ two)))
+in_deeper : {T : Type 0} (f : T → ℕ) (m : ℕ) (d z : T) (one two : List T) → (m ≡ f d) ⊎ In m (map f (one ++ two))
+    → (m ≡ f d) ⊎ In m (map f (z ∷ (one ++ two)))
 in_deeper f m d z one two (inl e) = inl e
 in_deeper f m d z one two (inr p) = inr (inr p)
 
-pub in_map_rest : {T : Type 0} (f : T → ℕ) (m : ℕ) (d : T) (one two : List T) → In m (map f (one ++ d ∷ two)) → (m ≡ f d) ⊎ In m (map f (one ++ two))
+pub in_map_rest : {T : Type 0} (f : T → ℕ) (m : ℕ) (d : T) (one two : List T) → In m (map f (one ++ d ∷ two))
+    → (m ≡ f d) ⊎ In m (map f (one ++ two))
 in_map_rest f m d [] two (inl e) = inl e
 in_map_rest f m d [] two (inr p) = inr p
 in_map_rest f m d (z ∷ one) two (inl e) = inr (inl e)
@@ -51,7 +53,8 @@ one_longer d xs = omega (arith, length-append xs (d ∷ []))
 pub get_left : {T : Type 0} (xs ys : List T) (i : ℕ) (x : T) → slice_get xs i ≡ Some x → slice_get (xs ++ ys) i ≡ Some x
 get_left xs ys i x e =
     let low : i < length xs = slice_get_within xs i x e in
-    slice_get-get_or (xs ++ ys) i x (omega (arith, low, length-append xs ys)) ∙ ap Some (get_or-append xs ys x i low ∙ get_or_from_slice_get xs i x x e)
+    slice_get-get_or (xs ++ ys) i x (omega (arith, low, length-append xs ys))
+    ∙ ap Some (get_or-append xs ys x i low ∙ get_or_from_slice_get xs i x x e)
 
 pub get_last : {T : Type 0} (xs : List T) (x : T) → slice_get (xs ++ x ∷ []) (length xs) ≡ Some x
 get_last [] x = refl

@@ -47,7 +47,9 @@ use Rattle.serve_core.proofs.Turning.{may_end, turns_as}
 -- ---- the table
 
 -- a table that is told, and agreed, agrees with what was seen at the end, where no other session told orders as saved
-told_agreed : (parts opening : List Part) (before after : Option Records) (old new : RunnerState) → StaysAgreed before after old new → IsWhole old.opening → NoOthersSave old new → state_seen old ≡ opening → state_seen new ≡ parts
+told_agreed : (parts opening : List Part) (before after : Option Records) (old new : RunnerState)
+    → StaysAgreed before after old new → IsWhole old.opening → NoOthersSave old new → state_seen old ≡ opening
+    → state_seen new ≡ parts
     → IfSome before (λ table. AgreesIn table opening → TellsAgreed after parts)
 told_agreed parts opening None after old new stays whole none was is = tt
 told_agreed parts opening (Some before) None old new stays whole none was is = absurd stays
@@ -61,9 +63,14 @@ told_agreed parts opening (Some before) (Some after) old new stays whole none wa
 
 -- what is known once all links were served: the first pass, with the passes that were joined into it, and the turns of
 -- the steward that were made, from the opening on
-module _ {C : Type 0} (shows : C → ℕ → Bool) (hall : TableId) (clock : C) (supply : Supply) (opens door : Option DoorTale) (opening : List Part) (pass new : PassState) (old mid after : Store) (last : StewardEnd) (made : Supply)
-    (k : Underway shows hall clock supply door pass []) (tended : Tended (stand (first_pass hall opening) Enough opens old) (stand pass supply door mid)) (unused : IfSome opens IsUnused) (whole : IsWhole opening)
-    (t : TurnsLast last made mid after pass new) (fault : last ≡ steward.KeeperFault → Rose mid.faults after.faults) (counted : mid.faults ≤ after.faults) where
+module _ {C : Type 0} (shows : C → ℕ → Bool) (hall : TableId) (clock : C) (supply : Supply)
+    (opens door : Option DoorTale) (opening : List Part) (pass new : PassState) (old mid after : Store)
+    (last : StewardEnd) (made : Supply)
+    (k : Underway shows hall clock supply door pass [])
+    (tended : Tended (stand (first_pass hall opening) Enough opens old) (stand pass supply door mid))
+    (unused : IfSome opens IsUnused) (whole : IsWhole opening)
+    (t : TurnsLast last made mid after pass new) (fault : last ≡ steward.KeeperFault → Rose mid.faults after.faults)
+    (counted : mid.faults ≤ after.faults) where
   abbrev start : RunnerState
   start = runs_of (first_pass hall opening)
 
@@ -84,7 +91,8 @@ module _ {C : Type 0} (shows : C → ℕ → Bool) (hall : TableId) (clock : C) 
   is_first = last_number last made mid after pass new t ∙ k.first
 
   opening_is : new.opening ≡ opening
-  opening_is = last_opening last made mid after pass new t ∙ ap (λ (s : RunnerState). s.opening) (tended.grew start_known).same
+  opening_is =
+      last_opening last made mid after pass new t ∙ ap (λ (s : RunnerState). s.opening) (tended.grew start_known).same
 
   opening_was : pass.opening ≡ opening
   opening_was = ap (λ (s : RunnerState). s.opening) (tended.grew start_known).same
@@ -97,7 +105,9 @@ module _ {C : Type 0} (shows : C → ℕ → Bool) (hall : TableId) (clock : C) 
 
   -- up to the look before the last turn
   ready : Tended (stand (first_pass hall opening) Enough opens old) (stand t.first supply door mid)
-  ready = tended_then (stand (first_pass hall opening) Enough opens old) (stand pass supply door mid) (stand t.first supply door mid) tended (tended_looked pass t.first supply door mid t.looked)
+  ready =
+      tended_then (stand (first_pass hall opening) Enough opens old) (stand pass supply door mid)
+      (stand t.first supply door mid) tended (tended_looked pass t.first supply door mid t.looked)
 
   ready_made : t.first.made ≡ ready.entries
   ready_made = (ready.grew start_known).more
@@ -114,20 +124,29 @@ module _ {C : Type 0} (shows : C → ℕ → Bool) (hall : TableId) (clock : C) 
       let turn = t.made.turn in
       let looks = looked_made t.mid new t.looked_again in
       let table = after.table in
-      let one = agreed_then old.table mid.table table start (runs_of t.first) (runs_of t.mid) ready.entries turn.entries grew turn.grew (ready.agrees start_known) t.made.agrees in
-      agreed_then old.table table table start (runs_of t.mid) (runs_of new) (ready.entries ++ turn.entries) [] (made_then start (runs_of t.first) (runs_of t.mid) ready.entries turn.entries grew turn.grew) looks one
+      let one =
+      agreed_then old.table mid.table table start (runs_of t.first) (runs_of t.mid) ready.entries turn.entries grew
+      turn.grew (ready.agrees start_known) t.made.agrees in
+      agreed_then old.table table table start (runs_of t.mid) (runs_of new) (ready.entries ++ turn.entries) []
+      (made_then start (runs_of t.first) (runs_of t.mid) ready.entries turn.entries grew turn.grew) looks one
       (agreed_unsaved table (runs_of t.mid) (runs_of new) [] turn.grew.known looks tt)
 
-  served_session : (lack : Type 0) → (supply ≡ Short → lack) → (m : ℕ) (j : Joined Timed Reply) → In j pass.joined → m ≡ j.number → HadSession (shows clock) lack door m (calls_of m new.seen)
+  served_session : (lack : Type 0) → (supply ≡ Short → lack) → (m : ℕ) (j : Joined Timed Reply) → In j pass.joined
+      → m ≡ j.number → HadSession (shows clock) lack door m (calls_of m new.seen)
   served_session lack short m j there is =
-      let calls : calls_of j.number new.seen ≡ j.calls = t.looked_again.calls j (subst (λ (xs : List (Joined Timed Reply)). In j xs) (sym joined_are) there) in
+      let calls : calls_of j.number new.seen ≡ j.calls =
+      t.looked_again.calls j (subst (λ (xs : List (Joined Timed Reply)). In j xs) (sym joined_are) there) in
       let same : HadSession (shows clock) lack door j.number j.calls =
-      served_then (shows clock) j.number j.calls (supply ≡ Short) lack door door (λ a b. a ≡ b) (where_same door (λ a b. a ≡ b) (λ tale. refl)) (λ n link a b e p. subst (λ (x : DoorTale). CameAs n link x) e p) (λ n link a b e p. subst (λ (x : DoorTale). CameBack n link x) e p) short (k.served j there) in
-      subst (λ n. HadSession (shows clock) lack door n (calls_of n new.seen)) (sym is) (subst (λ (l : Log). HadSession (shows clock) lack door j.number l) (sym calls) same)
+      served_then (shows clock) j.number j.calls (supply ≡ Short) lack door door (λ a b. a ≡ b)
+      (where_same door (λ a b. a ≡ b) (λ tale. refl)) (λ n link a b e p. subst (λ (x : DoorTale). CameAs n link x) e p)
+      (λ n link a b e p. subst (λ (x : DoorTale). CameBack n link x) e p) short (k.served j there) in
+      subst (λ n. HadSession (shows clock) lack door n (calls_of n new.seen)) (sym is)
+      (subst (λ (l : Log). HadSession (shows clock) lack door j.number l) (sym calls) same)
 
   -- whether memory ran out is told
   module _ (b : Bool) (short : supply ≡ Short → b ≡ true) (short_last : made ≡ Short → b ≡ true) where
-    sessions_served : (m : ℕ) → 0 < m → m ≤ new.splits → HadSession (shows clock) (b ≡ true) door m (calls_of m new.seen)
+    sessions_served : (m : ℕ) → 0 < m → m ≤ new.splits
+        → HadSession (shows clock) (b ≡ true) door m (calls_of m new.seen)
     sessions_served m low high =
         let found = in_map_from joined_number m pass.joined (everyone m low (omega (arith, high, splits_are))) in
         served_session (b ≡ true) short m found.0 found.1 found.2
@@ -139,15 +158,26 @@ module _ {C : Type 0} (shows : C → ℕ → Bool) (hall : TableId) (clock : C) 
     others = record {
       served = λ m low high.
           let p = sessions_served m low high in
-          record { shows = shows clock; mark = true; end = p.end; came = record { tale = p.link; faults = 0 }; back = p.returned; served = p.served };
+          record {
+            shows = shows clock;
+            mark = true;
+            end = p.end;
+            came = record { tale = p.link; faults = 0 };
+            back = p.returned;
+            served = p.served;
+          };
       none_after = nobody_else;
     }
 
     turns_before : AreTurns (MayEnd (b ≡ true)) ready.count old mid ready.entries
-    turns_before = turns_as (MayEnd (supply ≡ Short)) (MayEnd (b ≡ true)) (may_end (supply ≡ Short) (b ≡ true) short) ready.count old mid ready.entries ready.turns
+    turns_before =
+        turns_as (MayEnd (supply ≡ Short)) (MayEnd (b ≡ true)) (may_end (supply ≡ Short) (b ≡ true) short) ready.count
+        old mid ready.entries ready.turns
 
     quiets_then : IfSome door (λ tale. ready.count ≡ tale.quiets)
-    quiets_then = told_then opens door (GivesQuiets ready.count) IsUnused (λ tale. ready.count ≡ tale.quiets) (λ a b gives none. omega (arith, gives, none.2)) ready.quiets unused
+    quiets_then =
+        told_then opens door (GivesQuiets ready.count) IsUnused (λ tale. ready.count ≡ tale.quiets)
+        (λ a b gives none. omega (arith, gives, none.2)) ready.quiets unused
 
     one_history : HasOneHistory opening (noted b new)
     one_history = record {
@@ -155,15 +185,21 @@ module _ {C : Type 0} (shows : C → ℕ → Bool) (hall : TableId) (clock : C) 
       opens = opening_is;
       opens_whole = subst IsWhole (sym opening_is) whole;
       legal = t.looked_again.known.legal;
-      all_joined = λ m low high. subst (λ (xs : List (Joined Timed Reply)). In m (map joined_number xs)) (sym joined_are) (everyone m low (omega (arith, high, splits_are)));
+      all_joined = λ m low high.
+          subst (λ (xs : List (Joined Timed Reply)). In m (map joined_number xs)) (sym joined_are)
+          (everyone m low (omega (arith, high, splits_are)));
       no_others = nobody_else;
     }
 
     each_session : EachHadSession (shows clock) door (noted b new)
     each_session = record {
       sessions = sessions_served;
-      came = told_as door (λ tale. length tale.came ≡ pass.splits) (λ tale. length tale.came ≡ new.splits) (λ tale n. n ∙ sym splits_are) k.came;
-      back = told_and door (λ tale. length tale.came ≡ pass.splits) (λ tale. length tale.back + 0 ≡ length tale.came) (λ tale. length tale.back ≡ new.splits) (λ tale n m. omega (arith, n, m, splits_are)) k.came k.out;
+      came =
+          told_as door (λ tale. length tale.came ≡ pass.splits) (λ tale. length tale.came ≡ new.splits)
+          (λ tale n. n ∙ sym splits_are) k.came;
+      back =
+          told_and door (λ tale. length tale.came ≡ pass.splits) (λ tale. length tale.back + 0 ≡ length tale.came)
+          (λ tale. length tale.back ≡ new.splits) (λ tale n m. omega (arith, n, m, splits_are)) k.came k.out;
     }
 
     tended_all : HasTended (b ≡ true) last door old after new.opening new.seen
@@ -189,26 +225,37 @@ module _ {C : Type 0} (shows : C → ℕ → Bool) (hall : TableId) (clock : C) 
       orders = last_leaves last made mid after pass new t k.first everyone (subst IsWhole (sym opening_was) whole);
     }
 
-    pub served_all : (end : ServeEnd) (before later : Sheet) → SaysText end b last door pass.splits before later → HasServedAll (shows clock) opening end door before later old after (noted b new)
+    pub served_all : (end : ServeEnd) (before later : Sheet) → SaysText end b last door pass.splits before later
+        → HasServedAll (shows clock) opening end door before later old after (noted b new)
     served_all end before later leaves = record {
       last = last;
       hall = one_history;
       links = each_session;
       steward = tended_all;
-      store = told_agreed (state house new.opening new.seen) new.opening old.table after.table start (runs_of new) stays whole (known_seen (others_never_save new.splits new.seen others)) (sym opening_is) refl;
+      store =
+          told_agreed (state house new.opening new.seen) new.opening old.table after.table start (runs_of new) stays
+          whole (known_seen (others_never_save new.splits new.seen others)) (sym opening_is) refl;
       text = subst (λ n. SaysText end b last door n before later) (sym splits_are) leaves;
     }
 
   pub still_here : new.home ≡ hall
   still_here = last_home last made mid after pass new t ∙ k.here
 
-pub all_served : {C : Type 0} (shows : C → ℕ → Bool) (hall : TableId) (clock : C) (supply : Supply) (opens door : Option DoorTale) (opening : List Part) (first pass new : PassState) (old mid after : Store) (last : StewardEnd) (made : Supply)
-    → Underway shows hall clock supply door pass [] → first ≡ first_pass hall opening → Tended (stand first Enough opens old) (stand pass supply door mid) → IfSome opens IsUnused → IsWhole first.opening
-    → TurnsLast last made mid after pass new → (last ≡ steward.KeeperFault → Rose mid.faults after.faults) → mid.faults ≤ after.faults
-    → (b : Bool) → (supply ≡ Short → b ≡ true) → (made ≡ Short → b ≡ true) → (end : ServeEnd) (before later : Sheet) → SaysText end b last door pass.splits before later
+pub all_served : {C : Type 0} (shows : C → ℕ → Bool) (hall : TableId) (clock : C) (supply : Supply)
+    (opens door : Option DoorTale) (opening : List Part) (first pass new : PassState) (old mid after : Store)
+    (last : StewardEnd) (made : Supply)
+    → Underway shows hall clock supply door pass [] → first ≡ first_pass hall opening
+    → Tended (stand first Enough opens old) (stand pass supply door mid) → IfSome opens IsUnused → IsWhole first.opening
+    → TurnsLast last made mid after pass new → (last ≡ steward.KeeperFault → Rose mid.faults after.faults)
+    → mid.faults ≤ after.faults
+    → (b : Bool) → (supply ≡ Short → b ≡ true) → (made ≡ Short → b ≡ true) → (end : ServeEnd) (before later : Sheet)
+    → SaysText end b last door pass.splits before later
     → HasServedAll (shows clock) first.opening end door before later old after (noted b new)
-all_served shows hall clock supply opens door opening first pass new old mid after last made k is tended unused whole t fault counted b short short_last end before later leaves =
+all_served shows hall clock supply opens door opening first pass new old mid after last made k is tended unused whole t
+    fault counted b short short_last end before later leaves =
     let at : first.opening ≡ opening = ap (λ (p : PassState). p.opening) is in
-    subst (λ (parts : List Part). HasServedAll (shows clock) parts end door before later old after (noted b new)) (sym at)
+    subst (λ (parts : List Part). HasServedAll (shows clock) parts end door before later old after (noted b new))
+    (sym at)
     (served_all shows hall clock supply opens door opening pass new old mid after last made k
-    (subst (λ (p : PassState). Tended (stand p Enough opens old) (stand pass supply door mid)) is tended) unused (subst IsWhole at whole) t fault counted b short short_last end before later leaves)
+    (subst (λ (p : PassState). Tended (stand p Enough opens old) (stand pass supply door mid)) is tended) unused
+    (subst IsWhole at whole) t fault counted b short short_last end before later leaves)

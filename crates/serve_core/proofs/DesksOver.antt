@@ -54,10 +54,15 @@ row number serial = record { desk = number; serial = serial }
 -- each desk with such a game has its row among these
 abbrev AreAmong : List DeskInUse → List Part → Type 0
 AreAmong rows parts =
-    (number serial : ℕ) (desk : DeskState) → slice_get parts number ≡ Some (ADesk desk) → IsLeftOver desk → serial_of desk ≡ Some serial → In (row number serial) rows
+    (number serial : ℕ) (desk : DeskState) → slice_get parts number ≡ Some (ADesk desk) → IsLeftOver desk
+    → serial_of desk ≡ Some serial → In (row number serial) rows
 
-pub has_serial_by : (desk : DeskState) (game : Option GameState) → desk.game ≡ game → IsLeftOver desk → (serial : ℕ) × (serial_of desk ≡ Some serial)
-has_serial_by desk None is over = absurd (let bad : end_of desk ≡ None = ap (λ (g : Option GameState). end_of (record desk { game = g })) is in let both : None ≡ Some over.ended = sym bad ∙ over.is_over in cc)
+pub has_serial_by : (desk : DeskState) (game : Option GameState) → desk.game ≡ game → IsLeftOver desk
+    → (serial : ℕ) × (serial_of desk ≡ Some serial)
+has_serial_by desk None is over =
+    absurd (let bad : end_of desk ≡ None =
+    ap (λ (g : Option GameState). end_of (record desk { game = g })) is in
+    let both : None ≡ Some over.ended = sym bad ∙ over.is_over in cc)
 has_serial_by desk (Some g) is over = (g.serial, ap (λ (o : Option GameState). serial_of (record desk { game = o })) is)
 
 has_serial : (desk : DeskState) → IsLeftOver desk → (serial : ℕ) × (serial_of desk ≡ Some serial)
@@ -78,8 +83,12 @@ in_list : {T : Type 0} (x : T) (xs : List T) → Contains xs x → In x xs
 in_list x xs there = in_by x xs there.0 there.1 there.2
 
 -- the game that is listed for it has its serial
-listed_serial : (desk : DeskState) (game : Option GameState) (serial : ℕ) → desk.game ≡ game → serial_of desk ≡ Some serial → (listed : ListedGame) × (game_of desk ≡ Some listed) × (listed.serial ≡ serial)
-listed_serial desk None serial is s = absurd (let none : serial_of desk ≡ None = ap (λ (g : Option GameState). serial_of (record desk { game = g })) is in let both : None ≡ Some serial = sym none ∙ s in cc)
+listed_serial : (desk : DeskState) (game : Option GameState) (serial : ℕ) → desk.game ≡ game
+    → serial_of desk ≡ Some serial → (listed : ListedGame) × (game_of desk ≡ Some listed) × (listed.serial ≡ serial)
+listed_serial desk None serial is s =
+    absurd (let none : serial_of desk ≡ None =
+    ap (λ (g : Option GameState). serial_of (record desk { game = g })) is in
+    let both : None ≡ Some serial = sym none ∙ s in cc)
 listed_serial desk (Some g) serial is s =
     let own : serial_of desk ≡ Some g.serial = ap (λ (o : Option GameState). serial_of (record desk { game = o })) is in
     let same : Some g.serial ≡ Some serial = sym own ∙ s in (
@@ -90,7 +99,8 @@ listed_serial desk (Some g) serial is s =
 
 module _ (xs : List Part) (w : IsWhole xs) where
   -- it is told as in use
-  in_use : (number serial : ℕ) (desk : DeskState) → slice_get xs number ≡ Some (ADesk desk) → serial_of desk ≡ Some serial → In (row number serial) (desks_in_use w.lobby)
+  in_use : (number serial : ℕ) (desk : DeskState) → slice_get xs number ≡ Some (ADesk desk)
+      → serial_of desk ≡ Some serial → In (row number serial) (desks_in_use w.lobby)
   in_use number serial desk there is =
       let place = w.places number (ADesk desk) there in
       let inside : number < length xs = slice_get_within xs number (ADesk desk) there in
@@ -101,32 +111,41 @@ module _ (xs : List Part) (w : IsWhole xs) where
         there = ap game_in place.1.listed ∙ listed.1;
         serial = listed.2;
       } in
-      in_list (row number serial) (desks_in_use w.lobby) (((are_desks_in_use w.lobby).listed (row number serial)).1 used)
+      in_list (row number serial) (desks_in_use w.lobby)
+      (((are_desks_in_use w.lobby).listed (row number serial)).1 used)
 
   -- an act of the lobby leaves the desks as they are
-  desks_stay : (session : ℕ) (moment : ℕ) (act : LobbyAct) (number : ℕ) (desk : DeskState) → slice_get (after house xs session (record { moment = moment; act = Lobby act })) number ≡ Some (ADesk desk) → slice_get xs number ≡ Some (ADesk desk)
+  desks_stay : (session : ℕ) (moment : ℕ) (act : LobbyAct) (number : ℕ) (desk : DeskState)
+      → slice_get (after house xs session (record { moment = moment; act = Lobby act })) number ≡ Some (ADesk desk)
+      → slice_get xs number ≡ Some (ADesk desk)
   desks_stay session moment act number desk there =
       let timed : Timed = record { moment = moment; act = Lobby act } in
-      let alone : after house xs session timed ≡ set xs 0 (TheLobby (lobby_after w.lobby session act)) = after_alone house xs session timed (TheLobby w.lobby) w.first refl in
-      elim (after_write xs 0 number (TheLobby (lobby_after w.lobby session act)) (ADesk desk) (sym (ap (λ (l : List Part). slice_get l number) alone) ∙ there)) [
+      let alone : after house xs session timed ≡ set xs 0 (TheLobby (lobby_after w.lobby session act)) =
+      after_alone house xs session timed (TheLobby w.lobby) w.first refl in
+      elim (after_write xs 0 number (TheLobby (lobby_after w.lobby session act)) (ADesk desk)
+      (sym (ap (λ (l : List Part). slice_get l number) alone) ∙ there)) [
         | inl first ↦ absurd (let bad : TheLobby (lobby_after w.lobby session act) ≡ ADesk desk = first.1 in cc)
         | inr other ↦ other.1
       ]
 
   asked_among : (session moment : ℕ) → AreAmong (desks_in_use w.lobby) (after house xs session (asks_in_use moment))
-  asked_among session moment number serial desk there over is = in_use number serial desk (desks_stay session moment InUse number desk there) is
+  asked_among session moment number serial desk there over is =
+      in_use number serial desk (desks_stay session moment InUse number desk there) is
 
   -- the rows that the question is answered
-  rows_are : (session moment : ℕ) (answer : Reply) → reply house xs session (asks_in_use moment) ≡ Some answer → rows_told answer ≡ desks_in_use w.lobby
+  rows_are : (session moment : ℕ) (answer : Reply) → reply house xs session (asks_in_use moment) ≡ Some answer
+      → rows_told answer ≡ desks_in_use w.lobby
   rows_are session moment answer told =
-      let is : Some answer ≡ Some (lobby_reply (lobby_answer w.lobby session InUse)) = sym told ∙ reply_alone house xs session (asks_in_use moment) (TheLobby w.lobby) w.first refl in
+      let is : Some answer ≡ Some (lobby_reply (lobby_answer w.lobby session InUse)) =
+      sym told ∙ reply_alone house xs session (asks_in_use moment) (TheLobby w.lobby) w.first refl in
       let same : answer ≡ lobby_reply (lobby_answer w.lobby session InUse) = cc in
       ap rows_told same
 
 -- ---- a Clear
 
 -- of such a game, by its serial, it empties the desk
-is_cleared : (desk : DeskState) (serial : ℕ) → IsLeftOver desk → serial_of desk ≡ Some serial → (has_ended desk serial && is_left desk) ≡ true
+is_cleared : (desk : DeskState) (serial : ℕ) → IsLeftOver desk → serial_of desk ≡ Some serial
+    → (has_ended desk serial && is_left desk) ≡ true
 is_cleared desk serial over is =
     ap (λ (o : Option ℕ). (is_serial serial o && is_some (end_of desk)) && is_left desk) is
     ∙ ap (λ (b : Bool). (b && is_some (end_of desk)) && is_left desk) (eq-eqb serial serial refl)
@@ -134,8 +153,11 @@ is_cleared desk serial over is =
     ∙ eq-eqb (viewer_count desk) 0 over.nobody
 
 -- the desk afterwards has such a game only where it had it, with another serial
-cleared_over : (old new : DeskState) (serial other : ℕ) (done : Bool) → (has_ended old serial && is_left old) ≡ done → new ≡ cond done (emptied old) old → IsLeftOver new → serial_of new ≡ Some other → (new ≡ old) × (other ≢ serial)
-cleared_over old new serial other true is e over s = absurd (let bad : end_of new ≡ None = ap end_of e in let both : None ≡ Some over.ended = sym bad ∙ over.is_over in cc)
+cleared_over : (old new : DeskState) (serial other : ℕ) (done : Bool) → (has_ended old serial && is_left old) ≡ done
+    → new ≡ cond done (emptied old) old → IsLeftOver new → serial_of new ≡ Some other → (new ≡ old) × (other ≢ serial)
+cleared_over old new serial other true is e over s =
+    absurd
+    (let bad : end_of new ≡ None = ap end_of e in let both : None ≡ Some over.ended = sym bad ∙ over.is_over in cc)
 cleared_over old new serial other false is e over s = (
   e,
   λ same.
@@ -159,9 +181,11 @@ module _ (xs : List Part) (w : IsWhole xs) (session moment number serial : ℕ) 
 
   -- a desk afterwards: another one, as it was, or this one, cleared
   desk_now : (place : ℕ) (desk : DeskState) → slice_get (after house xs session timed) place ≡ Some (ADesk desk)
-      → ((place ≡ number) × (desk ≡ clear_desk there.0 serial)) ⊎ ((place ≢ number) × (slice_get xs place ≡ Some (ADesk desk)))
+      → ((place ≡ number) × (desk ≡ clear_desk there.0 serial))
+      ⊎ ((place ≢ number) × (slice_get xs place ≡ Some (ADesk desk)))
   desk_now place desk at =
-      elim (after_write (set xs 0 (TheLobby lobby_now)) number place (ADesk (clear_desk there.0 serial)) (ADesk desk) (sym (ap (λ (l : List Part). slice_get l place) both) ∙ at)) [
+      elim (after_write (set xs 0 (TheLobby lobby_now)) number place (ADesk (clear_desk there.0 serial)) (ADesk desk)
+      (sym (ap (λ (l : List Part). slice_get l place) both) ∙ at)) [
         | inl here ↦ inl (here.0, let same : ADesk (clear_desk there.0 serial) ≡ ADesk desk = here.1 in cc)
         | inr other ↦ elim (after_write xs 0 place (TheLobby lobby_now) (ADesk desk) other.1) [
           | inl first ↦ absurd (let bad : TheLobby lobby_now ≡ ADesk desk = first.1 in cc)
@@ -169,24 +193,30 @@ module _ (xs : List Part) (w : IsWhole xs) (session moment number serial : ℕ) 
         ]
       ]
 
-  among_else : (rows : List DeskInUse) (place other : ℕ) → (place ≡ number → other ≢ serial) → In (row place other) (row number serial ∷ rows) → In (row place other) rows
+  among_else : (rows : List DeskInUse) (place other : ℕ) → (place ≡ number → other ≢ serial)
+      → In (row place other) (row number serial ∷ rows) → In (row place other) rows
   among_else rows place other differ (inl e) =
-      absurd (let at : place ≡ number = ap (λ (r : DeskInUse). r.desk) e in let of : other ≡ serial = ap (λ (r : DeskInUse). r.serial) e in differ at of)
+      absurd (let at : place ≡ number =
+      ap (λ (r : DeskInUse). r.desk) e in let of : other ≡ serial = ap (λ (r : DeskInUse). r.serial) e in differ at of)
   among_else rows place other differ (inr p) = p
 
-  cleared_among : (rows : List DeskInUse) → AreAmong (row number serial ∷ rows) xs → AreAmong rows (after house xs session timed)
+  cleared_among : (rows : List DeskInUse) → AreAmong (row number serial ∷ rows) xs
+      → AreAmong rows (after house xs session timed)
   cleared_among rows among place other desk at over is =
       elim (desk_now place desk at) [
         | inl here ↦
-            let still = cleared_over there.0 desk serial other (has_ended there.0 serial && is_left there.0) refl here.1 over is in
-            let was : slice_get xs place ≡ Some (ADesk desk) = ap (slice_get xs) here.0 ∙ there.1 ∙ ap (λ (d : DeskState). Some (ADesk d)) (sym still.0) in
+            let still =
+            cleared_over there.0 desk serial other (has_ended there.0 serial && is_left there.0) refl here.1 over is in
+            let was : slice_get xs place ≡ Some (ADesk desk) =
+            ap (slice_get xs) here.0 ∙ there.1 ∙ ap (λ (d : DeskState). Some (ADesk d)) (sym still.0) in
             among_else rows place other (λ e. still.1) (among place other desk was over is)
         | inr rest ↦ among_else rows place other (λ e. absurd (rest.0 e)) (among place other desk rest.1 over is)
       ]
 
 -- ---- clearing
 
-clears_over : (rows : List DeskInUse) (moment : ℕ) (es : Log) (xs : List Part) → IsWhole xs → Legal house xs es → acts_of es ≡ map (clears moment) rows → AreAmong rows xs → AreAmong [] (state house xs es)
+clears_over : (rows : List DeskInUse) (moment : ℕ) (es : Log) (xs : List Part) → IsWhole xs → Legal house xs es
+    → acts_of es ≡ map (clears moment) rows → AreAmong rows xs → AreAmong [] (state house xs es)
 clears_over [] moment [] xs w legal are among = among
 clears_over [] moment (e ∷ es) xs w legal are among = absurd cc
 clears_over (r ∷ rows) moment [] xs w legal are among = absurd cc
@@ -196,11 +226,14 @@ clears_over (r ∷ rows) moment (e ∷ es) xs w legal are among =
     let fits : house.fits (clears moment r) = subst house.fits (sym act) legal.0 in
     let next = after house xs e.session (clears moment r) in
     let whole : IsWhole next = house_lawful.stays xs e.session (clears moment r) w fits in
-    let more : Legal house next es = subst (λ (t : Timed). Legal house (after house xs e.session t) es) (sym act) legal.2 in
+    let more : Legal house next es =
+    subst (λ (t : Timed). Legal house (after house xs e.session t) es) (sym act) legal.2 in
     subst (λ (t : Timed). AreAmong [] (state house (after house xs e.session t) es)) act
-    (clears_over rows moment es next whole more rest (cleared_among xs w e.session moment r.desk r.serial fits.act rows among))
+    (clears_over rows moment es next whole more rest
+    (cleared_among xs w e.session moment r.desk r.serial fits.act rows among))
 
-clearing_over : (moment : ℕ) (es : Log) (xs : List Part) → IsWhole xs → Legal house xs es → IsClearing clearing.Done moment es → NoneLeftOver (state house xs es)
+clearing_over : (moment : ℕ) (es : Log) (xs : List Part) → IsWhole xs → Legal house xs es
+    → IsClearing clearing.Done moment es → NoneLeftOver (state house xs es)
 clearing_over moment es xs w legal p =
     let now : Legal house xs (p.first ∷ p.rest) = subst (Legal house xs) p.all legal in
     let asks = p.asks in
@@ -210,15 +243,22 @@ clearing_over moment es xs w legal p =
     let fits : house.fits (asks_in_use moment) = subst house.fits asks now.0 in
     let whole : IsWhole next = house_lawful.stays xs k (asks_in_use moment) w fits in
     let more : Legal house next p.rest = subst (λ (t : Timed). Legal house (after house xs k t) p.rest) asks now.2 in
-    let among : AreAmong (rows_told p.first.reply) next = subst (λ (rows : List DeskInUse). AreAmong rows next) (sym (rows_are xs w k moment p.first.reply told)) (asked_among xs w k moment) in
-    let over : AreAmong [] (state house next p.rest) = clears_over (rows_told p.first.reply) moment p.rest next whole more p.clears among in
-    let path : state house xs es ≡ state house next p.rest = ap (state house xs) p.all ∙ ap (λ (t : Timed). state house (after house xs k t) p.rest) asks in
+    let among : AreAmong (rows_told p.first.reply) next =
+    subst (λ (rows : List DeskInUse). AreAmong rows next) (sym (rows_are xs w k moment p.first.reply told))
+    (asked_among xs w k moment) in
+    let over : AreAmong [] (state house next p.rest) =
+    clears_over (rows_told p.first.reply) moment p.rest next whole more p.clears among in
+    let path : state house xs es ≡ state house next p.rest =
+    ap (state house xs) p.all ∙ ap (λ (t : Timed). state house (after house xs k t) p.rest) asks in
     subst NoneLeftOver (sym path) (none_among (state house next p.rest) over)
 
 -- ---- what comes behind
 
-act_over : (act : Act) (xs : List Part) (session moment : ℕ) → IsWhole xs → IsEvent (record { moment = moment; act = act }) → IsStewards act → NoneLeftOver xs → NoneLeftOver (after house xs session (record { moment = moment; act = act }))
-act_over (Lobby act) xs session moment w fits stewards none = λ number desk at over. none number desk (desks_stay xs w session moment act number desk at) over
+act_over : (act : Act) (xs : List Part) (session moment : ℕ) → IsWhole xs
+    → IsEvent (record { moment = moment; act = act }) → IsStewards act → NoneLeftOver xs
+    → NoneLeftOver (after house xs session (record { moment = moment; act = act }))
+act_over (Lobby act) xs session moment w fits stewards none = λ number desk at over.
+    none number desk (desks_stay xs w session moment act number desk at) over
 act_over (Desk number serial act) xs session moment w fits stewards none = absurd stewards
 act_over (Pair (Accept name)) xs session moment w fits stewards none = absurd stewards
 act_over (Pair (Play number)) xs session moment w fits stewards none = absurd stewards
@@ -227,19 +267,28 @@ act_over (Pair (Clear number serial)) xs session moment w fits stewards none =
     none_among (after house xs session (clears moment (row number serial)))
     (cleared_among xs w session moment number serial fits.act [] (all_among xs (row number serial ∷ []) none))
 
-stewards_over : (es : Log) (xs : List Part) → IsWhole xs → Legal house xs es → AreStewards es → NoneLeftOver xs → NoneLeftOver (state house xs es)
+stewards_over : (es : Log) (xs : List Part) → IsWhole xs → Legal house xs es → AreStewards es → NoneLeftOver xs
+    → NoneLeftOver (state house xs es)
 stewards_over [] xs w legal stewards none = none
 stewards_over (e ∷ es) xs w legal stewards none =
-    stewards_over es (after house xs e.session e.act) (house_lawful.stays xs e.session e.act w legal.0) legal.2 stewards.1
+    stewards_over es (after house xs e.session e.act) (house_lawful.stays xs e.session e.act w legal.0) legal.2
+    stewards.1
     (act_over e.act.act xs e.session e.act.moment w legal.0 stewards.0 none)
 
 -- ---- a turn
 
-pub turn_leaves_none : (end : StewardEnd) (moment : ℕ) (entries : Log) (carried : List Order) (xs : List Part) → IsDone end → IsWhole xs → Legal house xs entries → IsStewardTurn moment end entries carried → NoneLeftOver (state house xs entries)
+pub turn_leaves_none : (end : StewardEnd) (moment : ℕ) (entries : Log) (carried : List Order) (xs : List Part)
+    → IsDone end → IsWhole xs → Legal house xs entries → IsStewardTurn moment end entries carried
+    → NoneLeftOver (state house xs entries)
 turn_leaves_none end moment entries carried xs done w legal t =
     let both : Legal house xs (t.first ++ t.rest) = subst (Legal house xs) t.all legal in
     let front : Legal house xs t.first = legal_front house xs t.first t.rest both in
     let mid = state house xs t.first in
-    let cleared : IsClearing clearing.Done moment t.first = subst (λ (c : ClearingEnd). IsClearing c moment t.first) (cleared_whole end t.cleared t.saved t.ends done) t.clearing in
-    let over = stewards_over t.rest mid (stays_whole house house_lawful xs t.first w front) (legal_back house xs t.first t.rest both) (asks_saving moment t.saved t.rest carried t.saving).0 (clearing_over moment t.first xs w front cleared) in
+    let cleared : IsClearing clearing.Done moment t.first =
+    subst (λ (c : ClearingEnd). IsClearing c moment t.first) (cleared_whole end t.cleared t.saved t.ends done)
+    t.clearing in
+    let over =
+    stewards_over t.rest mid (stays_whole house house_lawful xs t.first w front)
+    (legal_back house xs t.first t.rest both) (asks_saving moment t.saved t.rest carried t.saving).0
+    (clearing_over moment t.first xs w front cleared) in
     subst NoneLeftOver (sym (ap (state house xs) t.all ∙ state-append house xs t.first t.rest)) over

@@ -38,7 +38,9 @@ pub short_made : (made : Supply) (s : Sent) → made ≡ Short → is_short made
 short_made made s e = subst (λ (x : Supply). is_short x s ≡ true) (sym e) refl
 
 ample : (supply : Supply) (s : Sent) → s ≡ sent.All → supply ≡ Enough → is_short supply s ≡ false
-ample supply s whole enough = subst (λ (x : Sent). is_short supply x ≡ false) (sym whole) (subst (λ (x : Supply). is_short x sent.All ≡ false) (sym enough) refl)
+ample supply s whole enough =
+    subst (λ (x : Sent). is_short supply x ≡ false) (sym whole)
+    (subst (λ (x : Supply). is_short x sent.All ≡ false) (sym enough) refl)
 
 -- ---- how serving ends
 
@@ -61,40 +63,62 @@ pub record Comes (door : DoorEnd) (s : Sent) (last : StewardEnd) (supply : Suppl
   pub short : end ≡ Memory → (is_short supply s ≡ true) ⊎ (last ≡ steward.Memory)
 
 by_door : (s : Sent) (last : StewardEnd) (supply : Supply) → Comes door_end.Failed s last supply DoorFault
-by_door s last supply = record { whole = λ w. absurd w; enough = λ w. absurd w; ends = tt; failed = λ e. refl; short = λ e. absurd cc }
+by_door s last supply =
+    record { whole = λ w. absurd w; enough = λ w. absurd w; ends = tt; failed = λ e. refl; short = λ e. absurd cc }
 
 by_sink : (door : DoorEnd) (last : StewardEnd) (supply : Supply) → Comes door sent.Failed last supply WriteFault
-by_sink door last supply = record { whole = λ w. absurd w; enough = λ w. absurd w; ends = tt; failed = λ e. absurd cc; short = λ e. absurd cc }
+by_sink door last supply =
+    record { whole = λ w. absurd w; enough = λ w. absurd w; ends = tt; failed = λ e. absurd cc; short = λ e. absurd cc }
 
 by_keeper : (door : DoorEnd) (s : Sent) (supply : Supply) → Comes door s steward.KeeperFault supply KeeperFault
-by_keeper door s supply = record { whole = λ w. absurd w; enough = λ w. absurd w; ends = refl; failed = λ e. absurd cc; short = λ e. absurd cc }
+by_keeper door s supply =
+    record {
+      whole = λ w. absurd w;
+      enough = λ w. absurd w;
+      ends = refl;
+      failed = λ e. absurd cc;
+      short = λ e. absurd cc;
+    }
 
-by_memory : (door : DoorEnd) (s : Sent) (last : StewardEnd) (supply : Supply) → last ≢ steward.KeeperFault → (is_short supply s ≡ true) ⊎ (last ≡ steward.Memory) → Comes door s last supply Memory
-by_memory door s last supply other short = record { whole = λ w. absurd w; enough = λ w. absurd w; ends = other; failed = λ e. absurd cc; short = λ e. short }
+by_memory : (door : DoorEnd) (s : Sent) (last : StewardEnd) (supply : Supply) → last ≢ steward.KeeperFault
+    → (is_short supply s ≡ true) ⊎ (last ≡ steward.Memory) → Comes door s last supply Memory
+by_memory door s last supply other short =
+    record { whole = λ w. absurd w; enough = λ w. absurd w; ends = other; failed = λ e. absurd cc; short = λ e. short }
 
 by_close : (count : ℕ) → Comes door_end.Closed sent.All (steward.Done count) Enough Done
-by_close count = record { whole = λ w. refl; enough = λ w. refl; ends = tt; failed = λ e. absurd cc; short = λ e. absurd cc }
+by_close count =
+    record { whole = λ w. refl; enough = λ w. refl; ends = tt; failed = λ e. absurd cc; short = λ e. absurd cc }
 
 by_number : (count : ℕ) → Comes door_end.Spent sent.All (steward.Done count) Enough Spent
-by_number count = record { whole = λ w. refl; enough = λ w. refl; ends = tt; failed = λ e. absurd cc; short = λ e. absurd cc }
+by_number count =
+    record { whole = λ w. refl; enough = λ w. refl; ends = tt; failed = λ e. absurd cc; short = λ e. absurd cc }
 
-pub comes : (door : DoorEnd) (s : Sent) (last : StewardEnd) (supply : Supply) → Comes door s last supply (end_of door s last supply)
+pub comes : (door : DoorEnd) (s : Sent) (last : StewardEnd) (supply : Supply)
+    → Comes door s last supply (end_of door s last supply)
 comes door_end.Failed s last supply = by_door s last supply
 comes door_end.Closed sent.Failed last supply = by_sink door_end.Closed last supply
 comes door_end.Closed sent.All steward.KeeperFault supply = by_keeper door_end.Closed sent.All supply
 comes door_end.Closed sent.Memory steward.KeeperFault supply = by_keeper door_end.Closed sent.Memory supply
-comes door_end.Closed sent.All steward.Memory supply = by_memory door_end.Closed sent.All steward.Memory supply (λ e. cc) (inr refl)
-comes door_end.Closed sent.Memory steward.Memory supply = by_memory door_end.Closed sent.Memory steward.Memory supply (λ e. cc) (inr refl)
-comes door_end.Closed sent.Memory (steward.Done count) supply = by_memory door_end.Closed sent.Memory (steward.Done count) supply (λ e. cc) (inl (short_write supply))
-comes door_end.Closed sent.All (steward.Done count) Short = by_memory door_end.Closed sent.All (steward.Done count) Short (λ e. cc) (inl refl)
+comes door_end.Closed sent.All steward.Memory supply =
+    by_memory door_end.Closed sent.All steward.Memory supply (λ e. cc) (inr refl)
+comes door_end.Closed sent.Memory steward.Memory supply =
+    by_memory door_end.Closed sent.Memory steward.Memory supply (λ e. cc) (inr refl)
+comes door_end.Closed sent.Memory (steward.Done count) supply =
+    by_memory door_end.Closed sent.Memory (steward.Done count) supply (λ e. cc) (inl (short_write supply))
+comes door_end.Closed sent.All (steward.Done count) Short =
+    by_memory door_end.Closed sent.All (steward.Done count) Short (λ e. cc) (inl refl)
 comes door_end.Closed sent.All (steward.Done count) Enough = by_close count
 comes door_end.Spent sent.Failed last supply = by_sink door_end.Spent last supply
 comes door_end.Spent sent.All steward.KeeperFault supply = by_keeper door_end.Spent sent.All supply
 comes door_end.Spent sent.Memory steward.KeeperFault supply = by_keeper door_end.Spent sent.Memory supply
-comes door_end.Spent sent.All steward.Memory supply = by_memory door_end.Spent sent.All steward.Memory supply (λ e. cc) (inr refl)
-comes door_end.Spent sent.Memory steward.Memory supply = by_memory door_end.Spent sent.Memory steward.Memory supply (λ e. cc) (inr refl)
-comes door_end.Spent sent.Memory (steward.Done count) supply = by_memory door_end.Spent sent.Memory (steward.Done count) supply (λ e. cc) (inl (short_write supply))
-comes door_end.Spent sent.All (steward.Done count) Short = by_memory door_end.Spent sent.All (steward.Done count) Short (λ e. cc) (inl refl)
+comes door_end.Spent sent.All steward.Memory supply =
+    by_memory door_end.Spent sent.All steward.Memory supply (λ e. cc) (inr refl)
+comes door_end.Spent sent.Memory steward.Memory supply =
+    by_memory door_end.Spent sent.Memory steward.Memory supply (λ e. cc) (inr refl)
+comes door_end.Spent sent.Memory (steward.Done count) supply =
+    by_memory door_end.Spent sent.Memory (steward.Done count) supply (λ e. cc) (inl (short_write supply))
+comes door_end.Spent sent.All (steward.Done count) Short =
+    by_memory door_end.Spent sent.All (steward.Done count) Short (λ e. cc) (inl refl)
 comes door_end.Spent sent.All (steward.Done count) Enough = by_number count
 
 -- where it ended well the last turn was done
@@ -107,11 +131,17 @@ clean_last Memory last ends clean = absurd clean
 clean_last DoorFault last ends clean = absurd clean
 
 -- what is told of an end says so
-pub text_last : (end : ServeEnd) (short : Bool) (last : StewardEnd) (door : Option DoorTale) (count : ℕ) (before after : Sheet) → SaysText end short last door count before after → LastEnds end last
-text_last end short last door count before after (inl p) = subst (λ (e : ServeEnd). LastEnds e last) (sym p.ends) (comes door_end.Closed p.said last p.supply).ends
-text_last end short last door count before after (inr p) = subst (λ (e : ServeEnd). LastEnds e last) (sym p.ends) (comes p.why p.said last p.supply).ends
+pub text_last : (end : ServeEnd) (short : Bool) (last : StewardEnd) (door : Option DoorTale) (count : ℕ)
+    (before after : Sheet)
+    → SaysText end short last door count before after → LastEnds end last
+text_last end short last door count before after (inl p) =
+    subst (λ (e : ServeEnd). LastEnds e last) (sym p.ends) (comes door_end.Closed p.said last p.supply).ends
+text_last end short last door count before after (inr p) =
+    subst (λ (e : ServeEnd). LastEnds e last) (sym p.ends) (comes p.why p.said last p.supply).ends
 
-pub text_enough : (end : ServeEnd) (short : Bool) (last : StewardEnd) (door : Option DoorTale) (count : ℕ) (before after : Sheet) → SaysText end short last door count before after → IsClean end → short ≡ false
+pub text_enough : (end : ServeEnd) (short : Bool) (last : StewardEnd) (door : Option DoorTale) (count : ℕ)
+    (before after : Sheet)
+    → SaysText end short last door count before after → IsClean end → short ≡ false
 text_enough end short last door count before after (inl p) clean =
     absurd (p.unwritten ((comes door_end.Closed p.said last p.supply).whole (subst IsClean p.ends clean)))
 text_enough end short last door count before after (inr p) clean =
@@ -119,20 +149,30 @@ text_enough end short last door count before after (inr p) clean =
     let well : IsClean (end_of p.why p.said last p.supply) = subst IsClean p.ends clean in
     p.shortage ∙ ample p.supply p.said (by.whole well) (by.enough well)
 
-told_short : (short is : Bool) (last : StewardEnd) → short ≡ is → (is ≡ true) ⊎ (last ≡ steward.Memory) → (short ≡ true) ⊎ (last ≡ steward.Memory)
+told_short : (short is : Bool) (last : StewardEnd) → short ≡ is → (is ≡ true) ⊎ (last ≡ steward.Memory)
+    → (short ≡ true) ⊎ (last ≡ steward.Memory)
 told_short short is last told (inl e) = inl (told ∙ e)
 told_short short is last told (inr e) = inr e
 
-pub text_short : (end : ServeEnd) (short : Bool) (last : StewardEnd) (door : Option DoorTale) (count : ℕ) (before after : Sheet) → SaysText end short last door count before after → end ≡ Memory
+pub text_short : (end : ServeEnd) (short : Bool) (last : StewardEnd) (door : Option DoorTale) (count : ℕ)
+    (before after : Sheet)
+    → SaysText end short last door count before after → end ≡ Memory
     → (short ≡ true) ⊎ (last ≡ steward.Memory)
-text_short end short last door count before after (inl p) is = told_short short (is_short p.supply p.said) last p.shortage ((comes door_end.Closed p.said last p.supply).short (sym p.ends ∙ is))
-text_short end short last door count before after (inr p) is = told_short short (is_short p.supply p.said) last p.shortage ((comes p.why p.said last p.supply).short (sym p.ends ∙ is))
+text_short end short last door count before after (inl p) is =
+    told_short short (is_short p.supply p.said) last p.shortage
+    ((comes door_end.Closed p.said last p.supply).short (sym p.ends ∙ is))
+text_short end short last door count before after (inr p) is =
+    told_short short (is_short p.supply p.said) last p.shortage
+    ((comes p.why p.said last p.supply).short (sym p.ends ∙ is))
 
 -- ---- the text, and why no further link was taken
 
 -- `ready` was written, links were taken, and then `closed` was to be written
-pub closes_by : (why : DoorEnd) (s : Sent) (last : StewardEnd) (supply : Supply) (door : Option DoorTale) (splits before now : ℕ) (first mid after : Sheet) → Stopped why splits door before now
-    → Says ready_text sent.All first mid → Says closed_text s mid after → SaysText (end_of why s last supply) (is_short supply s) last door splits first after
+pub closes_by : (why : DoorEnd) (s : Sent) (last : StewardEnd) (supply : Supply) (door : Option DoorTale)
+    (splits before now : ℕ) (first mid after : Sheet)
+    → Stopped why splits door before now
+    → Says ready_text sent.All first mid → Says closed_text s mid after
+    → SaysText (end_of why s last supply) (is_short supply s) last door splits first after
 closes_by why s last supply door splits before now first mid after p ready closed = inr (record {
   why = why;
   stopped = p.0;
@@ -146,7 +186,9 @@ closes_by why s last supply door splits before now first mid after p ready close
 })
 
 -- `ready` couldn't be written
-pub closes_unready : (s : Sent) (last : StewardEnd) (supply : Supply) (door : Option DoorTale) (splits : ℕ) (first after : Sheet) → splits ≡ 0 → s ≢ sent.All → Says ready_text s first after
+pub closes_unready : (s : Sent) (last : StewardEnd) (supply : Supply) (door : Option DoorTale) (splits : ℕ)
+    (first after : Sheet)
+    → splits ≡ 0 → s ≢ sent.All → Says ready_text s first after
     → SaysText (end_of door_end.Closed s last supply) (is_short supply s) last door splits first after
 closes_unready s last supply door splits first after zero unwritten ready = inl (record {
   none_taken = zero;
@@ -161,7 +203,9 @@ closes_unready s last supply door splits first after zero unwritten ready = inl 
 -- ---- the count of the sink
 
 -- the sink counted no fault, unless one of the last write is told, or one of the door
-pub told_by : (why : DoorEnd) (s : Sent) (last : StewardEnd) (supply : Supply) (before mid after : ℕ) → mid ≡ before → UnlessWriteFailed s (after ≡ mid) → (after ≡ before) ⊎ ((end_of why s last supply ≡ WriteFault) ⊎ (end_of why s last supply ≡ DoorFault))
+pub told_by : (why : DoorEnd) (s : Sent) (last : StewardEnd) (supply : Supply) (before mid after : ℕ) → mid ≡ before
+    → UnlessWriteFailed s (after ≡ mid)
+    → (after ≡ before) ⊎ ((end_of why s last supply ≡ WriteFault) ⊎ (end_of why s last supply ≡ DoorFault))
 told_by why sent.All last supply before mid after same calm = inl (calm ∙ same)
 told_by why sent.Memory last supply before mid after same calm = inl (calm ∙ same)
 told_by door_end.Failed sent.Failed last supply before mid after same calm = inr (inr refl)

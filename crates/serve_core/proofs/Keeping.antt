@@ -56,7 +56,8 @@ then_short Short supply e = refl
 -- ---- sessions that were joined
 
 module _ (shows : ℕ → Bool) (number : ℕ) (calls : Log) where
-  pub served_then : (lack lack' : Type 0) (door door' : Option DoorTale) (R : DoorTale → DoorTale → Type 0) → WhereTold door door' R
+  pub served_then : (lack lack' : Type 0) (door door' : Option DoorTale) (R : DoorTale → DoorTale → Type 0)
+      → WhereTold door door' R
       → ((k : ℕ) (link : Option Tale) (old new : DoorTale) → R old new → CameAs k link old → CameAs k link new)
       → ((k : ℕ) (link : Handed) (old new : DoorTale) → R old new → CameBack k link old → CameBack k link new)
       → (lack → lack') → HadSession shows lack door number calls → HadSession shows lack' door' number calls
@@ -68,12 +69,15 @@ module _ (shows : ℕ → Bool) (number : ℕ) (calls : Log) where
     served = p.served;
     short = λ e. short (p.short e);
     came = told_then door door' R (CameAs number p.link) (CameAs number p.link) (came number p.link) goes p.came;
-    back = told_then door door' R (CameBack number p.returned) (CameBack number p.returned) (back number p.returned) goes p.back;
+    back =
+        told_then door door' R (CameBack number p.returned) (CameBack number p.returned) (back number p.returned) goes
+        p.back;
   }
 
 module _ {C : Type 0} (shows : C → ℕ → Bool) (hall : TableId) (clock : C) where
   -- nothing came yet
-  pub kept_first : (door : Option DoorTale) (opening : List Part) (pass : PassState) → pass ≡ first_pass hall opening → IfSome door IsUnused → Underway shows hall clock Enough door pass []
+  pub kept_first : (door : Option DoorTale) (opening : List Part) (pass : PassState) → pass ≡ first_pass hall opening
+      → IfSome door IsUnused → Underway shows hall clock Enough door pass []
   kept_first door opening pass is unused =
       let none : pass.joined ≡ [] = ap (λ (p : PassState). p.joined) is in
       let zero : pass.splits ≡ 0 = ap (λ (p : PassState). p.splits) is in
@@ -83,20 +87,27 @@ module _ {C : Type 0} (shows : C → ℕ → Bool) (hall : TableId) (clock : C) 
         owed = λ due p. absurd p;
         served = λ j p. absurd (subst (λ (xs : List (Joined Timed Reply)). In j xs) none p);
         numbers = λ m low high. absurd (omega (arith, low, high, zero));
-        came = told_as door IsUnused (λ tale. length tale.came ≡ pass.splits) (λ tale u. ap length u.0 ∙ sym zero) unused;
-        out = told_as door IsUnused (λ tale. length tale.back + 0 ≡ length tale.came) (λ tale u. omega (arith, ap length u.0, ap length u.1)) unused;
+        came =
+            told_as door IsUnused (λ tale. length tale.came ≡ pass.splits) (λ tale u. ap length u.0 ∙ sym zero) unused;
+        out =
+            told_as door IsUnused (λ tale. length tale.back + 0 ≡ length tale.came)
+            (λ tale u. omega (arith, ap length u.0, ap length u.1)) unused;
       }
 
   -- a link came, and has a pass
-  module _ (supply : Supply) (door door' : Option DoorTale) (pass : PassState) (waiting : List (Due C)) (d : Due C) (k : Underway shows hall clock supply door pass waiting) (goes : WhereTold door door' (Comes d.link))
-      (home : d.pass.home ≡ hall) (number : d.pass.number ≡ pass.splits + 1) (same : d.clock ≡ clock) (fresh : IfSome d.link IsFresh) where
+  module _ (supply : Supply) (door door' : Option DoorTale) (pass : PassState) (waiting : List (Due C)) (d : Due C)
+      (k : Underway shows hall clock supply door pass waiting) (goes : WhereTold door door' (Comes d.link))
+      (home : d.pass.home ≡ hall) (number : d.pass.number ≡ pass.splits + 1) (same : d.clock ≡ clock)
+      (fresh : IfSome d.link IsFresh) where
     owed_stays : (due : Due C) → IsOwed shows hall clock door due → IsOwed shows hall clock door' due
     owed_stays due p = record {
       home = p.home;
       number = p.number;
       same = p.same;
       fresh = p.fresh;
-      came = told_then door door' (Comes d.link) (CameAs due.pass.number due.link) (CameAs due.pass.number due.link) (came_stays d.link due.pass.number due.link) goes p.came;
+      came =
+          told_then door door' (Comes d.link) (CameAs due.pass.number due.link) (CameAs due.pass.number due.link)
+          (came_stays d.link due.pass.number due.link) goes p.came;
     }
 
     owed_new : IsOwed shows hall clock door' d
@@ -105,7 +116,10 @@ module _ {C : Type 0} (shows : C → ℕ → Bool) (hall : TableId) (clock : C) 
       number = λ e. omega (arith, e, number);
       same = same;
       fresh = fresh;
-      came = subst (λ n. IfSome door' (CameAs n d.link)) (sym number) (told_then door door' (Comes d.link) (λ tale. length tale.came ≡ pass.splits) (CameAs (pass.splits + 1) d.link) (came_new d.link pass.splits) goes k.came);
+      came =
+          subst (λ n. IfSome door' (CameAs n d.link)) (sym number)
+          (told_then door door' (Comes d.link) (λ tale. length tale.came ≡ pass.splits)
+          (CameAs (pass.splits + 1) d.link) (came_new d.link pass.splits) goes k.came);
     }
 
     owed_came : (due : Due C) → In due waiting ⊎ In due (d ∷ []) → IsOwed shows hall clock door' due
@@ -113,69 +127,138 @@ module _ {C : Type 0} (shows : C → ℕ → Bool) (hall : TableId) (clock : C) 
     owed_came due (inr (inl e)) = subst (λ (x : Due C). IsOwed shows hall clock door' x) (sym e) owed_new
     owed_came due (inr (inr p)) = absurd p
 
-    numbers_came : (m : ℕ) → In m (map joined_number pass.joined) ⊎ In m (map due_number waiting) → In m (map joined_number pass.joined) ⊎ In m (map due_number (waiting ++ d ∷ []))
+    numbers_came : (m : ℕ) → In m (map joined_number pass.joined) ⊎ In m (map due_number waiting)
+        → In m (map joined_number pass.joined) ⊎ In m (map due_number (waiting ++ d ∷ []))
     numbers_came m (inl p) = inl p
     numbers_came m (inr p) = inr (in_map_left due_number m waiting (d ∷ []) p)
 
     number_new : (m : ℕ) → m ≡ pass.splits + 1 → In m (map due_number (waiting ++ d ∷ []))
-    number_new m e = subst (λ n. In n (map due_number (waiting ++ d ∷ []))) (number ∙ sym e) (in_map_last due_number d waiting [])
+    number_new m e =
+        subst (λ n. In n (map due_number (waiting ++ d ∷ []))) (number ∙ sym e) (in_map_last due_number d waiting [])
 
     pub kept_came : Underway shows hall clock supply door' (divided pass) (waiting ++ d ∷ [])
     kept_came = record {
       here = k.here;
       first = k.first;
       owed = λ due p. owed_came due (in_append due waiting (d ∷ []) p);
-      served = λ j p. served_then (shows clock) j.number j.calls (supply ≡ Short) (supply ≡ Short) door door' (Comes d.link) goes (came_stays d.link) (came_back_stays d.link) (λ e. e) (k.served j p);
-      numbers = λ m low high. split_on m (pass.splits + 1) (λ e. inr (number_new m e)) (λ n. numbers_came m (k.numbers m low (omega (arith, high, n))));
-      came = told_then door door' (Comes d.link) (λ tale. length tale.came ≡ pass.splits) (λ tale. length tale.came ≡ pass.splits + 1) (came_count d.link pass.splits) goes k.came;
-      out = told_then door door' (Comes d.link) (λ tale. length tale.back + length waiting ≡ length tale.came) (λ tale. length tale.back + length (waiting ++ d ∷ []) ≡ length tale.came)
-          (λ old new e n. subst (λ c. length new.back + c ≡ length new.came) (sym (one_longer d waiting)) (came_out d.link (length waiting) old new e n)) goes k.out;
+      served = λ j p.
+          served_then (shows clock) j.number j.calls (supply ≡ Short) (supply ≡ Short) door door' (Comes d.link) goes
+          (came_stays d.link) (came_back_stays d.link) (λ e. e) (k.served j p);
+      numbers = λ m low high.
+          split_on m (pass.splits + 1) (λ e. inr (number_new m e))
+          (λ n. numbers_came m (k.numbers m low (omega (arith, high, n))));
+      came =
+          told_then door door' (Comes d.link) (λ tale. length tale.came ≡ pass.splits)
+          (λ tale. length tale.came ≡ pass.splits + 1) (came_count d.link pass.splits) goes k.came;
+      out =
+          told_then door door' (Comes d.link) (λ tale. length tale.back + length waiting ≡ length tale.came)
+          (λ tale. length tale.back + length (waiting ++ d ∷ []) ≡ length tale.came)
+          (λ old new e n.
+          subst (λ c. length new.back + c ≡ length new.came) (sym (one_longer d waiting))
+          (came_out d.link (length waiting) old new e n))
+          goes k.out;
     }
 
   -- a Quiet, and a turn of the steward
-  pub kept_quiet : (supply : Supply) (end : StewardEnd) (made : Supply) (before after : Store) (door door' : Option DoorTale) (pass new : PassState) (waiting : List (Due C)) → Underway shows hall clock supply door pass waiting
-      → WhereTold door door' (λ before after. after ≡ record before { quiets = before.quiets + 1; last = answered.Quiet }) → MadeTurn end made before after pass new → Underway shows hall clock (supply_then made supply) door' new waiting
+  pub kept_quiet : (supply : Supply) (end : StewardEnd) (made : Supply) (before after : Store)
+      (door door' : Option DoorTale) (pass new : PassState) (waiting : List (Due C))
+      → Underway shows hall clock supply door pass waiting
+      → WhereTold door door'
+      (λ before after. after ≡ record before { quiets = before.quiets + 1; last = answered.Quiet })
+      → MadeTurn end made before after pass new → Underway shows hall clock (supply_then made supply) door' new waiting
   kept_quiet supply end made before after door door' pass new waiting k goes turn =
-      let R : DoorTale → DoorTale → Type 0 = λ before after. after ≡ record before { quiets = before.quiets + 1; last = answered.Quiet } in
+      let R : DoorTale → DoorTale → Type 0 = λ before after.
+      after ≡ record before { quiets = before.quiets + 1; last = answered.Quiet } in
       let joined : new.joined ≡ pass.joined = ap (λ p. p.joined) turn.shared in
       let splits = turn_splits end made before after pass new turn in
-      let came : (m : ℕ) (link : Option Tale) (a b : DoorTale) → R a b → CameAs m link a → CameAs m link b = λ m link a b e p. subst (λ (xs : List (Option Tale)). CameAs m link (record a { came = xs })) (sym (ap (λ (t : DoorTale). t.came) e)) p in
-      let back : (m : ℕ) (link : Handed) (a b : DoorTale) → R a b → CameBack m link a → CameBack m link b = λ m link a b e p. subst (λ (xs : List (ℕ × Handed)). CameBack m link (record a { back = xs })) (sym (ap (λ (t : DoorTale). t.back) e)) p in
+      let came : (m : ℕ) (link : Option Tale) (a b : DoorTale) → R a b → CameAs m link a
+      → CameAs m link b = λ m link a b e p.
+      subst (λ (xs : List (Option Tale)). CameAs m link (record a { came = xs }))
+      (sym (ap (λ (t : DoorTale). t.came) e)) p in
+      let back : (m : ℕ) (link : Handed) (a b : DoorTale) → R a b → CameBack m link a
+      → CameBack m link b = λ m link a b e p.
+      subst (λ (xs : List (ℕ × Handed)). CameBack m link (record a { back = xs }))
+      (sym (ap (λ (t : DoorTale). t.back) e)) p in
       record {
         here = turn_home end made before after pass new turn ∙ k.here;
         first = turn_number end made before after pass new turn ∙ k.first;
         owed = λ due p.
             let o = k.owed due p in
-            record { home = o.home; number = o.number; same = o.same; fresh = o.fresh; came = told_then door door' R (CameAs due.pass.number due.link) (CameAs due.pass.number due.link) (came due.pass.number due.link) goes o.came };
-        served = λ j p. served_then (shows clock) j.number j.calls (supply ≡ Short) (supply_then made supply ≡ Short) door door' R goes came back (then_short made supply) (k.served j (subst (λ (xs : List (Joined Timed Reply)). In j xs) joined p));
-        numbers = λ m low high. subst (λ (xs : List (Joined Timed Reply)). In m (map joined_number xs) ⊎ In m (map due_number waiting)) (sym joined) (k.numbers m low (omega (arith, high, splits)));
-        came = told_then door door' R (λ tale. length tale.came ≡ pass.splits) (λ tale. length tale.came ≡ new.splits) (λ a b e n. ap (λ (t : DoorTale). length t.came) e ∙ n ∙ sym splits) goes k.came;
-        out = told_then door door' R (λ tale. length tale.back + length waiting ≡ length tale.came) (λ tale. length tale.back + length waiting ≡ length tale.came)
-            (λ a b e n. ap (λ (t : DoorTale). length t.back + length waiting) e ∙ n ∙ sym (ap (λ (t : DoorTale). length t.came) e)) goes k.out;
+            record {
+              home = o.home;
+              number = o.number;
+              same = o.same;
+              fresh = o.fresh;
+              came =
+                  told_then door door' R (CameAs due.pass.number due.link) (CameAs due.pass.number due.link)
+                  (came due.pass.number due.link) goes o.came;
+            };
+        served = λ j p.
+            served_then (shows clock) j.number j.calls (supply ≡ Short) (supply_then made supply ≡ Short) door door' R
+            goes came back (then_short made supply)
+            (k.served j (subst (λ (xs : List (Joined Timed Reply)). In j xs) joined p));
+        numbers = λ m low high.
+            subst (λ (xs : List (Joined Timed Reply)). In m (map joined_number xs) ⊎ In m (map due_number waiting))
+            (sym joined) (k.numbers m low (omega (arith, high, splits)));
+        came =
+            told_then door door' R (λ tale. length tale.came ≡ pass.splits) (λ tale. length tale.came ≡ new.splits)
+            (λ a b e n. ap (λ (t : DoorTale). length t.came) e ∙ n ∙ sym splits) goes k.came;
+        out =
+            told_then door door' R (λ tale. length tale.back + length waiting ≡ length tale.came)
+            (λ tale. length tale.back + length waiting ≡ length tale.came)
+            (λ a b e n.
+            ap (λ (t : DoorTale). length t.back + length waiting) e ∙ n ∙ sym (ap (λ (t : DoorTale). length t.came) e))
+            goes k.out;
       }
 
   -- an answer of the door that gives nothing
-  pub kept_answered : (supply : Supply) (answer : Answered) (door door' : Option DoorTale) (pass : PassState) (waiting : List (Due C)) → Underway shows hall clock supply door pass waiting
-      → WhereTold door door' (λ before after. after ≡ record before { last = answer }) → Underway shows hall clock supply door' pass waiting
+  pub kept_answered : (supply : Supply) (answer : Answered) (door door' : Option DoorTale) (pass : PassState)
+      (waiting : List (Due C))
+      → Underway shows hall clock supply door pass waiting
+      → WhereTold door door' (λ before after. after ≡ record before { last = answer })
+      → Underway shows hall clock supply door' pass waiting
   kept_answered supply answer door door' pass waiting k goes =
       let R : DoorTale → DoorTale → Type 0 = λ before after. after ≡ record before { last = answer } in
-      let came : (m : ℕ) (link : Option Tale) (a b : DoorTale) → R a b → CameAs m link a → CameAs m link b = λ m link a b e p. subst (λ (xs : List (Option Tale)). CameAs m link (record a { came = xs })) (sym (ap (λ (t : DoorTale). t.came) e)) p in
-      let back : (m : ℕ) (link : Handed) (a b : DoorTale) → R a b → CameBack m link a → CameBack m link b = λ m link a b e p. subst (λ (xs : List (ℕ × Handed)). CameBack m link (record a { back = xs })) (sym (ap (λ (t : DoorTale). t.back) e)) p in
+      let came : (m : ℕ) (link : Option Tale) (a b : DoorTale) → R a b → CameAs m link a
+      → CameAs m link b = λ m link a b e p.
+      subst (λ (xs : List (Option Tale)). CameAs m link (record a { came = xs }))
+      (sym (ap (λ (t : DoorTale). t.came) e)) p in
+      let back : (m : ℕ) (link : Handed) (a b : DoorTale) → R a b → CameBack m link a
+      → CameBack m link b = λ m link a b e p.
+      subst (λ (xs : List (ℕ × Handed)). CameBack m link (record a { back = xs }))
+      (sym (ap (λ (t : DoorTale). t.back) e)) p in
       record {
         here = k.here;
         first = k.first;
         owed = λ due p.
             let o = k.owed due p in
-            record { home = o.home; number = o.number; same = o.same; fresh = o.fresh; came = told_then door door' R (CameAs due.pass.number due.link) (CameAs due.pass.number due.link) (came due.pass.number due.link) goes o.came };
-        served = λ j p. served_then (shows clock) j.number j.calls (supply ≡ Short) (supply ≡ Short) door door' R goes came back (λ e. e) (k.served j p);
+            record {
+              home = o.home;
+              number = o.number;
+              same = o.same;
+              fresh = o.fresh;
+              came =
+                  told_then door door' R (CameAs due.pass.number due.link) (CameAs due.pass.number due.link)
+                  (came due.pass.number due.link) goes o.came;
+            };
+        served = λ j p.
+            served_then (shows clock) j.number j.calls (supply ≡ Short) (supply ≡ Short) door door' R goes came back
+            (λ e. e) (k.served j p);
         numbers = k.numbers;
-        came = told_then door door' R (λ tale. length tale.came ≡ pass.splits) (λ tale. length tale.came ≡ pass.splits) (λ a b e n. ap (λ (t : DoorTale). length t.came) e ∙ n) goes k.came;
-        out = told_then door door' R (λ tale. length tale.back + length waiting ≡ length tale.came) (λ tale. length tale.back + length waiting ≡ length tale.came)
-            (λ a b e n. ap (λ (t : DoorTale). length t.back + length waiting) e ∙ n ∙ sym (ap (λ (t : DoorTale). length t.came) e)) goes k.out;
+        came =
+            told_then door door' R (λ tale. length tale.came ≡ pass.splits) (λ tale. length tale.came ≡ pass.splits)
+            (λ a b e n. ap (λ (t : DoorTale). length t.came) e ∙ n) goes k.came;
+        out =
+            told_then door door' R (λ tale. length tale.back + length waiting ≡ length tale.came)
+            (λ tale. length tale.back + length waiting ≡ length tale.came)
+            (λ a b e n.
+            ap (λ (t : DoorTale). length t.back + length waiting) e ∙ n ∙ sym (ap (λ (t : DoorTale). length t.came) e))
+            goes k.out;
       }
 
   -- a worker has paid
-  module _ (supply : Supply) (end : LinkEnd) (door door' : Option DoorTale) (pass new given : PassState) (one two : List (Due C)) (d : Due C) (link : Handed)
+  module _ (supply : Supply) (end : LinkEnd) (door door' : Option DoorTale) (pass new given : PassState)
+      (one two : List (Due C)) (d : Due C) (link : Handed)
       (k : Underway shows hall clock supply door pass (one ++ d ∷ two)) (paid : IsPaid shows d end given link) where
     owes : IsOwed shows hall clock door d
     owes = k.owed d (in_last d one two)
@@ -187,7 +270,9 @@ module _ {C : Type 0} (shows : C → ℕ → Bool) (hall : TableId) (clock : C) 
     given_not_first = λ e. owes.number (sym paid.number ∙ e)
 
     pub given_out : IfSome door (IsOut given.number)
-    given_out = told_and door (CameAs d.pass.number d.link) (λ tale. length tale.back + length (one ++ d ∷ two) ≡ length tale.came) (IsOut given.number)
+    given_out =
+        told_and door (CameAs d.pass.number d.link)
+        (λ tale. length tale.back + length (one ++ d ∷ two) ≡ length tale.came) (IsOut given.number)
         (λ tale c n.
         let low : d.pass.number - 1 < length tale.came = slice_get_within tale.came (d.pass.number - 1) d.link c in
         (given_not_first, omega (arith, low, paid.number), omega (arith, n, one_less d one two)))
@@ -195,7 +280,11 @@ module _ {C : Type 0} (shows : C → ℕ → Bool) (hall : TableId) (clock : C) 
 
     module _ (joins : IsJoined pass given new) (goes : WhereTold door door' (TakesBack given.number link)) where
       grown : new.joined ≡ pass.joined ++ record { number = given.number; calls = given.made } ∷ []
-      grown = joins.joined ∙ ap (λ (xs : List (Joined Timed Reply)). pass.joined ++ record { number = given.number; calls = given.made } ∷ xs) paid.none_joined
+      grown =
+          joins.joined
+          ∙ ap
+          (λ (xs : List (Joined Timed Reply)). pass.joined ++ record { number = given.number; calls = given.made } ∷ xs)
+          paid.none_joined
 
       owed_still : (due : Due C) → IsOwed shows hall clock door due → IsOwed shows hall clock door' due
       owed_still due o = record {
@@ -203,7 +292,9 @@ module _ {C : Type 0} (shows : C → ℕ → Bool) (hall : TableId) (clock : C) 
         number = o.number;
         same = o.same;
         fresh = o.fresh;
-        came = told_then door door' (TakesBack given.number link) (CameAs due.pass.number due.link) (CameAs due.pass.number due.link) (back_came given.number link due.pass.number due.link) goes o.came;
+        came =
+            told_then door door' (TakesBack given.number link) (CameAs due.pass.number due.link)
+            (CameAs due.pass.number due.link) (back_came given.number link due.pass.number due.link) goes o.came;
       }
 
       serves_new : HadSession (shows clock) (supply_after end supply ≡ Short) door' given.number given.made
@@ -213,29 +304,51 @@ module _ {C : Type 0} (shows : C → ℕ → Bool) (hall : TableId) (clock : C) 
         returned = link;
         fresh = owes.fresh;
         served =
-            subst (λ (c : C). WasServed (shows c) true given.number end given.made (record { tale = d.link; faults = 0 }) link) owes.same
-            (subst (λ n. WasServed (shows d.clock) true n end given.made (record { tale = d.link; faults = 0 }) link) (sym paid.number) paid.served);
+            subst (λ (c : C).
+            WasServed (shows c) true given.number end given.made (record { tale = d.link; faults = 0 }) link)
+            owes.same
+            (subst (λ n. WasServed (shows d.clock) true n end given.made (record { tale = d.link; faults = 0 }) link)
+            (sym paid.number) paid.served);
         short = now_short end supply;
-        came = subst (λ n. IfSome door' (CameAs n d.link)) (sym paid.number) (told_then door door' (TakesBack given.number link) (CameAs d.pass.number d.link) (CameAs d.pass.number d.link) (back_came given.number link d.pass.number d.link) goes owes.came);
-        back = told_then door door' (TakesBack given.number link) (CameAs d.pass.number d.link) (CameBack given.number link) (λ a b e p. back_new given.number link a b e) goes owes.came;
+        came =
+            subst (λ n. IfSome door' (CameAs n d.link)) (sym paid.number)
+            (told_then door door' (TakesBack given.number link) (CameAs d.pass.number d.link)
+            (CameAs d.pass.number d.link) (back_came given.number link d.pass.number d.link) goes owes.came);
+        back =
+            told_then door door' (TakesBack given.number link) (CameAs d.pass.number d.link)
+            (CameBack given.number link) (λ a b e p. back_new given.number link a b e) goes owes.came;
       }
 
-      served_still : (j : Joined Timed Reply) → In j pass.joined ⊎ In j (record { number = given.number; calls = given.made } ∷ []) → HadSession (shows clock) (supply_after end supply ≡ Short) door' j.number j.calls
-      served_still j (inl p) = served_then (shows clock) j.number j.calls (supply ≡ Short) (supply_after end supply ≡ Short) door door' (TakesBack given.number link) goes (back_came given.number link) (back_stays given.number link) (stays_short end supply) (k.served j p)
-      served_still j (inr (inl e)) = subst (λ (x : Joined Timed Reply). HadSession (shows clock) (supply_after end supply ≡ Short) door' x.number x.calls) (sym e) serves_new
+      served_still : (j : Joined Timed Reply)
+          → In j pass.joined ⊎ In j (record { number = given.number; calls = given.made } ∷ [])
+          → HadSession (shows clock) (supply_after end supply ≡ Short) door' j.number j.calls
+      served_still j (inl p) =
+          served_then (shows clock) j.number j.calls (supply ≡ Short) (supply_after end supply ≡ Short) door door'
+          (TakesBack given.number link) goes (back_came given.number link) (back_stays given.number link)
+          (stays_short end supply) (k.served j p)
+      served_still j (inr (inl e)) =
+          subst (λ (x : Joined Timed Reply).
+          HadSession (shows clock) (supply_after end supply ≡ Short) door' x.number x.calls)
+          (sym e) serves_new
       served_still j (inr (inr p)) = absurd p
 
       number_joined : (m : ℕ) → m ≡ given.number → In m (map joined_number new.joined)
       number_joined m e =
           subst (λ (xs : List (Joined Timed Reply)). In m (map joined_number xs)) (sym grown)
-          (subst (λ n. In n (map joined_number (pass.joined ++ record { number = given.number; calls = given.made } ∷ []))) (sym e) (in_map_last joined_number (record { number = given.number; calls = given.made }) pass.joined []))
+          (subst
+          (λ n. In n (map joined_number (pass.joined ++ record { number = given.number; calls = given.made } ∷ [])))
+          (sym e) (in_map_last joined_number (record { number = given.number; calls = given.made }) pass.joined []))
 
-      numbers_cases : (m : ℕ) → (m ≡ due_number d) ⊎ In m (map due_number (one ++ two)) → In m (map joined_number new.joined) ⊎ In m (map due_number (one ++ two))
+      numbers_cases : (m : ℕ) → (m ≡ due_number d) ⊎ In m (map due_number (one ++ two))
+          → In m (map joined_number new.joined) ⊎ In m (map due_number (one ++ two))
       numbers_cases m (inl e) = inl (number_joined m (e ∙ sym paid.number))
       numbers_cases m (inr p) = inr p
 
-      numbers_still : (m : ℕ) → In m (map joined_number pass.joined) ⊎ In m (map due_number (one ++ d ∷ two)) → In m (map joined_number new.joined) ⊎ In m (map due_number (one ++ two))
-      numbers_still m (inl p) = inl (subst (λ (xs : List (Joined Timed Reply)). In m (map joined_number xs)) (sym grown) (in_map_left joined_number m pass.joined (record { number = given.number; calls = given.made } ∷ []) p))
+      numbers_still : (m : ℕ) → In m (map joined_number pass.joined) ⊎ In m (map due_number (one ++ d ∷ two))
+          → In m (map joined_number new.joined) ⊎ In m (map due_number (one ++ two))
+      numbers_still m (inl p) =
+          inl (subst (λ (xs : List (Joined Timed Reply)). In m (map joined_number xs)) (sym grown)
+          (in_map_left joined_number m pass.joined (record { number = given.number; calls = given.made } ∷ []) p))
       numbers_still m (inr p) = numbers_cases m (in_map_rest due_number m d one two p)
 
       pub kept_paid : Underway shows hall clock (supply_after end supply) door' new (one ++ two)
@@ -245,9 +358,20 @@ module _ {C : Type 0} (shows : C → ℕ → Bool) (hall : TableId) (clock : C) 
             here = ap (λ (p : PassState). p.home) joins.same ∙ k.here;
             first = ap (λ (p : PassState). p.number) joins.same ∙ k.first;
             owed = λ due p. owed_still due (k.owed due (in_rest due d one two p));
-            served = λ j p. served_still j (in_append j pass.joined (record { number = given.number; calls = given.made } ∷ []) (subst (λ (xs : List (Joined Timed Reply)). In j xs) grown p));
+            served = λ j p.
+                served_still j
+                (in_append j pass.joined (record { number = given.number; calls = given.made } ∷ [])
+                (subst (λ (xs : List (Joined Timed Reply)). In j xs) grown p));
             numbers = λ m low high. numbers_still m (k.numbers m low (omega (arith, high, splits)));
-            came = told_then door door' (TakesBack given.number link) (λ tale. length tale.came ≡ pass.splits) (λ tale. length tale.came ≡ new.splits) (λ a b e n. back_count given.number link pass.splits a b e n ∙ sym splits) goes k.came;
-            out = told_then door door' (TakesBack given.number link) (λ tale. length tale.back + length (one ++ d ∷ two) ≡ length tale.came) (λ tale. length tale.back + length (one ++ two) ≡ length tale.came)
-                (λ a b e n. back_out given.number link (length (one ++ two)) (length (one ++ d ∷ two)) a b e (one_less d one two) n) goes k.out;
+            came =
+                told_then door door' (TakesBack given.number link) (λ tale. length tale.came ≡ pass.splits)
+                (λ tale. length tale.came ≡ new.splits)
+                (λ a b e n. back_count given.number link pass.splits a b e n ∙ sym splits) goes k.came;
+            out =
+                told_then door door' (TakesBack given.number link)
+                (λ tale. length tale.back + length (one ++ d ∷ two) ≡ length tale.came)
+                (λ tale. length tale.back + length (one ++ two) ≡ length tale.came)
+                (λ a b e n.
+                back_out given.number link (length (one ++ two)) (length (one ++ d ∷ two)) a b e (one_less d one two) n)
+                goes k.out;
           }

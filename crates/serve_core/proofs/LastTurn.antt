@@ -45,32 +45,44 @@ else_rest e es is none m low =
 else_first : (e : Entry Timed Reply) (es : Log) (n : ℕ) → e.session ≡ n → NoneElse (e ∷ es) → n ≡ 0
 else_first e es zero is none = refl
 else_first e es (suc n) is none =
-    let bad : e ∷ calls_of (suc n) es ≡ [] = ap (λ b. cond b (e ∷ calls_of (suc n) es) (calls_of (suc n) es)) (sym (eq-eqb e.session (suc n) is)) ∙ none (suc n) (omega arith) in
+    let bad : e ∷ calls_of (suc n) es ≡ [] =
+    ap (λ b. cond b (e ∷ calls_of (suc n) es) (calls_of (suc n) es)) (sym (eq-eqb e.session (suc n) is))
+    ∙ none (suc n) (omega arith) in
     absurd cc
 
 all_own : (es : Log) → NoneElse es → calls_of 0 es ≡ es
 all_own [] none = refl
 all_own (e ∷ es) none =
     let is : e.session ≡ 0 = else_first e es e.session refl none in
-    ap (λ b. cond b (e ∷ calls_of 0 es) (calls_of 0 es)) (eq-eqb e.session 0 is) ∙ ap (λ (l : Log). e ∷ l) (all_own es (else_rest e es is none))
+    ap (λ b. cond b (e ∷ calls_of 0 es) (calls_of 0 es)) (eq-eqb e.session 0 is)
+    ∙ ap (λ (l : Log). e ∷ l) (all_own es (else_rest e es is none))
 
 -- ---- the last turn
 
-module _ (end : StewardEnd) (supply : Supply) (before after : Store) (old new : PassState) (t : TurnsLast end supply before after old new) where
+module _ (end : StewardEnd) (supply : Supply) (before after : Store) (old new : PassState)
+    (t : TurnsLast end supply before after old new) where
   pub first_home : t.first.home ≡ old.home
   first_home = ap (λ (p : PassState). p.home) t.looked.same
 
   pub last_home : new.home ≡ old.home
-  last_home = ap (λ (p : PassState). p.home) t.looked_again.same ∙ turn_home end supply before after t.first t.mid t.made ∙ first_home
+  last_home =
+      ap (λ (p : PassState). p.home) t.looked_again.same ∙ turn_home end supply before after t.first t.mid t.made
+      ∙ first_home
 
   pub last_splits : new.splits ≡ old.splits
-  last_splits = ap (λ (p : PassState). p.splits) t.looked_again.same ∙ turn_splits end supply before after t.first t.mid t.made ∙ ap (λ (p : PassState). p.splits) t.looked.same
+  last_splits =
+      ap (λ (p : PassState). p.splits) t.looked_again.same ∙ turn_splits end supply before after t.first t.mid t.made
+      ∙ ap (λ (p : PassState). p.splits) t.looked.same
 
   pub last_number : new.number ≡ old.number
-  last_number = ap (λ (p : PassState). p.number) t.looked_again.same ∙ turn_number end supply before after t.first t.mid t.made ∙ ap (λ (p : PassState). p.number) t.looked.same
+  last_number =
+      ap (λ (p : PassState). p.number) t.looked_again.same ∙ turn_number end supply before after t.first t.mid t.made
+      ∙ ap (λ (p : PassState). p.number) t.looked.same
 
   pub last_opening : new.opening ≡ old.opening
-  last_opening = ap (λ (p : PassState). p.opening) t.looked_again.same ∙ turn_opening end supply before after t.first t.mid t.made ∙ ap (λ (p : PassState). p.opening) t.looked.same
+  last_opening =
+      ap (λ (p : PassState). p.opening) t.looked_again.same ∙ turn_opening end supply before after t.first t.mid t.made
+      ∙ ap (λ (p : PassState). p.opening) t.looked.same
 
   first_joined : t.first.joined ≡ old.joined
   first_joined = ap (λ (p : PassState). p.joined) t.looked.same
@@ -79,7 +91,8 @@ module _ (end : StewardEnd) (supply : Supply) (before after : Store) (old new : 
   last_joined = ap (λ (p : PassState). p.joined) t.looked_again.same ∙ ap (λ p. p.joined) t.made.shared ∙ first_joined
 
   pub last_made : new.made ≡ t.first.made ++ t.made.turn.entries
-  last_made = ap (λ (p : PassState). p.made) t.looked_again.same ∙ turn_made end supply before after t.first t.mid t.made
+  last_made =
+      ap (λ (p : PassState). p.made) t.looked_again.same ∙ turn_made end supply before after t.first t.mid t.made
 
   abbrev pub last_is : StewardTurn
   last_is = turn_is end supply before after t.first t.mid t.made
@@ -93,20 +106,31 @@ module _ (end : StewardEnd) (supply : Supply) (before after : Store) (old new : 
 
     of_joined : (m : ℕ) (j : Joined Timed Reply) → In j old.joined → m ≡ j.number → calls_of m gained.0 ≡ []
     of_joined m j there is =
-        let one : calls_of j.number t.first.seen ≡ j.calls = t.looked.calls j (subst (λ (xs : List (Joined Timed Reply)). In j xs) (sym first_joined) there) in
-        let two : calls_of j.number new.seen ≡ j.calls = t.looked_again.calls j (subst (λ (xs : List (Joined Timed Reply)). In j xs) (sym last_joined) there) in
-        let none : calls_of j.number gained.0 ≡ [] = nothing_behind (calls_of j.number t.first.seen) (calls_of j.number gained.0) (calls_grow j.number ∙ two ∙ sym one) in
+        let one : calls_of j.number t.first.seen ≡ j.calls =
+        t.looked.calls j (subst (λ (xs : List (Joined Timed Reply)). In j xs) (sym first_joined) there) in
+        let two : calls_of j.number new.seen ≡ j.calls =
+        t.looked_again.calls j (subst (λ (xs : List (Joined Timed Reply)). In j xs) (sym last_joined) there) in
+        let none : calls_of j.number gained.0 ≡ [] =
+        nothing_behind (calls_of j.number t.first.seen) (calls_of j.number gained.0)
+        (calls_grow j.number ∙ two ∙ sym one) in
         ap (λ n. calls_of n gained.0) is ∙ none
 
     none_else_by : (m : ℕ) (past : Bool) → nat_lt old.splits m ≡ past → 0 < m → calls_of m gained.0 ≡ []
-    none_else_by m true is low = nothing_last (calls_of m t.first.seen) (calls_of m gained.0) (calls_grow m ∙ t.looked_again.no_others (last_number ∙ first) m (omega (arith, ltb-true old.splits m is, last_splits)))
-    none_else_by m false is low = let found = in_map_from joined_number m old.joined (joined m low (ltb-false old.splits m is)) in of_joined m found.0 found.1 found.2
+    none_else_by m true is low =
+        nothing_last (calls_of m t.first.seen) (calls_of m gained.0)
+        (calls_grow m
+        ∙ t.looked_again.no_others (last_number ∙ first) m (omega (arith, ltb-true old.splits m is, last_splits)))
+    none_else_by m false is low =
+        let found = in_map_from joined_number m old.joined (joined m low (ltb-false old.splits m is)) in
+        of_joined m found.0 found.1 found.2
 
     none_else : NoneElse gained.0
     none_else m low = none_else_by m (nat_lt old.splits m) refl low
 
     own_first : calls_of 0 t.first.seen ≡ t.first.made
-    own_first = sym (t.looked.known.own ∙ ap (λ n. calls_of n t.first.seen) (ap (λ (p : PassState). p.number) t.looked.same ∙ first))
+    own_first =
+        sym (t.looked.known.own
+        ∙ ap (λ n. calls_of n t.first.seen) (ap (λ (p : PassState). p.number) t.looked.same ∙ first))
 
     -- what the first pass made are the entries of session 0
     pub own_last : calls_of 0 new.seen ≡ new.made
@@ -116,7 +140,8 @@ module _ (end : StewardEnd) (supply : Supply) (before after : Store) (old new : 
     gained_is : gained.0 ≡ t.made.turn.entries
     gained_is =
         sym (all_own gained.0 none_else)
-        ∙ append_cancel_left t.first.made (calls_of 0 gained.0) t.made.turn.entries (ap (λ (l : Log). l ++ calls_of 0 gained.0) (sym own_first) ∙ calls_grow 0 ∙ own_last ∙ last_made)
+        ∙ append_cancel_left t.first.made (calls_of 0 gained.0) t.made.turn.entries
+        (ap (λ (l : Log). l ++ calls_of 0 gained.0) (sym own_first) ∙ calls_grow 0 ∙ own_last ∙ last_made)
 
     pub last_seen : new.seen ≡ t.first.seen ++ t.made.turn.entries
     last_seen = sym gained.1 ∙ ap (λ (l : Log). t.first.seen ++ l) gained_is
@@ -127,9 +152,14 @@ module _ (end : StewardEnd) (supply : Supply) (before after : Store) (old new : 
         let opening : t.first.opening ≡ old.opening = ap (λ (p : PassState). p.opening) t.looked.same in
         let parts = state house old.opening t.first.seen in
         let legal_all : Legal house old.opening (t.first.seen ++ entries) =
-        subst (Legal house old.opening) last_seen (subst (λ (xs : List Part). Legal house xs new.seen) last_opening t.looked_again.known.legal) in
-        let legal_first : Legal house old.opening t.first.seen = subst (λ (xs : List Part). Legal house xs t.first.seen) opening t.looked.known.legal in
+        subst (Legal house old.opening) last_seen
+        (subst (λ (xs : List Part). Legal house xs new.seen) last_opening t.looked_again.known.legal) in
+        let legal_first : Legal house old.opening t.first.seen =
+        subst (λ (xs : List Part). Legal house xs t.first.seen) opening t.looked.known.legal in
         let path : state house new.opening new.seen ≡ state house parts entries =
-        ap (λ (xs : List Part). state house xs new.seen) last_opening ∙ ap (state house old.opening) last_seen ∙ state-append house old.opening t.first.seen entries in
+        ap (λ (xs : List Part). state house xs new.seen) last_opening ∙ ap (state house old.opening) last_seen
+        ∙ state-append house old.opening t.first.seen entries in
         subst (LeavesNoOrders end) (sym path)
-        (leaves_none end parts t.made.moment entries t.made.turn.carried (stays_whole house house_lawful old.opening t.first.seen whole legal_first) (legal_back house old.opening t.first.seen entries legal_all) t.made.turn.turn)
+        (leaves_none end parts t.made.moment entries t.made.turn.carried
+        (stays_whole house house_lawful old.opening t.first.seen whole legal_first)
+        (legal_back house old.opening t.first.seen entries legal_all) t.made.turn.turn)

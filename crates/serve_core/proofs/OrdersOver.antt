@@ -38,10 +38,12 @@ use Rattle.serve_core.specs.Stewarding.{LeavesNoOrders, NoOrders}
 all_told : (orders : List Order) → length (take 16 orders) < 16 → take 16 orders ≡ orders
 all_told orders few = let long = length-take 16 orders in take_all 16 orders (omega (arith, few, long))
 
-module _ (xs : List Part) (w : IsWhole xs) (k moment : ℕ) (answer : Reply) (told : reply house xs k (asks_orders moment) ≡ Some answer) where
+module _ (xs : List Part) (w : IsWhole xs) (k moment : ℕ) (answer : Reply)
+    (told : reply house xs k (asks_orders moment) ≡ Some answer) where
   answer_is : answer ≡ lobby_reply (lobby_answer w.lobby k AskOrders)
   answer_is =
-      let is : Some answer ≡ Some (lobby_reply (lobby_answer w.lobby k AskOrders)) = sym told ∙ reply_alone house xs k (asks_orders moment) (TheLobby w.lobby) w.first refl in
+      let is : Some answer ≡ Some (lobby_reply (lobby_answer w.lobby k AskOrders)) =
+      sym told ∙ reply_alone house xs k (asks_orders moment) (TheLobby w.lobby) w.first refl in
       cc
 
   told_all : length (orders_in answer) < 16 → orders_in answer ≡ w.lobby.shelf.orders
@@ -51,7 +53,8 @@ module _ (xs : List Part) (w : IsWhole xs) (k moment : ℕ) (answer : Reply) (to
 
   lobby_stays : slice_get (after house xs k (asks_orders moment)) 0 ≡ Some (TheLobby w.lobby)
   lobby_stays =
-      let alone : after house xs k (asks_orders moment) ≡ set xs 0 (TheLobby w.lobby) = after_alone house xs k (asks_orders moment) (TheLobby w.lobby) w.first refl in
+      let alone : after house xs k (asks_orders moment) ≡ set xs 0 (TheLobby w.lobby) =
+      after_alone house xs k (asks_orders moment) (TheLobby w.lobby) w.first refl in
       ap (λ (l : List Part). slice_get l 0) alone ∙ put_lobby xs w.lobby w.lobby w.first
 
 -- ---- the orders that are told as saved
@@ -61,29 +64,38 @@ last_of order [] = (order.number, refl)
 last_of order (more ∷ orders) = last_of more orders
 
 module _ (ys : List Part) (w : IsWhole ys) (moment : ℕ) where
-  none_above : (upto : ℕ) → last_number w.lobby.shelf.orders ≡ Some upto → filter (λ (o : Order). nat_lt upto o.number) w.lobby.shelf.orders ≡ []
+  none_above : (upto : ℕ) → last_number w.lobby.shelf.orders ≡ Some upto
+      → filter (λ (o : Order). nat_lt upto o.number) w.lobby.shelf.orders ≡ []
   none_above upto last =
       let shelf = w.lobby.shelf in
       let all : shelf.orders ++ [] ≡ shelf.orders = append-nil shelf.orders in
       ap (filter (λ (o : Order). nat_lt upto o.number)) (sym all)
-      ∙ kept_behind 0 shelf.made upto shelf.orders [] (subst (λ (l : List Order). OrdersRise 0 shelf.made l) (sym all) w.formed.shelf.sound.orders) last
+      ∙ kept_behind 0 shelf.made upto shelf.orders []
+      (subst (λ (l : List Order). OrdersRise 0 shelf.made l) (sym all) w.formed.shelf.sound.orders) last
 
-  said_over : (k upto : ℕ) → last_number w.lobby.shelf.orders ≡ Some upto → NoOrders (after house ys k (says_saved moment upto))
+  said_over : (k upto : ℕ) → last_number w.lobby.shelf.orders ≡ Some upto
+      → NoOrders (after house ys k (says_saved moment upto))
   said_over k upto last lobby there =
       let later : LobbyState = record w.lobby { shelf = saved w.lobby.shelf upto } in
-      let alone : after house ys k (says_saved moment upto) ≡ set ys 0 (TheLobby later) = after_alone house ys k (says_saved moment upto) (TheLobby w.lobby) w.first refl in
-      let same = one_lobby (after house ys k (says_saved moment upto)) lobby later there (ap (λ (l : List Part). slice_get l 0) alone ∙ put_lobby ys w.lobby later w.first) in
+      let alone : after house ys k (says_saved moment upto) ≡ set ys 0 (TheLobby later) =
+      after_alone house ys k (says_saved moment upto) (TheLobby w.lobby) w.first refl in
+      let same =
+      one_lobby (after house ys k (says_saved moment upto)) lobby later there
+      (ap (λ (l : List Part). slice_get l 0) alone ∙ put_lobby ys w.lobby later w.first) in
       ap (λ (l : LobbyState). l.shelf.orders) same ∙ none_above upto last
 
-  over_upto : (upto : ℕ) (rest : Log) → last_number w.lobby.shelf.orders ≡ Some upto → acts_of rest ≡ says_saved moment upto ∷ [] → NoOrders (state house ys rest)
+  over_upto : (upto : ℕ) (rest : Log) → last_number w.lobby.shelf.orders ≡ Some upto
+      → acts_of rest ≡ says_saved moment upto ∷ [] → NoOrders (state house ys rest)
   over_upto upto [] last said = absurd cc
   over_upto upto (e ∷ []) last said =
       let act : says_saved moment upto ≡ e.act = cc in
       subst (λ (t : Timed). NoOrders (after house ys e.session t)) act (said_over e.session upto last)
   over_upto upto (e ∷ (f ∷ rest)) last said = absurd cc
 
-  over_by : (orders : List Order) (rest : Log) → w.lobby.shelf.orders ≡ orders → acts_of rest ≡ tells_upto moment (last_number orders) → NoOrders (state house ys rest)
-  over_by [] [] is said = λ lobby there. ap (λ (l : LobbyState). l.shelf.orders) (one_lobby ys lobby w.lobby there w.first) ∙ is
+  over_by : (orders : List Order) (rest : Log) → w.lobby.shelf.orders ≡ orders
+      → acts_of rest ≡ tells_upto moment (last_number orders) → NoOrders (state house ys rest)
+  over_by [] [] is said = λ lobby there.
+      ap (λ (l : LobbyState). l.shelf.orders) (one_lobby ys lobby w.lobby there w.first) ∙ is
   over_by [] (e ∷ rest) is said = absurd cc
   over_by (order ∷ orders) rest is said =
       let last = last_of order orders in
@@ -91,39 +103,54 @@ module _ (ys : List Part) (w : IsWhole ys) (moment : ℕ) where
 
 -- ---- rounds
 
-round_over : (xs : List Part) (moment : ℕ) (entries : Log) (orders : List Order) → IsWhole xs → Legal house xs entries → IsSaveRound moment entries orders → length orders < 16 → NoOrders (state house xs entries)
+round_over : (xs : List Part) (moment : ℕ) (entries : Log) (orders : List Order) → IsWhole xs → Legal house xs entries
+    → IsSaveRound moment entries orders → length orders < 16 → NoOrders (state house xs entries)
 round_over xs moment entries orders w legal r few =
     let now : Legal house xs (r.first ∷ r.rest) = subst (Legal house xs) r.all legal in
     let k = r.first.session in
-    let told : reply house xs k (asks_orders moment) ≡ Some r.first.reply = ap (reply house xs k) (sym r.asks) ∙ now.1 in
+    let told : reply house xs k (asks_orders moment) ≡ Some r.first.reply =
+    ap (reply house xs k) (sym r.asks) ∙ now.1 in
     let ys = after house xs k (asks_orders moment) in
     let fits : house.fits (asks_orders moment) = subst house.fits r.asks now.0 in
     let whole : IsWhole ys = house_lawful.stays xs k (asks_orders moment) w fits in
-    let all : orders ≡ w.lobby.shelf.orders = sym r.told ∙ told_all xs w k moment r.first.reply told (subst (λ (l : List Order). length l < 16) (sym r.told) few) in
-    let same : whole.lobby ≡ w.lobby = one_lobby ys whole.lobby w.lobby whole.first (lobby_stays xs w k moment r.first.reply told) in
+    let all : orders ≡ w.lobby.shelf.orders =
+    sym r.told
+    ∙ told_all xs w k moment r.first.reply told (subst (λ (l : List Order). length l < 16) (sym r.told) few) in
+    let same : whole.lobby ≡ w.lobby =
+    one_lobby ys whole.lobby w.lobby whole.first (lobby_stays xs w k moment r.first.reply told) in
     let over = over_by ys whole moment orders r.rest (ap (λ (l : LobbyState). l.shelf.orders) same ∙ sym all) r.saved in
-    let path : state house xs entries ≡ state house ys r.rest = ap (state house xs) r.all ∙ ap (λ (t : Timed). state house (after house xs k t) r.rest) r.asks in
+    let path : state house xs entries ≡ state house ys r.rest =
+    ap (state house xs) r.all ∙ ap (λ (t : Timed). state house (after house xs k t) r.rest) r.asks in
     subst NoOrders (sym path) over
 
-ends_over : (xs : List Part) (moment count rounds : ℕ) (entries : Log) (orders : List Order) → IsWhole xs → Legal house xs entries → EndsSaving moment (Done count) rounds entries orders → NoOrders (state house xs entries) ⊎ (count ≡ most_answers * 16)
-ends_over xs moment count rounds entries orders w legal (inl p) = inl (round_over xs moment entries orders w legal p.0 p.1)
+ends_over : (xs : List Part) (moment count rounds : ℕ) (entries : Log) (orders : List Order) → IsWhole xs
+    → Legal house xs entries → EndsSaving moment (Done count) rounds entries orders
+    → NoOrders (state house xs entries) ⊎ (count ≡ most_answers * 16)
+ends_over xs moment count rounds entries orders w legal (inl p) =
+    inl (round_over xs moment entries orders w legal p.0 p.1)
 ends_over xs moment count rounds entries orders w legal (inr p) = inr (p.3 ∙ ap (λ n. n * 16) p.0)
 
 -- so many entries come first
 behind : (xs : List Part) (count : ℕ) (es fs all : Log) → all ≡ es ++ fs → IsWhole xs → Legal house xs all
-    → (IsWhole (state house xs es) → Legal house (state house xs es) fs → NoOrders (state house (state house xs es) fs) ⊎ (count ≡ most_answers * 16))
+    → (IsWhole (state house xs es) → Legal house (state house xs es) fs
+    → NoOrders (state house (state house xs es) fs) ⊎ (count ≡ most_answers * 16))
     → NoOrders (state house xs all) ⊎ (count ≡ most_answers * 16)
 behind xs count es fs all is w legal over =
     let both : Legal house xs (es ++ fs) = subst (Legal house xs) is legal in
-    let path : state house xs all ≡ state house (state house xs es) fs = ap (state house xs) is ∙ state-append house xs es fs in
+    let path : state house xs all ≡ state house (state house xs es) fs =
+    ap (state house xs) is ∙ state-append house xs es fs in
     subst (λ (parts : List Part). NoOrders parts ⊎ (count ≡ most_answers * 16)) (sym path)
     (over (stays_whole house house_lawful xs es w (legal_front house xs es fs both)) (legal_back house xs es fs both))
 
-saving_over : (xs : List Part) (moment count : ℕ) (entries : Log) (carried : List Order) → IsWhole xs → Legal house xs entries → IsSaving moment (Done count) entries carried → NoOrders (state house xs entries) ⊎ (count ≡ most_answers * 16)
+saving_over : (xs : List Part) (moment count : ℕ) (entries : Log) (carried : List Order) → IsWhole xs
+    → Legal house xs entries → IsSaving moment (Done count) entries carried
+    → NoOrders (state house xs entries) ⊎ (count ≡ most_answers * 16)
 saving_over xs moment count entries carried w legal s =
-    behind xs count s.full s.rest entries s.all w legal (λ whole now. ends_over (state house xs s.full) moment count s.rounds s.rest s.last whole now s.ends)
+    behind xs count s.full s.rest entries s.all w legal
+    (λ whole now. ends_over (state house xs s.full) moment count s.rounds s.rest s.last whole now s.ends)
 
-saved_so : (cleared : ClearingEnd) (saved : StewardEnd) (count : ℕ) → Done count ≡ end_of_turn cleared saved → saved ≡ Done count
+saved_so : (cleared : ClearingEnd) (saved : StewardEnd) (count : ℕ) → Done count ≡ end_of_turn cleared saved
+    → saved ≡ Done count
 saved_so clearing.Done (Done n) count e = sym e
 saved_so clearing.Done KeeperFault count e = sym e
 saved_so clearing.Done Memory count e = sym e
@@ -131,12 +158,17 @@ saved_so clearing.Memory (Done n) count e = absurd cc
 saved_so clearing.Memory KeeperFault count e = absurd cc
 saved_so clearing.Memory Memory count e = absurd cc
 
-turn_over : (xs : List Part) (moment count : ℕ) (entries : Log) (carried : List Order) → IsWhole xs → Legal house xs entries → IsStewardTurn moment (Done count) entries carried → NoOrders (state house xs entries) ⊎ (count ≡ most_answers * 16)
+turn_over : (xs : List Part) (moment count : ℕ) (entries : Log) (carried : List Order) → IsWhole xs
+    → Legal house xs entries → IsStewardTurn moment (Done count) entries carried
+    → NoOrders (state house xs entries) ⊎ (count ≡ most_answers * 16)
 turn_over xs moment count entries carried w legal t =
     behind xs count t.first t.rest entries t.all w legal
-    (λ whole now. saving_over (state house xs t.first) moment count t.rest carried whole now (subst (λ (e : StewardEnd). IsSaving moment e t.rest carried) (saved_so t.cleared t.saved count t.ends) t.saving))
+    (λ whole now.
+    saving_over (state house xs t.first) moment count t.rest carried whole now
+    (subst (λ (e : StewardEnd). IsSaving moment e t.rest carried) (saved_so t.cleared t.saved count t.ends) t.saving))
 
-pub leaves_none : (end : StewardEnd) (xs : List Part) (moment : ℕ) (entries : Log) (carried : List Order) → IsWhole xs → Legal house xs entries → IsStewardTurn moment end entries carried → LeavesNoOrders end (state house xs entries)
+pub leaves_none : (end : StewardEnd) (xs : List Part) (moment : ℕ) (entries : Log) (carried : List Order) → IsWhole xs
+    → Legal house xs entries → IsStewardTurn moment end entries carried → LeavesNoOrders end (state house xs entries)
 leaves_none (Done count) xs moment entries carried w legal t = turn_over xs moment count entries carried w legal t
 leaves_none KeeperFault xs moment entries carried w legal t = tt
 leaves_none Memory xs moment entries carried w legal t = tt

@@ -16,30 +16,46 @@ use Rattle.serve_core.specs.Laws.{ComesBack, EachComesBack}
 use Rattle.serve_core.specs.Sessions.{CameAs, CameBack, HadSession}
 
 module _ (shows : ℕ → Bool) (session : ℕ) (calls : Log) (came back : Tale) (faults : ℕ) (fresh : IsFresh came) where
-  greeted_or_failed : (e : LinkEnd) → (e ≡ end.Memory → ⊥) → WasServed shows true session e calls (handed_over came 0) (handed_over back faults) → WasGreeted came back ⊎ (1 ≤ faults)
+  greeted_or_failed : (e : LinkEnd) → (e ≡ end.Memory → ⊥)
+      → WasServed shows true session e calls (handed_over came 0) (handed_over back faults)
+      → WasGreeted came back ⊎ (1 ≤ faults)
   greeted_or_failed end.Memory never s = absurd (never refl)
   greeted_or_failed end.WriteFault never s =
-      inr (omega (arith, faults_are_counted shows true session end.WriteFault calls (handed_over came 0) (handed_over back faults) s (inr refl)))
-  greeted_or_failed end.Quit never s = inl (is_greeted shows true session end.Quit calls came back 0 faults s (λ e. cc) never)
-  greeted_or_failed end.End never s = inl (is_greeted shows true session end.End calls came back 0 faults s (λ e. cc) never)
-  greeted_or_failed end.ReadFault never s = inl (is_greeted shows true session end.ReadFault calls came back 0 faults s (λ e. cc) never)
-  greeted_or_failed end.Spent never s = inl (is_greeted shows true session end.Spent calls came back 0 faults s (λ e. cc) never)
+      inr (omega (
+        arith,
+        faults_are_counted shows true session end.WriteFault calls (handed_over came 0) (handed_over back faults) s
+            (inr refl),
+      ))
+  greeted_or_failed end.Quit never s =
+      inl (is_greeted shows true session end.Quit calls came back 0 faults s (λ e. cc) never)
+  greeted_or_failed end.End never s =
+      inl (is_greeted shows true session end.End calls came back 0 faults s (λ e. cc) never)
+  greeted_or_failed end.ReadFault never s =
+      inl (is_greeted shows true session end.ReadFault calls came back 0 faults s (λ e. cc) never)
+  greeted_or_failed end.Spent never s =
+      inl (is_greeted shows true session end.Spent calls came back 0 faults s (λ e. cc) never)
 
-  all_signs : (e : LinkEnd) → WasServed shows true session e calls (handed_over came 0) (handed_over back faults) → back.taken ++ back.left ≡ came.left
-  all_signs e s = keeps_its_signs shows true session e calls came back 0 faults s ∙ ap (λ (l : List Sign). l ++ came.left) fresh.0
+  all_signs : (e : LinkEnd) → WasServed shows true session e calls (handed_over came 0) (handed_over back faults)
+      → back.taken ++ back.left ≡ came.left
+  all_signs e s =
+      keeps_its_signs shows true session e calls came back 0 faults s ∙ ap (λ (l : List Sign). l ++ came.left) fresh.0
 
-  comes_back : (door : DoorTale) (e : LinkEnd) → (e ≡ end.Memory → ⊥) → WasServed shows true session e calls (handed_over came 0) (handed_over back faults) → CameBack session (handed_over back faults) door → ComesBack shows door session calls came
+  comes_back : (door : DoorTale) (e : LinkEnd) → (e ≡ end.Memory → ⊥)
+      → WasServed shows true session e calls (handed_over came 0) (handed_over back faults)
+      → CameBack session (handed_over back faults) door → ComesBack shows door session calls came
   comes_back door e never s there = record {
     link = back;
     faults = faults;
     back = there;
     signs = all_signs e s;
     greeted = greeted_or_failed e never s;
-    answered = λ none few. answers_each_line shows true session e calls came back 0 faults s never (λ rose. omega (arith, rose, none)) few;
+    answered = λ none few.
+        answers_each_line shows true session e calls came back 0 faults s never (λ rose. omega (arith, rose, none)) few;
   }
 
 -- the link came as the door tells, and comes back as it was handed back
-module _ (shows : ℕ → Bool) (lack : Type 0) (never : lack → ⊥) (door : DoorTale) (number : ℕ) (calls : Log) (came : Tale) (h : HadSession shows lack (Some door) number calls) (known : CameAs number (Some came) door) where
+module _ (shows : ℕ → Bool) (lack : Type 0) (never : lack → ⊥) (door : DoorTale) (number : ℕ) (calls : Log)
+    (came : Tale) (h : HadSession shows lack (Some door) number calls) (known : CameAs number (Some came) door) where
   some_inside : (a b : Option Tale) → Some a ≡ Some b → a ≡ b
   some_inside a b e = cc
 
@@ -50,7 +66,9 @@ module _ (shows : ℕ → Bool) (lack : Type 0) (never : lack → ⊥) (door : D
   was_fresh = subst (λ (o : Option Tale). IfSome o IsFresh) link_is h.fresh
 
   was_served : WasServed shows true number h.end calls (handed_over came 0) h.returned
-  was_served = subst (λ (o : Option Tale). WasServed shows true number h.end calls (record { tale = o; faults = 0 }) h.returned) link_is h.served
+  was_served =
+      subst (λ (o : Option Tale). WasServed shows true number h.end calls (record { tale = o; faults = 0 }) h.returned)
+      link_is h.served
 
   tells_back : (tale : Tale) × (h.returned.tale ≡ Some tale)
   tells_back = tells_on shows true number h.end calls came h.returned.tale 0 h.returned.faults was_served
@@ -65,4 +83,6 @@ module _ (shows : ℕ → Bool) (lack : Type 0) (never : lack → ⊥) (door : D
       (subst (λ (r : Handed). CameBack number r door) returned_is h.back)
 
 pub each_comes_back : EachComesBack
-each_comes_back shows short door number calls came ample h known = comes_back_here shows (short ≡ true) (λ e. let both : true ≡ false = sym e ∙ ample in cc) door number calls came h known
+each_comes_back shows short door number calls came ample h known =
+    comes_back_here shows (short ≡ true) (λ e. let both : true ≡ false = sym e ∙ ample in cc) door number calls came h
+    known

@@ -34,25 +34,34 @@ quiets_then n m a b c p q = omega (arith, p, q)
 pub tended_then : (one two three : Stand) → Tended one two → Tended two three → Tended one three
 tended_then one two three p q =
     let first : AreTurns (MayEnd (three.supply ≡ Short)) p.count one.store two.store p.entries =
-    turns_as (MayEnd (two.supply ≡ Short)) (MayEnd (three.supply ≡ Short)) (may_end (two.supply ≡ Short) (three.supply ≡ Short) q.short) p.count one.store two.store p.entries p.turns in
+    turns_as (MayEnd (two.supply ≡ Short)) (MayEnd (three.supply ≡ Short))
+    (may_end (two.supply ≡ Short) (three.supply ≡ Short) q.short) p.count one.store two.store p.entries p.turns in
     record {
       count = p.count + q.count;
       entries = p.entries ++ q.entries;
-      turns = turns_append (three.supply ≡ Short) p.count q.count one.store two.store three.store p.entries q.entries first q.turns;
+      turns =
+          turns_append (three.supply ≡ Short) p.count q.count one.store two.store three.store p.entries q.entries first
+          q.turns;
       grew = λ known.
           let grew = p.grew known in
-          made_then (runs_of one.pass) (runs_of two.pass) (runs_of three.pass) p.entries q.entries grew (q.grew grew.known);
-      quiets = where_then one.door two.door three.door (GivesQuiets p.count) (GivesQuiets q.count) (GivesQuiets (p.count + q.count)) (quiets_then p.count q.count) p.quiets q.quiets;
+          made_then (runs_of one.pass) (runs_of two.pass) (runs_of three.pass) p.entries q.entries grew
+          (q.grew grew.known);
+      quiets =
+          where_then one.door two.door three.door (GivesQuiets p.count) (GivesQuiets q.count)
+          (GivesQuiets (p.count + q.count)) (quiets_then p.count q.count) p.quiets q.quiets;
       short = λ e. q.short (p.short e);
       agrees = λ known.
           let grew = p.grew known in
-          agreed_then one.store.table two.store.table three.store.table (runs_of one.pass) (runs_of two.pass) (runs_of three.pass) p.entries q.entries grew (q.grew grew.known) (p.agrees known) (q.agrees grew.known);
+          agreed_then one.store.table two.store.table three.store.table (runs_of one.pass) (runs_of two.pass)
+          (runs_of three.pass) p.entries q.entries grew (q.grew grew.known) (p.agrees known) (q.agrees grew.known);
     }
 
 -- ---- no turn at all
 
 module _ (pass pass' : PassState) (supply supply' : Supply) (door door' : Option DoorTale) (store : Store) where
-  pub tended_none : (IsKnown (runs_of pass) → Made (runs_of pass) [] (runs_of pass')) → WhereTold door door' (GivesQuiets 0) → (supply ≡ Short → supply' ≡ Short) → Tended (stand pass supply door store) (stand pass' supply' door' store)
+  pub tended_none : (IsKnown (runs_of pass) → Made (runs_of pass) [] (runs_of pass'))
+      → WhereTold door door' (GivesQuiets 0) → (supply ≡ Short → supply' ≡ Short)
+      → Tended (stand pass supply door store) (stand pass' supply' door' store)
   tended_none grew quiets short = record {
     count = 0;
     entries = [];
@@ -67,11 +76,15 @@ no_quiets : (tale : DoorTale) → GivesQuiets 0 tale tale
 no_quiets tale = omega arith
 
 pub tended_same : (it : Stand) → Tended it it
-tended_same it = tended_none it.pass it.pass it.supply it.supply it.door it.door it.store (made_none (runs_of it.pass)) (where_same it.door (GivesQuiets 0) no_quiets) (λ e. e)
+tended_same it =
+    tended_none it.pass it.pass it.supply it.supply it.door it.door it.store (made_none (runs_of it.pass))
+    (where_same it.door (GivesQuiets 0) no_quiets) (λ e. e)
 
 -- the door went on without a Quiet
-pub tended_door : (pass : PassState) (supply : Supply) (door door' : Option DoorTale) (store : Store) → WhereTold door door' (GivesQuiets 0) → Tended (stand pass supply door store) (stand pass supply door' store)
-tended_door pass supply door door' store quiets = tended_none pass pass supply supply door door' store (made_none (runs_of pass)) quiets (λ e. e)
+pub tended_door : (pass : PassState) (supply : Supply) (door door' : Option DoorTale) (store : Store)
+    → WhereTold door door' (GivesQuiets 0) → Tended (stand pass supply door store) (stand pass supply door' store)
+tended_door pass supply door door' store quiets =
+    tended_none pass pass supply supply door door' store (made_none (runs_of pass)) quiets (λ e. e)
 
 -- a pass was joined
 joined_made : (old other new : PassState) → IsJoined old other new → Made (runs_of old) [] (runs_of new)
@@ -97,64 +110,97 @@ looked_made old new j =
     }
 
 quiets_back : (number : ℕ) (link : Handed) (a b : DoorTale) → TakesBack number link a b → GivesQuiets 0 a b
-quiets_back number link a b e = let same : b.quiets ≡ a.quiets = ap (λ (t : DoorTale). t.quiets) e in omega (arith, same)
+quiets_back number link a b e =
+    let same : b.quiets ≡ a.quiets = ap (λ (t : DoorTale). t.quiets) e in omega (arith, same)
 
-pub tended_settled : (supply supply' : Supply) (end : LinkEnd) (door door' : Option DoorTale) (pass given new : PassState) (link : Handed) → IsJoined pass given new → WhereTold door door' (TakesBack given.number link)
-    → supply' ≡ supply_after end supply → (store : Store) → Tended (stand pass supply door store) (stand new supply' door' store)
+pub tended_settled : (supply supply' : Supply) (end : LinkEnd) (door door' : Option DoorTale)
+    (pass given new : PassState) (link : Handed)
+    → IsJoined pass given new → WhereTold door door' (TakesBack given.number link)
+    → supply' ≡ supply_after end supply → (store : Store)
+    → Tended (stand pass supply door store) (stand new supply' door' store)
 tended_settled supply supply' end door door' pass given new link joins goes is store =
     tended_none pass new supply supply' door door' store (λ known. joined_made pass given new joins)
-    (where_as door door' (TakesBack given.number link) (GivesQuiets 0) (quiets_back given.number link) goes) (λ e. is ∙ stays_short end supply e)
+    (where_as door door' (TakesBack given.number link) (GivesQuiets 0) (quiets_back given.number link) goes)
+    (λ e. is ∙ stays_short end supply e)
 
-pub settles_then : (start pass given new : PassState) (supply0 supply supply' : Supply) (end : LinkEnd) (door0 door door' : Option DoorTale) (link : Handed)
-    → ((store : Store) → Tended (stand start supply0 door0 store) (stand pass supply door store)) → IsJoined pass given new → WhereTold door door' (TakesBack given.number link) → supply' ≡ supply_after end supply
+pub settles_then : (start pass given new : PassState) (supply0 supply supply' : Supply) (end : LinkEnd)
+    (door0 door door' : Option DoorTale) (link : Handed)
+    → ((store : Store) → Tended (stand start supply0 door0 store) (stand pass supply door store))
+    → IsJoined pass given new → WhereTold door door' (TakesBack given.number link) → supply' ≡ supply_after end supply
     → (store : Store) → Tended (stand start supply0 door0 store) (stand new supply' door' store)
 settles_then start pass given new supply0 supply supply' end door0 door door' link so_far joins goes is store =
-    tended_then (stand start supply0 door0 store) (stand pass supply door store) (stand new supply' door' store) (so_far store)
+    tended_then (stand start supply0 door0 store) (stand pass supply door store) (stand new supply' door' store)
+    (so_far store)
     (tended_settled supply supply' end door door' pass given new link joins goes is store)
 
 -- a pass was split, and served
-pub tended_split : (pass mid : PassState) (supply : Supply) (door : Option DoorTale) (store : Store) → mid ≡ divided pass → Tended (stand pass supply door store) (stand mid supply door store)
+pub tended_split : (pass mid : PassState) (supply : Supply) (door : Option DoorTale) (store : Store)
+    → mid ≡ divided pass → Tended (stand pass supply door store) (stand mid supply door store)
 tended_split pass mid supply door store is =
     subst (λ (p : PassState). Tended (stand pass supply door store) (stand p supply door store)) (sym is)
-    (tended_none pass (divided pass) supply supply door door store (made_none (runs_of pass)) (where_same door (GivesQuiets 0) no_quiets) (λ e. e))
+    (tended_none pass (divided pass) supply supply door door store (made_none (runs_of pass))
+    (where_same door (GivesQuiets 0) no_quiets) (λ e. e))
 
-pub tended_served : (pass mid given new : PassState) (supply supply' : Supply) (end : LinkEnd) (door door' : Option DoorTale) (link : Handed) → mid ≡ divided pass → IsJoined mid given new
-    → WhereTold door door' (TakesBack given.number link) → supply' ≡ supply_after end supply → (store : Store) → Tended (stand pass supply door store) (stand new supply' door' store)
+pub tended_served : (pass mid given new : PassState) (supply supply' : Supply) (end : LinkEnd)
+    (door door' : Option DoorTale) (link : Handed)
+    → mid ≡ divided pass → IsJoined mid given new
+    → WhereTold door door' (TakesBack given.number link) → supply' ≡ supply_after end supply → (store : Store)
+    → Tended (stand pass supply door store) (stand new supply' door' store)
 tended_served pass mid given new supply supply' end door door' link is joins goes s =
-    settles_then pass mid given new supply supply supply' end door door door' link (λ store. tended_split pass mid supply door store is) joins goes s
+    settles_then pass mid given new supply supply supply' end door door door' link
+    (λ store. tended_split pass mid supply door store is) joins goes s
 
 -- an answer of the door
-no_quiet : {L : Type 0} (tells : L → Option Tale) (answer : Came L) (a b : DoorTale) → (IsQuiet answer → ⊥) → Gives tells answer a b → GivesQuiets 0 a b
-no_quiet tells (came.Link link) a b other e = let same : b.quiets ≡ a.quiets = ap (λ (t : DoorTale). t.quiets) e.1 in omega (arith, same)
+no_quiet : {L : Type 0} (tells : L → Option Tale) (answer : Came L) (a b : DoorTale) → (IsQuiet answer → ⊥)
+    → Gives tells answer a b → GivesQuiets 0 a b
+no_quiet tells (came.Link link) a b other e =
+    let same : b.quiets ≡ a.quiets = ap (λ (t : DoorTale). t.quiets) e.1 in omega (arith, same)
 no_quiet tells came.Quiet a b other e = absurd (other tt)
-no_quiet tells came.Closed a b other e = let same : b.quiets ≡ a.quiets = ap (λ (t : DoorTale). t.quiets) e.1 in omega (arith, same)
-no_quiet tells came.Failed a b other e = let same : b.quiets ≡ a.quiets = ap (λ (t : DoorTale). t.quiets) e in omega (arith, same)
+no_quiet tells came.Closed a b other e =
+    let same : b.quiets ≡ a.quiets = ap (λ (t : DoorTale). t.quiets) e.1 in omega (arith, same)
+no_quiet tells came.Failed a b other e =
+    let same : b.quiets ≡ a.quiets = ap (λ (t : DoorTale). t.quiets) e in omega (arith, same)
 
-pub one_quiet : {L : Type 0} (tells : L → Option Tale) (door door' : Option DoorTale) → WhereTold door door' (Gives tells came.Quiet) → WhereTold door door' (GivesQuiets 1)
-one_quiet tells door door' goes = where_as door door' (Gives tells came.Quiet) (GivesQuiets 1) (λ a b e. ap (λ (t : DoorTale). t.quiets) e) goes
+pub one_quiet : {L : Type 0} (tells : L → Option Tale) (door door' : Option DoorTale)
+    → WhereTold door door' (Gives tells came.Quiet) → WhereTold door door' (GivesQuiets 1)
+one_quiet tells door door' goes =
+    where_as door door' (Gives tells came.Quiet) (GivesQuiets 1) (λ a b e. ap (λ (t : DoorTale). t.quiets) e) goes
 
-pub same_then : (start : Stand) (pass pass' : PassState) (supply supply' : Supply) (door : Option DoorTale) (store : Store) → Tended start (stand pass supply door store) → pass' ≡ pass → supply' ≡ supply
+pub same_then : (start : Stand) (pass pass' : PassState) (supply supply' : Supply) (door : Option DoorTale)
+    (store : Store)
+    → Tended start (stand pass supply door store) → pass' ≡ pass → supply' ≡ supply
     → Tended start (stand pass' supply' door store)
 same_then start pass pass' supply supply' door store so_far p s =
-    subst (λ (x : PassState). Tended start (stand x supply' door store)) (sym p) (subst (λ (x : Supply). Tended start (stand pass x door store)) (sym s) so_far)
+    subst (λ (x : PassState). Tended start (stand x supply' door store)) (sym p)
+    (subst (λ (x : Supply). Tended start (stand pass x door store)) (sym s) so_far)
 
-pub door_then : {L : Type 0} (tells : L → Option Tale) (answer : Came L) (start : Stand) (pass : PassState) (supply : Supply) (door door' : Option DoorTale) (store : Store) → (IsQuiet answer → ⊥)
-    → Tended start (stand pass supply door store) → WhereTold door door' (Gives tells answer) → Tended start (stand pass supply door' store)
+pub door_then : {L : Type 0} (tells : L → Option Tale) (answer : Came L) (start : Stand) (pass : PassState)
+    (supply : Supply) (door door' : Option DoorTale) (store : Store)
+    → (IsQuiet answer → ⊥)
+    → Tended start (stand pass supply door store) → WhereTold door door' (Gives tells answer)
+    → Tended start (stand pass supply door' store)
 door_then tells answer start pass supply door door' store other so_far goes =
     tended_then start (stand pass supply door store) (stand pass supply door' store) so_far
-    (tended_door pass supply door door' store (where_as door door' (Gives tells answer) (GivesQuiets 0) (λ a b. no_quiet tells answer a b other) goes))
+    (tended_door pass supply door door' store
+    (where_as door door' (Gives tells answer) (GivesQuiets 0) (λ a b. no_quiet tells answer a b other) goes))
 
 -- the pass looked at the history
-pub tended_looked : (pass new : PassState) (supply : Supply) (door : Option DoorTale) (store : Store) → HasLooked pass new → Tended (stand pass supply door store) (stand new supply door store)
-tended_looked pass new supply door store looks = tended_none pass new supply supply door door store (λ known. looked_made pass new looks) (where_same door (GivesQuiets 0) no_quiets) (λ e. e)
+pub tended_looked : (pass new : PassState) (supply : Supply) (door : Option DoorTale) (store : Store)
+    → HasLooked pass new → Tended (stand pass supply door store) (stand new supply door store)
+tended_looked pass new supply door store looks =
+    tended_none pass new supply supply door door store (λ known. looked_made pass new looks)
+    (where_same door (GivesQuiets 0) no_quiets) (λ e. e)
 
 -- ---- a turn
 
 short_then : (made supply : Supply) → made ≡ Short → supply_then made supply ≡ Short
 short_then made supply e = subst (λ (m : Supply). supply_then m supply ≡ Short) (sym e) refl
 
-pub tended_turn : (end : StewardEnd) (made : Supply) (pass new : PassState) (supply : Supply) (door door' : Option DoorTale) (store store' : Store) → MadeTurn end made store store' pass new
-    → WhereTold door door' (GivesQuiets 1) → (end ≡ steward.KeeperFault → Rose store.faults store'.faults) → store.faults ≤ store'.faults
+pub tended_turn : (end : StewardEnd) (made : Supply) (pass new : PassState) (supply : Supply)
+    (door door' : Option DoorTale) (store store' : Store)
+    → MadeTurn end made store store' pass new
+    → WhereTold door door' (GivesQuiets 1) → (end ≡ steward.KeeperFault → Rose store.faults store'.faults)
+    → store.faults ≤ store'.faults
     → Tended (stand pass supply door store) (stand new (supply_then made supply) door' store')
 tended_turn end made pass new supply door door' store store' turn quiets fault counted =
     let last = turn_is end made store store' pass new turn in

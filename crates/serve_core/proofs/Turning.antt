@@ -40,7 +40,8 @@ asks_append n m one two p q = (stewards_append one two p.0 q.0, omega (arith, as
 -- ---- clearing
 
 -- Clears alone are a steward's, and ask nothing
-asks_some : (moment : ℕ) (es : Log) (rows : List DeskInUse) → IsPartOf (acts_of es) (map (clears moment) rows) → Asks 0 es
+asks_some : (moment : ℕ) (es : Log) (rows : List DeskInUse) → IsPartOf (acts_of es) (map (clears moment) rows)
+    → Asks 0 es
 asks_some moment [] rows p = (tt, refl)
 asks_some moment (e ∷ es) [] p = absurd p
 asks_some moment (e ∷ es) (row ∷ rows) (inl p) =
@@ -51,8 +52,10 @@ asks_some moment (e ∷ es) (row ∷ rows) (inl p) =
     )
 asks_some moment (e ∷ es) (row ∷ rows) (inr p) = asks_some moment (e ∷ es) rows p
 
-asks_rest : (end : ClearingEnd) (moment : ℕ) (rows : List DeskInUse) (es : Log) → AreClears end moment rows es → Asks 0 es
-asks_rest clearing.Done moment rows es p = asks_some moment es rows (subst (λ (l : List Timed). IsPartOf (acts_of es) l) p (part_of_itself (acts_of es)))
+asks_rest : (end : ClearingEnd) (moment : ℕ) (rows : List DeskInUse) (es : Log) → AreClears end moment rows es
+    → Asks 0 es
+asks_rest clearing.Done moment rows es p =
+    asks_some moment es rows (subst (λ (l : List Timed). IsPartOf (acts_of es) l) p (part_of_itself (acts_of es)))
 asks_rest clearing.Memory moment rows es p = asks_some moment es rows p
 
 asks_once_and_clears : (end : ClearingEnd) (moment : ℕ) (es : Log) → AsksAndClears end moment es → Asks 1 es
@@ -92,7 +95,8 @@ asks_round moment es orders p =
     ) in
     subst (Asks 0) (sym p.all) both
 
-asks_cut_rest : (moment : ℕ) (upto : Option ℕ) (es : Log) → (acts_of es ≡ tells_upto moment upto) ⊎ (es ≡ []) → Asks 0 es
+asks_cut_rest : (moment : ℕ) (upto : Option ℕ) (es : Log) → (acts_of es ≡ tells_upto moment upto) ⊎ (es ≡ [])
+    → Asks 0 es
 asks_cut_rest moment upto es (inl is) = asks_told moment upto es is
 asks_cut_rest moment upto es (inr is) = subst (Asks 0) (sym is) (tt, refl)
 
@@ -108,31 +112,39 @@ asks_cut moment es carried p =
 asks_full : (moment n : ℕ) (es : Log) (orders : List Order) → AreFullRounds moment n es orders → Asks 0 es
 asks_full moment zero es orders p = subst (Asks 0) (sym p.0) (tt, refl)
 asks_full moment (suc n) es orders (before, after, first, last, full, round, count, is, all) =
-    subst (Asks 0) (sym is) (asks_append 0 0 before after (asks_full moment n before first full) (asks_round moment after last round))
+    subst (Asks 0) (sym is)
+    (asks_append 0 0 before after (asks_full moment n before first full) (asks_round moment after last round))
 
 asks_none : (es : Log) → es ≡ [] → Asks 0 es
 asks_none es e = subst (Asks 0) (sym e) (tt, refl)
 
-asks_ends : (moment : ℕ) (end : StewardEnd) (rounds : ℕ) (es : Log) (orders : List Order) → EndsSaving moment end rounds es orders → Asks 0 es
+asks_ends : (moment : ℕ) (end : StewardEnd) (rounds : ℕ) (es : Log) (orders : List Order)
+    → EndsSaving moment end rounds es orders → Asks 0 es
 asks_ends moment (Done count) rounds es orders (inl p) = asks_round moment es orders p.0
 asks_ends moment (Done count) rounds es orders (inr p) = asks_none es p.1
 asks_ends moment KeeperFault rounds es orders p = asks_cut moment es orders p
 asks_ends moment Memory rounds es orders (inl p) = asks_cut moment es orders p
 asks_ends moment Memory rounds es orders (inr p) = asks_none es p.0
 
-pub asks_saving : (moment : ℕ) (end : StewardEnd) (es : Log) (carried : List Order) → IsSaving moment end es carried → Asks 0 es
+pub asks_saving : (moment : ℕ) (end : StewardEnd) (es : Log) (carried : List Order) → IsSaving moment end es carried
+    → Asks 0 es
 asks_saving moment end es carried p =
-    subst (Asks 0) (sym p.all) (asks_append 0 0 p.full p.rest (asks_full moment p.rounds p.full p.first p.are_full) (asks_ends moment end p.rounds p.rest p.last p.ends))
+    subst (Asks 0) (sym p.all)
+    (asks_append 0 0 p.full p.rest (asks_full moment p.rounds p.full p.first p.are_full)
+    (asks_ends moment end p.rounds p.rest p.last p.ends))
 
 -- ---- a turn
 
 pub turn_stewards : (t : StewardTurn) → AreStewards t.entries
 turn_stewards t =
     let p = t.turn in
-    subst AreStewards (sym p.all) (stewards_append p.first p.rest (clearing_stewards p.cleared t.moment p.first p.clearing) (asks_saving t.moment p.saved p.rest t.carried p.saving).0)
+    subst AreStewards (sym p.all)
+    (stewards_append p.first p.rest (clearing_stewards p.cleared t.moment p.first p.clearing)
+    (asks_saving t.moment p.saved p.rest t.carried p.saving).0)
 
 -- a turn that was done is one whose clearing was done
-pub cleared_whole : (end : StewardEnd) (cleared : ClearingEnd) (saved : StewardEnd) → end ≡ end_of_turn cleared saved → IsDone end → cleared ≡ clearing.Done
+pub cleared_whole : (end : StewardEnd) (cleared : ClearingEnd) (saved : StewardEnd) → end ≡ end_of_turn cleared saved
+    → IsDone end → cleared ≡ clearing.Done
 cleared_whole end clearing.Done saved is done = refl
 cleared_whole end clearing.Memory (Done count) is done = absurd (subst IsDone is done)
 cleared_whole end clearing.Memory KeeperFault is done = absurd (subst IsDone is done)
@@ -142,14 +154,24 @@ pub turn_asks : (t : StewardTurn) → IsDone t.end → times_asked t.entries ≡
 turn_asks t done =
     let p = t.turn in
     let whole = cleared_whole t.end p.cleared p.saved p.ends done in
-    let first = asks_once_and_clears clearing.Done t.moment p.first (subst (λ (c : ClearingEnd). IsClearing c t.moment p.first) whole p.clearing) in
+    let first =
+    asks_once_and_clears clearing.Done t.moment p.first
+    (subst (λ (c : ClearingEnd). IsClearing c t.moment p.first) whole p.clearing) in
     let rest = asks_saving t.moment p.saved p.rest t.carried p.saving in
     ap times_asked p.all ∙ (asks_append 1 0 p.first p.rest first rest).1
 
 -- ---- how turns may have ended
 
-pub may_end : (lack lack' : Type 0) → (lack → lack') → (before now : Store) (turn : StewardTurn) → MayEnd lack before now turn → MayEnd lack' before now turn
-may_end lack lack' f before now turn p = record { called = p.called; fault = p.fault; memory = λ e. f (p.memory e); clearing = λ e. f (p.clearing e); kept = p.kept }
+pub may_end : (lack lack' : Type 0) → (lack → lack') → (before now : Store) (turn : StewardTurn)
+    → MayEnd lack before now turn → MayEnd lack' before now turn
+may_end lack lack' f before now turn p =
+    record {
+      called = p.called;
+      fault = p.fault;
+      memory = λ e. f (p.memory e);
+      clearing = λ e. f (p.clearing e);
+      kept = p.kept;
+    }
 
 is_done : (end : StewardEnd) → (end ≡ KeeperFault → ⊥) → (end ≡ Memory → ⊥) → IsDone end
 is_done (Done count) f g = tt
@@ -157,52 +179,81 @@ is_done KeeperFault f g = f refl
 is_done Memory f g = g refl
 
 -- nothing ran short and no count rose
-all_done : (lack : Type 0) → (lack → ⊥) → (before now : Store) (first last : ℕ) → first ≤ before.faults → now.faults ≤ last → (Rose first last → ⊥) → (turn : StewardTurn) → MayEnd lack before now turn → IsDone turn.end
-all_done lack f before now first last low high calm turn p = is_done turn.end (λ e. let rose = p.fault e in calm (omega (arith, low, high, rose))) (λ e. f (p.memory e))
+all_done : (lack : Type 0) → (lack → ⊥) → (before now : Store) (first last : ℕ) → first ≤ before.faults
+    → now.faults ≤ last → (Rose first last → ⊥) → (turn : StewardTurn) → MayEnd lack before now turn → IsDone turn.end
+all_done lack f before now first last low high calm turn p =
+    is_done turn.end (λ e. let rose = p.fault e in calm (omega (arith, low, high, rose))) (λ e. f (p.memory e))
 
 module _ (Ends : Store → Store → StewardTurn → Type 0) where
-  pub turns_counted : (n : ℕ) (before now : Store) (made : Log) → AreTurns Ends n before now made → before.faults ≤ now.faults
+  pub turns_counted : (n : ℕ) (before now : Store) (made : Log) → AreTurns Ends n before now made
+      → before.faults ≤ now.faults
   turns_counted zero before now made p = subst (λ (s : Store). before.faults ≤ s.faults) (sym p.0) (omega arith)
-  turns_counted (suc n) before now made (first, mid, last, turns, more, ends, is) = le_trans (turns_counted n before mid first turns) more
+  turns_counted (suc n) before now made (first, mid, last, turns, more, ends, is) =
+      le_trans (turns_counted n before mid first turns) more
 
   pub turns_stewards : (n : ℕ) (before now : Store) (made : Log) → AreTurns Ends n before now made → AreStewards made
   turns_stewards zero before now made p = subst AreStewards (sym p.1) tt
   turns_stewards (suc n) before now made (first, mid, last, turns, more, ends, is) =
-      subst AreStewards (sym is) (stewards_append first last.entries (turns_stewards n before mid first turns) (turn_stewards last))
+      subst AreStewards (sym is)
+      (stewards_append first last.entries (turns_stewards n before mid first turns) (turn_stewards last))
 
-  pub turns_asked : ((before now : Store) (turn : StewardTurn) → Ends before now turn → IsDone turn.end) → (n : ℕ) (before now : Store) (made : Log) → AreTurns Ends n before now made → times_asked made ≡ n
+  pub turns_asked : ((before now : Store) (turn : StewardTurn) → Ends before now turn → IsDone turn.end)
+      → (n : ℕ) (before now : Store) (made : Log) → AreTurns Ends n before now made → times_asked made ≡ n
   turns_asked done zero before now made p = ap times_asked p.1
   turns_asked done (suc n) before now made (first, mid, last, turns, more, ends, is) =
       let so_far = turns_asked done n before mid first turns in
       let one = turn_asks last (done mid now last ends) in
       omega (arith, ap times_asked is, asked_append first last.entries, so_far, one)
 
-pub turns_as : (Ends Ends' : Store → Store → StewardTurn → Type 0) → ((before now : Store) (turn : StewardTurn) → Ends before now turn → Ends' before now turn) → (n : ℕ) (before now : Store) (made : Log)
+pub turns_as : (Ends Ends' : Store → Store → StewardTurn → Type 0)
+    → ((before now : Store) (turn : StewardTurn) → Ends before now turn → Ends' before now turn)
+    → (n : ℕ) (before now : Store) (made : Log)
     → AreTurns Ends n before now made → AreTurns Ends' n before now made
 turns_as Ends Ends' h zero before now made p = p
-turns_as Ends Ends' h (suc n) before now made (first, mid, last, turns, more, ends, is) = (first, mid, last, turns_as Ends Ends' h n before mid first turns, more, h mid now last ends, is)
+turns_as Ends Ends' h (suc n) before now made (first, mid, last, turns, more, ends, is) =
+    (first, mid, last, turns_as Ends Ends' h n before mid first turns, more, h mid now last ends, is)
 
 module _ (lack : Type 0) where
-  pub turns_append : (n m : ℕ) (before mid now : Store) (one two : Log) → AreTurns (MayEnd lack) n before mid one → AreTurns (MayEnd lack) m mid now two → AreTurns (MayEnd lack) (n + m) before now (one ++ two)
+  pub turns_append : (n m : ℕ) (before mid now : Store) (one two : Log) → AreTurns (MayEnd lack) n before mid one
+      → AreTurns (MayEnd lack) m mid now two → AreTurns (MayEnd lack) (n + m) before now (one ++ two)
   turns_append n zero before mid now one two p q =
       let none : one ≡ one ++ two = sym (append-nil one) ∙ ap (λ (l : Log). one ++ l) (sym q.1) in
       let count : n ≡ n + 0 = omega arith in
-      subst (λ (l : Log). AreTurns (MayEnd lack) (n + 0) before now l) none (subst (λ k. AreTurns (MayEnd lack) k before now one) count (subst (λ (s : Store). AreTurns (MayEnd lack) n before s one) (sym q.0) p))
+      subst (λ (l : Log). AreTurns (MayEnd lack) (n + 0) before now l) none
+      (subst (λ k. AreTurns (MayEnd lack) k before now one) count
+      (subst (λ (s : Store). AreTurns (MayEnd lack) n before s one) (sym q.0) p))
   turns_append n (suc m) before mid now one two p (first, there, last, turns, more, ends, is) =
       let count : suc (n + m) ≡ n + suc m = omega arith in
-      subst (λ k. AreTurns (MayEnd lack) k before now (one ++ two)) count
-      (one ++ first, there, last, turns_append n m before mid there one first p turns, more, ends, ap (λ (l : Log). one ++ l) is ∙ sym (append_assoc one first last.entries))
+      subst (λ k. AreTurns (MayEnd lack) k before now (one ++ two)) count (
+        one ++ first,
+        there,
+        last,
+        turns_append n m before mid there one first p turns,
+        more,
+        ends,
+        ap (λ (l : Log). one ++ l) is ∙ sym (append_assoc one first last.entries),
+      )
 
   -- where memory was enough and the keeper counted no fault each turn was done
-  pub turns_done : (lack → ⊥) → (n : ℕ) (before now : Store) (after : ℕ) (made : Log) → now.faults ≤ after → (Rose before.faults after → ⊥) → AreTurns (MayEnd lack) n before now made → AreTurns (λ mid later turn. IsDone turn.end) n before now made
+  pub turns_done : (lack → ⊥) → (n : ℕ) (before now : Store) (after : ℕ) (made : Log) → now.faults ≤ after
+      → (Rose before.faults after → ⊥) → AreTurns (MayEnd lack) n before now made
+      → AreTurns (λ mid later turn. IsDone turn.end) n before now made
   turns_done ample zero before now after made high calm p = p
   turns_done ample (suc n) before now after made high calm (first, mid, last, turns, more, ends, is) =
-      let low = turns_counted (MayEnd lack) n before mid first turns in
-      (first, mid, last, turns_done ample n before mid after first (le_trans more high) calm turns, more, all_done lack ample mid now before.faults after low high calm last ends, is)
+      let low = turns_counted (MayEnd lack) n before mid first turns in (
+        first,
+        mid,
+        last,
+        turns_done ample n before mid after first (le_trans more high) calm turns,
+        more,
+        all_done lack ample mid now before.faults after low high calm last ends,
+        is,
+      )
 
 -- ---- a turn that the first pass made
 
-module _ (end : StewardEnd) (supply : Supply) (before after : Store) (old new : PassState) (turn : MadeTurn end supply before after old new) where
+module _ (end : StewardEnd) (supply : Supply) (before after : Store) (old new : PassState)
+    (turn : MadeTurn end supply before after old new) where
   pub turn_home : new.home ≡ old.home
   turn_home = ap (λ (p : Fixed). p.hall) turn.shared
 
@@ -219,4 +270,11 @@ module _ (end : StewardEnd) (supply : Supply) (before after : Store) (old new : 
   turn_made = turn.turn.grew.more
 
   abbrev pub turn_is : StewardTurn
-  turn_is = record { end = end; entries = turn.turn.entries; moment = turn.moment; carried = turn.turn.carried; turn = turn.turn.turn }
+  turn_is =
+      record {
+        end = end;
+        entries = turn.turn.entries;
+        moment = turn.moment;
+        carried = turn.turn.carried;
+        turn = turn.turn.turn;
+      }

@@ -23,7 +23,8 @@ use Rattle.edge_traits.specs.Calls.{Store}
 use Rattle.serve_core.specs.Serving.{AgreesIn, HasServedAll, RanShort}
 use Rattle.serve_core.specs.Stopping.{IsClean}
 
--- what follows of every server that has served: of how serving ended and how the last turn did, of the keeper before and
+-- what follows of every server that has served: of how serving ended and how the last turn did, of the keeper before
+-- and
 -- after, and of the pass
 abbrev pub OfEveryServer : (ServeEnd → StewardEnd → Store → Store → PassState → Type 0) → Type 0
 OfEveryServer Follows =
@@ -65,7 +66,8 @@ HoldsAll told parts = (table : Records) × (told ≡ Some table)
     → (key : List ℕ) → held table key ≡ wanted_by lobby key)
 
 -- where serving ended well, over a keeper that tells its table, this holds everything that it is to hold for the last
--- state: so no game on the shelf is missing. No order stands any more, unless the last turn had as many answers of 16 as
+-- state: so no game on the shelf is missing. No order stands any more, unless the last turn had as many answers of 16
+-- as
 -- a turn has at most
 abbrev pub StoresAll : Type 0
 StoresAll = OfEveryServer (λ end last old new pass. IsClean end

@@ -19,7 +19,8 @@ pub record ComesBack (shows : ℕ → Bool) (door : DoorTale) (number : ℕ) (ca
   pub greeted : WasGreeted came link ⊎ (1 ≤ faults)
   pub answered : faults ≡ 0 → length came.left < most_reads → AnswersAll shows number calls came link
 
--- where the pass tells that memory was enough, the link of each session came back so: none was hung up unserved, none was exchanged for
+-- where the pass tells that memory was enough, the link of each session came back so: none was hung up unserved, none
+-- was exchanged for
 -- another, and no line was left without its answer
 abbrev pub EachComesBack : Type 0
 EachComesBack =

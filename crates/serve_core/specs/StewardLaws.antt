@@ -63,7 +63,8 @@ MakesTurns =
     → HasTended (short ≡ true) last door before now opening seen
     → HasTurns (MayEnd (short ≡ true)) door before now (calls_of 0 seen)
 
--- where memory was enough and the keeper counted no fault, each turn was done, and in each it was asked once which desks
+-- where memory was enough and the keeper counted no fault, each turn was done, and in each it was asked once which
+-- desks
 -- are in use
 abbrev pub MakesEachTurn : Type 0
 MakesEachTurn =

@@ -33,7 +33,8 @@ abbrev pub IsStopped : DoorEnd → ℕ → Option DoorTale → Type 0
 IsStopped why count door = IfSome door (StopsAt why) × StopsAfter why count
 
 -- how serving ends: by why no further link is taken, what became of the last write, how the last turn of the steward
--- ended, and whether memory ran out before that write. A fault of the door comes first, then one of the sink, then one of the
+-- ended, and whether memory ran out before that write. A fault of the door comes first, then one of the sink, then one
+-- of the
 -- keeper, then running out of memory
 abbrev pub end_of : DoorEnd → Sent → StewardEnd → Supply → ServeEnd
 end_of door_end.Failed written last supply = DoorFault

@@ -32,7 +32,8 @@ pub record Says (text : List ℕ) (said : Sent) (before after : Sheet) : Type 0 
   pub calm : UnlessWriteFailed said (after.faults ≡ before.faults)
 
 -- `ready` wasn't written out: the sink failed or memory ran out. Nothing else was written, no link was taken, and
--- serving ended by what became of that write, by the last turn of the steward and by whether memory ran out in it, as at
+-- serving ended by what became of that write, by the last turn of the steward and by whether memory ran out in it, as
+-- at
 -- a door that is closed; and it is told whether memory ran out
 pub record StopsUnready (end : ServeEnd) (short : Bool) (last : StewardEnd) (count : ℕ) (before after : Sheet) : Type 0
   where

@@ -18,8 +18,10 @@ short_end clearing.Done end e = subst (λ (x : StewardEnd). supply_in clearing.D
 short_clearing : (cleared : ClearingEnd) (end : StewardEnd) → cleared ≡ clearing.Memory → supply_in cleared end ≡ Short
 short_clearing cleared end e = subst (λ (x : ClearingEnd). supply_in x end ≡ Short) (sym e) refl
 
-pub made_halves : (moment : ℕ) (cleared : ClearingEnd) (end : StewardEnd) (before after : Store) (old new : PassState) → fixed_of new ≡ fixed_of old → (t : TakesTurn moment end before after (runs_of old) (runs_of new))
-    → t.turn.cleared ≡ cleared → StaysAgreed before.table after.table (runs_of old) (runs_of new) → MadeTurn end (supply_in cleared end) before after old new
+pub made_halves : (moment : ℕ) (cleared : ClearingEnd) (end : StewardEnd) (before after : Store) (old new : PassState)
+    → fixed_of new ≡ fixed_of old → (t : TakesTurn moment end before after (runs_of old) (runs_of new))
+    → t.turn.cleared ≡ cleared → StaysAgreed before.table after.table (runs_of old) (runs_of new)
+    → MadeTurn end (supply_in cleared end) before after old new
 made_halves moment cleared end before after old new shared t is agrees = record {
   moment = moment;
   shared = shared;

@@ -11,7 +11,8 @@ use Rattle.steward_core.specs.declared.turn.StewardEnd.TheVariants.{Done, Keeper
 use Rattle.serve_turn.specs.declared.supply.Supply.{Supply}
 use Rattle.serve_turn.specs.declared.supply.Supply.TheVariants.{Enough, Short}
 
--- the first pass made a turn of the steward, at some moment, over a keeper that stood so before it and after; and it is known whether memory ran out in it
+-- the first pass made a turn of the steward, at some moment, over a keeper that stood so before it and after; and it is
+-- known whether memory ran out in it
 pub record MadeTurn (end : StewardEnd) (supply : Supply) (before after : Store) (old new : PassState) : Type 0 where
   pub moment : ℕ
   pub shared : fixed_of new ≡ fixed_of old
@@ -20,7 +21,8 @@ pub record MadeTurn (end : StewardEnd) (supply : Supply) (before after : Store) 
   pub short : end ≡ Memory → supply ≡ Short
   pub short_first : turn.turn.cleared ≡ clearing.Memory → supply ≡ Short
 
--- whether memory ran out in a turn whose first half ended like this, and the whole of it like that. A keeper fault is no
+-- whether memory ran out in a turn whose first half ended like this, and the whole of it like that. A keeper fault is
+-- no
 -- want of memory
 abbrev pub supply_in : ClearingEnd → StewardEnd → Supply
 supply_in clearing.Memory end = Short

@@ -40,10 +40,12 @@ pub record Told (games : List Visit) (made : Log) : Type 0 where
   pub games_told : map (λ telling. telling.game) news ≡ games
 
 module _ (session moment : ℕ) (after : MemoryState) where
-  told_on : (visit : Visit) (rest : List Visit) (memory : MemoryState) (e : Entry Timed Reply) → e.act.act ≡ at_game visit desk_act.Fetch
+  told_on : (visit : Visit) (rest : List Visit) (memory : MemoryState) (e : Entry Timed Reply)
+      → e.act.act ≡ at_game visit desk_act.Fetch
       → ((made : Log) (text : List ℕ) → Follows (visits rest memory) session moment made text after → Told rest made)
       → (over : Bool) → says_over e.reply ≡ over → (made : Log) (text : List ℕ)
-      → Follows (given_up visit over (visits rest memory)) session moment made text after → Told (visit ∷ rest) (e ∷ made)
+      → Follows (given_up visit over (visits rest memory)) session moment made text after
+      → Told (visit ∷ rest) (e ∷ made)
   told_on visit rest memory e is later true over [] text f = absurd f
   told_on visit rest memory e is later true over (c ∷ made) text f =
       let others = later made text f.1 in
@@ -53,7 +55,9 @@ module _ (session moment : ℕ) (after : MemoryState) where
         whole = ap (λ (l : Log). e ∷ c ∷ l) others.whole;
         each = All-cons IsTelling telling others.news (record {
           fetches = is;
-          clears = ap (λ (x : Entry Timed Reply). x.act.act ∷ []) f.0 ∙ ap (λ (b : Bool). if b then clear_at visit ∷ [] else []) (sym over);
+          clears =
+              ap (λ (x : Entry Timed Reply). x.act.act ∷ []) f.0
+              ∙ ap (λ (b : Bool). if b then clear_at visit ∷ [] else []) (sym over);
         }) others.each;
         games_told = ap (λ (l : List Visit). visit ∷ l) others.games_told;
       }
@@ -70,7 +74,8 @@ module _ (session moment : ℕ) (after : MemoryState) where
         games_told = ap (λ (l : List Visit). visit ∷ l) others.games_told;
       }
 
-  told_visits : (games : List Visit) (memory : MemoryState) (made : Log) (text : List ℕ) → Follows (visits games memory) session moment made text after → Told games made
+  told_visits : (games : List Visit) (memory : MemoryState) (made : Log) (text : List ℕ)
+      → Follows (visits games memory) session moment made text after → Told games made
   told_visits [] memory made text f = record { news = []; whole = f.0; each = All-nil IsTelling; games_told = refl }
   told_visits (visit ∷ rest) memory [] text f = absurd f
   told_visits (visit ∷ rest) memory (e ∷ made) text f =
@@ -87,7 +92,8 @@ module _ (session moment : ℕ) (after : MemoryState) where
     seen : Seen before memory (front ++ more)
     follows : Follows (round memory) session moment tail text after
 
-  ended : (before : MemoryState) (course : Course) (places : PlaceList) (front made : Log) (text : List ℕ) → ToRound before places front course
+  ended : (before : MemoryState) (course : Course) (places : PlaceList) (front made : Log) (text : List ℕ)
+      → ToRound before places front course
       → Follows course session moment made text after → Ended before front made
   unfolding ToRound
   ended before (Done memory) places front made text h f = absurd h
@@ -115,7 +121,8 @@ module _ (session moment : ℕ) (after : MemoryState) where
         follows = later.follows;
       }
 
-  round_told : (before memory : MemoryState) (front tail made : Log) (text : List ℕ) → made ≡ front ++ tail → Seen before memory front
+  round_told : (before memory : MemoryState) (front tail made : Log) (text : List ℕ) → made ≡ front ++ tail
+      → Seen before memory front
       → Follows (round memory) session moment tail text after → EndsWithRound before made
   round_told before memory front [] made text is seen f = absurd f
   round_told before memory front (asked ∷ tail) made text is seen f =
@@ -133,36 +140,45 @@ module _ (session moment : ℕ) (after : MemoryState) where
         only = seen.only;
       }
 
-  pub ends : (before : MemoryState) (course : Course) (made : Log) (text : List ℕ) → ToRound before before.places [] course
+  pub ends : (before : MemoryState) (course : Course) (made : Log) (text : List ℕ)
+      → ToRound before before.places [] course
       → Follows course session moment made text after → EndsWithRound before made
   ends before course made text h f =
       let e = ended before course before.places [] made text h f in
       round_told before e.memory e.more e.tail made e.text e.whole e.seen e.follows
 
 -- the inputs that end so
-text_to_round : (text : List ℕ) (stamp : Option ℕ) (at : Standing) (before memory : MemoryState) → memory.places ≡ before.places → Same before memory
-    → is_in at ≡ true → text_quits text at memory.aliases ≡ false → ToRound before before.places [] (text_course text stamp at memory)
+text_to_round : (text : List ℕ) (stamp : Option ℕ) (at : Standing) (before memory : MemoryState)
+    → memory.places ≡ before.places → Same before memory
+    → is_in at ≡ true → text_quits text at memory.aliases ≡ false
+    → ToRound before before.places [] (text_course text stamp at memory)
 text_to_round text stamp standing.Login before memory known s here goes_on = let bad : false ≡ true = here in cc
-text_to_round text stamp (standing.Password name) before memory known s here goes_on = let bad : false ≡ true = here in cc
+text_to_round text stamp (standing.Password name) before memory known s here goes_on =
+    let bad : false ≡ true = here in cc
 text_to_round text stamp (standing.In name) before memory known s here goes_on =
     by_asked before (command_in memory.aliases text) stamp memory before.places [] known s goes_on
 text_to_round text stamp standing.Gone before memory known s here goes_on = let bad : false ≡ true = here in cc
 
-refusing_to_round : (cause : Refusal) (at : Standing) (before memory : MemoryState) → Same before memory → is_in at ≡ true
+refusing_to_round : (cause : Refusal) (at : Standing) (before memory : MemoryState) → Same before memory
+    → is_in at ≡ true
     → ToRound before before.places [] (refusing cause at memory)
 refusing_to_round cause standing.Login before memory s here = let bad : false ≡ true = here in cc
 refusing_to_round cause (standing.Password name) before memory s here = let bad : false ≡ true = here in cc
 refusing_to_round cause (standing.In name) before memory s here = written before _ memory before.places [] s
 refusing_to_round cause standing.Gone before memory s here = let bad : false ≡ true = here in cc
 
-line_to_round : (line : Incoming) (before memory : MemoryState) → memory.places ≡ before.places → Same before memory → is_in memory.standing ≡ true → is_ack line ≡ false
+line_to_round : (line : Incoming) (before memory : MemoryState) → memory.places ≡ before.places → Same before memory
+    → is_in memory.standing ≡ true → is_ack line ≡ false
     → line_quits line memory ≡ false → ToRound before before.places [] (line_course line memory)
-line_to_round (incoming.Plain text) before memory known s here loud goes_on = text_to_round text None memory.standing before memory known s here goes_on
+line_to_round (incoming.Plain text) before memory known s here loud goes_on =
+    text_to_round text None memory.standing before memory known s here goes_on
 line_to_round (incoming.Stamped text stamp) before memory known s here loud goes_on =
     text_to_round text (stamp_on memory.link stamp) memory.standing before memory known s here goes_on
 line_to_round (incoming.Ack stamp) before memory known s here loud goes_on = let bad : true ≡ false = loud in cc
-line_to_round incoming.TooLong before memory known s here loud goes_on = refusing_to_round refusal.TooLong memory.standing before memory s here
-line_to_round incoming.BadByte before memory known s here loud goes_on = refusing_to_round refusal.BadByte memory.standing before memory s here
+line_to_round incoming.TooLong before memory known s here loud goes_on =
+    refusing_to_round refusal.TooLong memory.standing before memory s here
+line_to_round incoming.BadByte before memory known s here loud goes_on =
+    refusing_to_round refusal.BadByte memory.standing before memory s here
 
 -- the first line of a link marks it, which changes nothing here
 pub quits_past : (line : Incoming) (memory : MemoryState) → line_quits line (past_line memory) ≡ line_quits line memory
@@ -172,26 +188,36 @@ quits_past (incoming.Ack stamp) memory = refl
 quits_past incoming.TooLong memory = refl
 quits_past incoming.BadByte memory = refl
 
-quiet_to_round : (at : Standing) (before : MemoryState) → is_in at ≡ true → ToRound before before.places [] (quiet_course at before)
+quiet_to_round : (at : Standing) (before : MemoryState) → is_in at ≡ true
+    → ToRound before before.places [] (quiet_course at before)
 quiet_to_round standing.Login before here = let bad : false ≡ true = here in cc
 quiet_to_round (standing.Password name) before here = let bad : false ≡ true = here in cc
-quiet_to_round (standing.In name) before here = at_round before before before.places [] (record { stands = refl; looks = refl })
+quiet_to_round (standing.In name) before here =
+    at_round before before before.places [] (record { stands = refl; looks = refl })
 quiet_to_round standing.Gone before here = let bad : false ≡ true = here in cc
 
-pub input_to_round : (input : Input) (before : MemoryState) → has_entered before ≡ true → is_silent input before ≡ false → asks_to_quit input before ≡ false
+pub input_to_round : (input : Input) (before : MemoryState) → has_entered before ≡ true → is_silent input before ≡ false
+    → asks_to_quit input before ≡ false
     → ToRound before before.places [] (input_course input before)
 input_to_round Quiet before here loud goes_on = quiet_to_round before.standing before here
 input_to_round (Line line) before here loud goes_on =
     let parts = or_parts (is_greeting before.link line) (is_ack line || is_gone before) loud in
     let no_ack = (or_parts (is_ack line) (is_gone before) parts.1).0 in
-    let quits : line_quits line before ≡ false = sym (ap (λ (b : Bool). if b then false else line_quits line before) parts.0) ∙ goes_on in
+    let quits : line_quits line before ≡ false =
+    sym (ap (λ (b : Bool). if b then false else line_quits line before) parts.0) ∙ goes_on in
     let past = past_line before in
     let course : input_course (Line line) before ≡ line_course line past =
     ap (λ (b : Bool). if b then Done (record before { link = Stamped }) else line_course line past) parts.0 in
     subst (ToRound before before.places []) (sym course)
-    (line_to_round line before past refl (record { stands = refl; looks = refl }) here no_ack (quits_past line before ∙ quits))
+    (line_to_round line before past refl (record {
+      stands = refl;
+      looks = refl;
+    }) here no_ack (quits_past line before ∙ quits))
 
-pub input_ends : (input : Input) (before after : MemoryState) (session moment : ℕ) (made : Log) (text : List ℕ) → Follows (input_course input before) session moment made text after
-    → has_entered before ≡ true → is_silent input before ≡ false → asks_to_quit input before ≡ false → EndsWithRound before made
+pub input_ends : (input : Input) (before after : MemoryState) (session moment : ℕ) (made : Log) (text : List ℕ)
+    → Follows (input_course input before) session moment made text after
+    → has_entered before ≡ true → is_silent input before ≡ false → asks_to_quit input before ≡ false
+    → EndsWithRound before made
 input_ends input before after session moment made text f here loud goes_on =
-    ends session moment after before (input_course input before) made text (input_to_round input before here loud goes_on) f
+    ends session moment after before (input_course input before) made text
+    (input_to_round input before here loud goes_on) f

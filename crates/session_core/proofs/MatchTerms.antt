@@ -50,11 +50,17 @@ use Rattle.session_core.specs.Ways.{way_of}
 use Rattle.std.proofs.lemmas.Bool.{and_parts}
 
 -- a time that was spelled is within its bounds, where the usual one is
-spelled_fits : (usual : UsualTime) (words : Words) (terms : Terms) → usual.minutes ≤ 600 → usual.increment ≤ 600 → SpellsTime usual words (time_of terms) → IsNumbered terms.variant → AreTerms terms
-spelled_fits usual words terms few short (inl s) numbered = record { minutes = s.0; increment = s.1; numbered = numbered }
+spelled_fits : (usual : UsualTime) (words : Words) (terms : Terms) → usual.minutes ≤ 600 → usual.increment ≤ 600
+    → SpellsTime usual words (time_of terms) → IsNumbered terms.variant → AreTerms terms
+spelled_fits usual words terms few short (inl s) numbered =
+    record { minutes = s.0; increment = s.1; numbered = numbered }
 spelled_fits usual words terms few short (inr s) numbered = record {
-  minutes = subst (λ (n : ℕ). n ≤ 600) (sym (ap (λ (f : Variant → Option Colour → Terms). (f Chess None).minutes) (ap agreed s.1))) few;
-  increment = subst (λ (n : ℕ). n ≤ 600) (sym (ap (λ (f : Variant → Option Colour → Terms). (f Chess None).increment) (ap agreed s.1))) short;
+  minutes =
+      subst (λ (n : ℕ). n ≤ 600)
+      (sym (ap (λ (f : Variant → Option Colour → Terms). (f Chess None).minutes) (ap agreed s.1))) few;
+  increment =
+      subst (λ (n : ℕ). n ≤ 600)
+      (sym (ap (λ (f : Variant → Option Colour → Terms). (f Chess None).increment) (ap agreed s.1))) short;
   numbered = numbered;
 }
 
@@ -88,7 +94,8 @@ abbrev FitsAnswer : Result Command Refusal → Type 0
 FitsAnswer (Ok command) = FitsCommand command
 FitsAnswer (Err cause) = Unit {0}
 
-challenge_fits : (name : Option (List ℕ)) (words : Words) (terms : Option Terms) → terms ≡ terms_of two_twelve words → FitsAnswer (challenge name terms)
+challenge_fits : (name : Option (List ℕ)) (words : Words) (terms : Option Terms) → terms ≡ terms_of two_twelve words
+    → FitsAnswer (challenge name terms)
 challenge_fits (Some name) words (Some terms) is =
     let s : Spells two_twelve words terms = (are_read_as_spelled two_twelve words terms).0 (sym is) in
     spelled_fits two_twelve s.time terms (search rules) (search rules) s.spells_time s.numbered
@@ -99,16 +106,19 @@ challenge_of_fits : (words : Words) → FitsAnswer (challenge_of words)
 challenge_of_fits [] = tt
 challenge_of_fits (name ∷ words) = challenge_fits (handle_of name) words (terms_of two_twelve words) refl
 
-either_fits : (is : Bool) (a b : Result Command Refusal) → FitsAnswer a → FitsAnswer b → FitsAnswer (if is then a else b)
+either_fits : (is : Bool) (a b : Result Command Refusal) → FitsAnswer a → FitsAnswer b
+    → FitsAnswer (if is then a else b)
 either_fits true a b p q = p
 either_fits false a b p q = q
 
 -- what is read fits, where it does whatever is read
-read_as_fits : {V : Type 0} (made : V → Command) (value : Option V) → ((v : V) → FitsCommand (made v)) → FitsAnswer (read_as made value)
+read_as_fits : {V : Type 0} (made : V → Command) (value : Option V) → ((v : V) → FitsCommand (made v))
+    → FitsAnswer (read_as made value)
 read_as_fits made None fits = tt
 read_as_fits made (Some value) fits = fits value
 
-seeking_fits : (words : Words) (terms : Option Terms) → terms ≡ terms_of five_nothing words → FitsAnswer (read_as command.Seek terms)
+seeking_fits : (words : Words) (terms : Option Terms) → terms ≡ terms_of five_nothing words
+    → FitsAnswer (read_as command.Seek terms)
 seeking_fits words (Some terms) is =
     let s : Spells five_nothing words terms = (are_read_as_spelled five_nothing words terms).0 (sym is) in
     spelled_fits five_nothing s.time terms (search rules) (search rules) s.spells_time s.numbered
@@ -152,7 +162,9 @@ observe_fits None handle = read_as_fits command.ObservePlayer handle (λ handle.
 observe_fits (Some number) handle = tt
 
 tell_fits : (word text : List ℕ) → FitsAnswer (tell_to word text)
-tell_fits word text = either_fits (is_no_channel word) (Err BadChannel) (telling_to (number_of 255 word) word text) tt (telling_to_fits (number_of 255 word) word text)
+tell_fits word text =
+    either_fits (is_no_channel word) (Err BadChannel) (telling_to (number_of 255 word) word text) tt
+    (telling_to_fits (number_of 255 word) word text)
 
 set_to_fits : (name : List ℕ) (on : Option Bool) → FitsAnswer (set_to name on)
 set_to_fits name None = tt
@@ -182,12 +194,14 @@ arguments_fit (takes.Channel which) rest =
     either_fits (is_no_channel (first_word rest)) (Err BadChannel) _ tt
     (read_as_fits (command.OnChannel which) (number_of 255 rest) (λ number. tt))
 arguments_fit takes.Alias rest =
-    either_fits (is_alias_name (first_word rest) && is_text (rest_of rest)) (Ok (command.Alias (first_word rest) (rest_of rest))) (Err BadArguments) tt tt
+    either_fits (is_alias_name (first_word rest) && is_text (rest_of rest))
+    (Ok (command.Alias (first_word rest) (rest_of rest))) (Err BadArguments) tt tt
 arguments_fit takes.Challenge rest = challenge_of_fits (words_of rest)
 arguments_fit takes.Look rest = observe_fits (number_of 65535 rest) (handle_of rest)
 arguments_fit takes.Seek rest = seeking_fits (words_of rest) (terms_of five_nothing (words_of rest)) refl
 arguments_fit takes.Setting rest = setting_fits (words_of rest)
-arguments_fit takes.Style rest = either_fits (bytes_eq rest (codes "1")) _ _ tt (either_fits (bytes_eq rest (codes "12")) _ _ tt tt)
+arguments_fit takes.Style rest =
+    either_fits (bytes_eq rest (codes "1")) _ _ tt (either_fits (bytes_eq rest (codes "12")) _ _ tt tt)
 arguments_fit takes.Takeback rest = takeback_fits rest
 arguments_fit takes.Telling rest = tell_fits (first_word rest) (rest_of rest)
 arguments_fit takes.Unalias rest = either_fits (is_alias_name rest) (Ok (command.Unalias rest)) (Err BadArguments) tt tt
@@ -206,7 +220,8 @@ command_fits [] = tt
 command_fits (b ∷ text) = move_fits (move_in (b ∷ text)) (b ∷ text)
 
 made_fits : (made : List ℕ) → FitsAnswer (command_made made)
-made_fits made = either_fits (nat_lt 1023 (length made)) (Err TooLong) (command_of (trimmed made)) tt (command_fits (trimmed made))
+made_fits made =
+    either_fits (nat_lt 1023 (length made)) (Err TooLong) (command_of (trimmed made)) tt (command_fits (trimmed made))
 
 after_fits : (alias : Option Alias) (text : List ℕ) → FitsAnswer (command_after alias text)
 after_fits None text = command_fits text
@@ -216,5 +231,6 @@ after_fits (Some alias) text = made_fits (expanded alias.text (rest_of text))
 read_fits : (aliases : List Alias) (line : List ℕ) → FitsAnswer (command_in aliases line)
 read_fits aliases line = after_fits (alias_of aliases (first_word (trimmed line))) (trimmed line)
 
-pub command_read : (aliases : List Alias) (line : List ℕ) (asked : Command) → command_in aliases line ≡ Ok asked → FitsWay (way_of asked)
+pub command_read : (aliases : List Alias) (line : List ℕ) (asked : Command) → command_in aliases line ≡ Ok asked
+    → FitsWay (way_of asked)
 command_read aliases line asked is = way_fits asked (subst FitsAnswer is (read_fits aliases line))

@@ -41,22 +41,31 @@ module _ (moment : ℕ) where
   passed_none course old known = record { entries = []; grew = made_none old known; passes = λ more p. p }
 
   -- an act was made
-  pub passed_made : (act : Act) (rest : Reply → Course) (reply : Reply) (old new : RunnerState) → Ran old (timed moment act) reply new → Passed (Asks act rest) (rest reply) moment old new
+  pub passed_made : (act : Act) (rest : Reply → Course) (reply : Reply) (old new : RunnerState)
+      → Ran old (timed moment act) reply new → Passed (Asks act rest) (rest reply) moment old new
   passed_made act rest reply old new ran =
-      record { entries = entry old.number (timed moment act) reply ∷ []; grew = ran.grew; passes = λ more p. inl (reply, more, refl, p) }
+      record {
+        entries = entry old.number (timed moment act) reply ∷ [];
+        grew = ran.grew;
+        passes = λ more p. inl (reply, more, refl, p);
+      }
 
   -- an act ran out of memory
-  pub passed_over : (act : Act) (rest : Reply → Course) (old new : RunnerState) → MayPass old.mark act → Made old [] new → Passed (Asks act rest) (rest nothing_told) moment old new
+  pub passed_over : (act : Act) (rest : Reply → Course) (old new : RunnerState) → MayPass old.mark act → Made old [] new
+      → Passed (Asks act rest) (rest nothing_told) moment old new
   passed_over act rest old new may m = record { entries = []; grew = m; passes = λ more p. inr (may, p) }
 
   -- which it does not under the mark where it needs none
-  pub passed_to : (act : Act) (rest : Reply → Course) (reply : Reply) (coming : Course) (old new : RunnerState) → (old.mark ≡ true → NeedsNoMemory act → ⊥) → Made old [] new → reply ≡ nothing_told → coming ≡ rest reply
+  pub passed_to : (act : Act) (rest : Reply → Course) (reply : Reply) (coming : Course) (old new : RunnerState)
+      → (old.mark ≡ true → NeedsNoMemory act → ⊥) → Made old [] new → reply ≡ nothing_told → coming ≡ rest reply
       → Passed (Asks act rest) coming moment old new
   passed_to act rest reply coming old new may m nothing is =
-      subst (λ (c : Course). Passed (Asks act rest) c moment old new) (sym (is ∙ ap rest nothing)) (passed_over act rest old new (may_pass old.mark act may) m)
+      subst (λ (c : Course). Passed (Asks act rest) c moment old new) (sym (is ∙ ap rest nothing))
+      (passed_over act rest old new (may_pass old.mark act may) m)
 
   -- and then the next
-  pub passed_then : (one two three : Course) (old mid new : RunnerState) → Passed one two moment old mid → Passed two three moment mid new → Passed one three moment old new
+  pub passed_then : (one two three : Course) (old mid new : RunnerState) → Passed one two moment old mid
+      → Passed two three moment mid new → Passed one three moment old new
   passed_then one two three old mid new p q = record {
     entries = p.entries ++ q.entries;
     grew = made_then old mid new p.entries q.entries p.grew q.grew;
@@ -71,10 +80,13 @@ module _ (moment : ℕ) where
   }
 
   -- and then the next, from the same course in other words
-  pub passed_after : (one coming two three : Course) (old mid new : RunnerState) → Passed one coming moment old mid → coming ≡ two → Passed two three moment mid new → Passed one three moment old new
-  passed_after one coming two three old mid new p is q = passed_then one two three old mid new (subst (λ (c : Course). Passed one c moment old mid) is p) q
+  pub passed_after : (one coming two three : Course) (old mid new : RunnerState) → Passed one coming moment old mid
+      → coming ≡ two → Passed two three moment mid new → Passed one three moment old new
+  passed_after one coming two three old mid new p is q =
+      passed_then one two three old mid new (subst (λ (c : Course). Passed one c moment old mid) is p) q
 
-  left_in_part : (course : Course) (memory : MemoryState) (old new : RunnerState) → Passed course (Done memory) moment old new → LeftInPart course moment old new
+  left_in_part : (course : Course) (memory : MemoryState) (old new : RunnerState)
+      → Passed course (Done memory) moment old new → LeftInPart course moment old new
   left_in_part course memory old new p = record {
     entries = p.entries;
     grew = p.grew;
@@ -82,5 +94,7 @@ module _ (moment : ℕ) where
   }
 
   -- the end of the course
-  pub passed_end : (course coming : Course) (memory : MemoryState) (old new : RunnerState) → Passed course coming moment old new → coming ≡ Done memory → LeftInPart course moment old new
-  passed_end course coming memory old new p is = left_in_part course memory old new (subst (λ (c : Course). Passed course c moment old new) is p)
+  pub passed_end : (course coming : Course) (memory : MemoryState) (old new : RunnerState)
+      → Passed course coming moment old new → coming ≡ Done memory → LeftInPart course moment old new
+  passed_end course coming memory old new p is =
+      left_in_part course memory old new (subst (λ (c : Course). Passed course c moment old new) is p)

@@ -39,7 +39,8 @@ use Rattle.simul_control.specs.declared.place.Place.{Place}
 -- ---- where it has entered
 
 -- an entry of both, or of one of them
-inside_then : (before there : Bool) (one two : Log) → there ≡ (before || any_entered one) → (there || any_entered two) ≡ (before || any_entered (one ++ two))
+inside_then : (before there : Bool) (one two : Log) → there ≡ (before || any_entered one)
+    → (there || any_entered two) ≡ (before || any_entered (one ++ two))
 inside_then before there one two is =
     ap (λ (b : Bool). b || any_entered two) is
     ∙ or_assoc before (any_entered one) (any_entered two)
@@ -51,9 +52,11 @@ inside_then before there one two is =
 abbrev places_at : PlaceList → Act → Reply → PlaceList
 places_at places act r = if asks_places act then places_by places r else places
 
-places_then : (places : PlaceList) (one two : Log) → places_told places (one ++ two) ≡ places_told (places_told places one) two
+places_then : (places : PlaceList) (one two : Log)
+    → places_told places (one ++ two) ≡ places_told (places_told places one) two
 places_then places [] two = refl
-places_then places (e ∷ one) two = places_then (if asks_places e.act.act then places_by places e.reply else places) one two
+places_then places (e ∷ one) two =
+    places_then (if asks_places e.act.act then places_by places e.reply else places) one two
 
 watched_places : (place : Place) (r : Reply) (memory : MemoryState) → (watched place r memory).places ≡ memory.places
 watched_places place (reply.Desk (desk_reply.Items items over)) memory = refl
@@ -63,7 +66,8 @@ forgets_places : (seat : Option ℕ) (desk : ℕ) (memory : MemoryState) → (fo
 forgets_places None desk memory = refl
 forgets_places (Some seat) desk memory = refl
 
-forgets_entered : (seat : Option ℕ) (desk : ℕ) (memory : MemoryState) → has_entered (forgets seat desk memory) ≡ has_entered memory
+forgets_entered : (seat : Option ℕ) (desk : ℕ) (memory : MemoryState)
+    → has_entered (forgets seat desk memory) ≡ has_entered memory
 forgets_entered None desk memory = refl
 forgets_entered (Some seat) desk memory = refl
 
@@ -73,8 +77,10 @@ behind_places visit false memory = refl
 
 module _ (memory : MemoryState) (r : Reply) where
   -- an act that asked for the places, and one that did not
-  asked : (act one : Act) → act ≡ one → asks_places one ≡ true → places_at memory.places act r ≡ places_by memory.places r
-  asked act one is asks = ap (λ (b : Bool). if b then places_by memory.places r else memory.places) (ap asks_places is ∙ asks)
+  asked : (act one : Act) → act ≡ one → asks_places one ≡ true
+      → places_at memory.places act r ≡ places_by memory.places r
+  asked act one is asks =
+      ap (λ (b : Bool). if b then places_by memory.places r else memory.places) (ap asks_places is ∙ asks)
 
   not_asked : (act : Act) → asks_places act ≡ false → places_at memory.places act r ≡ memory.places
   not_asked act asks = ap (λ (b : Bool). if b then places_by memory.places r else memory.places) asks
@@ -102,14 +108,16 @@ looks_same rows now made is = subst (LooksOn rows made) (sym is) (record {
 away_left : (one two : Log) (place : Place) → LooksAway one place → LooksAway (one ++ two) place
 away_left one two place h = (
   h.0,
-  subst (λ (l : List Act). Contains l (one_act.Desk place.desk h.0 desk_act.Unwatch)) (sym (map-append (λ (e : Entry Timed Reply). e.act.act) one two))
+  subst (λ (l : List Act). Contains l (one_act.Desk place.desk h.0 desk_act.Unwatch))
+      (sym (map-append (λ (e : Entry Timed Reply). e.act.act) one two))
       (Contains-append_left (acts_of one) (acts_of two) _ h.1),
 )
 
 away_right : (one two : Log) (place : Place) → LooksAway two place → LooksAway (one ++ two) place
 away_right one two place h = (
   h.0,
-  subst (λ (l : List Act). Contains l (one_act.Desk place.desk h.0 desk_act.Unwatch)) (sym (map-append (λ (e : Entry Timed Reply). e.act.act) one two))
+  subst (λ (l : List Act). Contains l (one_act.Desk place.desk h.0 desk_act.Unwatch))
+      (sym (map-append (λ (e : Entry Timed Reply). e.act.act) one two))
       (Contains-append_right (acts_of one) (acts_of two) _ h.1),
 )
 
@@ -131,15 +139,20 @@ module _ (rows mid now : List Place) (one two : Log) (p : LooksOn rows one mid) 
   still_later place (inr ended) = inr (ends_right one two place ended)
 
   still_then : (place : Place) → Contains mid place ⊎ Ends one place → Contains now place ⊎ Ends (one ++ two) place
-  still_then place (inl there) = still_later place (All-contains (λ row. Contains now row ⊎ LooksAway two row ⊎ IsOver two row) mid place q.still there)
+  still_then place (inl there) =
+      still_later place
+      (All-contains (λ row. Contains now row ⊎ LooksAway two row ⊎ IsOver two row) mid place q.still there)
   still_then place (inr ended) = inr (ends_left one two place ended)
 
-  only_before : (place : Place) → Contains rows place ⊎ WasShown one place → Contains rows place ⊎ WasShown (one ++ two) place
+  only_before : (place : Place) → Contains rows place ⊎ WasShown one place
+      → Contains rows place ⊎ WasShown (one ++ two) place
   only_before place (inl before) = inl before
   only_before place (inr shown) = inr (shown.0, Contains-append_left one two shown.0 shown.1, shown.2, shown.3)
 
-  only_then : (place : Place) → Contains mid place ⊎ WasShown two place → Contains rows place ⊎ WasShown (one ++ two) place
-  only_then place (inl there) = only_before place (All-contains (λ row. Contains rows row ⊎ WasShown one row) mid place p.only there)
+  only_then : (place : Place) → Contains mid place ⊎ WasShown two place
+      → Contains rows place ⊎ WasShown (one ++ two) place
+  only_then place (inl there) =
+      only_before place (All-contains (λ row. Contains rows row ⊎ WasShown one row) mid place p.only there)
   only_then place (inr shown) = inr (shown.0, Contains-append_right one two shown.0 shown.1, shown.2, shown.3)
 
   looks_then : LooksOn rows (one ++ two) now
@@ -150,13 +163,15 @@ module _ (rows mid now : List Place) (one two : Log) (p : LooksOn rows one mid) 
 
 -- looking on at one game more, where there is room
 one_more : (t : Bool) (place : Place) (l : PlaceList) (made : Log) → WasShown made place
-    → LooksOn l.rows made (unless (cond t (Some refusal.SimulFull) None) l (record l { rows = l.rows ++ place ∷ [] })).rows
+    → LooksOn l.rows made
+    (unless (cond t (Some refusal.SimulFull) None) l (record l { rows = l.rows ++ place ∷ [] })).rows
 one_more true place l made shown = looks_same l.rows l.rows made refl
 one_more false place l made shown = record {
   still = λ k d inside. inl (Contains-append_left l.rows (place ∷ []) _ (All-contains_itself l.rows k d inside));
   only = All-append (λ row. Contains l.rows row ⊎ WasShown made row) l.rows (place ∷ [])
       (λ k d inside. inl (All-contains_itself l.rows k d inside))
-      (All-cons (λ row. Contains l.rows row ⊎ WasShown made row) place [] (inr shown) (All-nil (λ row. Contains l.rows row ⊎ WasShown made row)));
+      (All-cons (λ row. Contains l.rows row ⊎ WasShown made row) place [] (inr shown)
+      (All-nil (λ row. Contains l.rows row ⊎ WasShown made row)));
 }
 
 -- looking on at no game of a desk
@@ -164,15 +179,18 @@ gone_or_there : (t : Bool) (desk : ℕ) (row : Place) (rows : List Place) (made 
     → (desk ≡ row.desk → LooksAway made row ⊎ IsOver made row) → Contains rows row
     → Contains (filter (is_elsewhere desk) rows) row ⊎ LooksAway made row ⊎ IsOver made row
 gone_or_there true desk row rows made is ends there = inr (ends (sym (eqb-true row.desk desk is)))
-gone_or_there false desk row rows made is ends there = inl (Contains-filter (is_elsewhere desk) rows row (ap not is) there)
+gone_or_there false desk row rows made is ends there =
+    inl (Contains-filter (is_elsewhere desk) rows row (ap not is) there)
 
-looks_without : (desk : ℕ) (rows : List Place) (made : Log) → ((row : Place) → desk ≡ row.desk → LooksAway made row ⊎ IsOver made row)
+looks_without : (desk : ℕ) (rows : List Place) (made : Log)
+    → ((row : Place) → desk ≡ row.desk → LooksAway made row ⊎ IsOver made row)
     → LooksOn rows made (filter (is_elsewhere desk) rows)
 looks_without desk rows made ends = record {
   still = λ k d inside.
       let row = get_or rows k d in
       gone_or_there (row.desk == desk) desk row rows made refl (ends row) (All-contains_itself rows k d inside);
-  only = All-filter_passing (λ row. Contains rows row) (λ row. Contains rows row ⊎ WasShown made row) (is_elsewhere desk)
+  only =
+      All-filter_passing (λ row. Contains rows row) (λ row. Contains rows row ⊎ WasShown made row) (is_elsewhere desk)
       (λ row _ there. inl there) rows (All-contains_itself rows);
 }
 
@@ -183,15 +201,20 @@ module _ (session moment : ℕ) (act : Act) (r : Reply) (memory : MemoryState) w
   looks_watched : (answer : Reply) (place : Place) → r ≡ answer → act ≡ at_place place desk_act.Watch
       → LooksOn memory.observed.rows made (watched place answer memory).observed.rows
   looks_watched (reply.Desk (desk_reply.Items items over)) place replied is =
-      one_more (holds_most memory.observed) place memory.observed made
-      (entry session (timed moment act) r, Contains-push [] (entry session (timed moment act) r), is, ap shows_game replied)
+      one_more (holds_most memory.observed) place memory.observed made (
+        entry session (timed moment act) r,
+        Contains-push [] (entry session (timed moment act) r),
+        is,
+        ap shows_game replied,
+      )
   looks_watched _ place replied is = looks_same memory.observed.rows memory.observed.rows made refl
 
   looks_away : (place : Place) → act ≡ at_place place desk_act.Unwatch
       → LooksOn memory.observed.rows made (without_observed place.desk memory).observed.rows
   looks_away place is = looks_without place.desk memory.observed.rows made (λ row same. inl (
     place.serial,
-    subst (λ (a : Act). Contains (act ∷ []) a) (is ∙ ap (λ (desk : ℕ). one_act.Desk desk place.serial desk_act.Unwatch) same) (Contains-push [] act),
+    subst (λ (a : Act). Contains (act ∷ []) a)
+        (is ∙ ap (λ (desk : ℕ). one_act.Desk desk place.serial desk_act.Unwatch) same) (Contains-push [] act),
   ))
 
   looks_over : (seat : Option ℕ) (desk serial : ℕ) → act ≡ one_act.Desk desk serial desk_act.Fetch → says_over r ≡ true
@@ -210,13 +233,16 @@ module _ (session moment : ℕ) (act : Act) (r : Reply) (memory : MemoryState) w
   was_told true over = over
   was_told false over = let bad : false ≡ true = over in cc
 
-  looks_visited : (visit : Visit) (over : Bool) → (over ≡ true → says_over r ≡ true) → act ≡ at_game visit desk_act.Fetch
+  looks_visited : (visit : Visit) (over : Bool) → (over ≡ true → says_over r ≡ true)
+      → act ≡ at_game visit desk_act.Fetch
       → LooksOn memory.observed.rows made (behind visit over memory).observed.rows
   looks_visited visit true over is = looks_over visit.seat visit.desk visit.serial is (over refl)
   looks_visited visit false over is = looks_same memory.observed.rows memory.observed.rows made refl
 
   looks_told : LooksOn memory.observed.rows made (told memory r).observed.rows
-  looks_told = looks_same memory.observed.rows (told memory r).observed.rows made (ap (λ (l : PlaceList). l.rows) (told_keeps memory r).looks)
+  looks_told =
+      looks_same memory.observed.rows (told memory r).observed.rows made
+      (ap (λ (l : PlaceList). l.rows) (told_keeps memory r).looks)
 
   looks_kept : (at : Stage) → Suits act at → LooksOn memory.observed.rows made (kept at memory r).observed.rows
   looks_kept (stage.Placing deed) is = looks_told
@@ -231,11 +257,13 @@ module _ (session moment : ℕ) (act : Act) (r : Reply) (memory : MemoryState) w
 
   -- what it remembers behind the reply to the act at which it stands
   pub remembers_kept : (at : Stage) (after : MemoryState) → Suits act at → after ≡ kept at memory r
-      → has_entered after ≡ (has_entered memory || is_entered r) → Remembers memory (entry session (timed moment act) r ∷ []) after
+      → has_entered after ≡ (has_entered memory || is_entered r)
+      → Remembers memory (entry session (timed moment act) r ∷ []) after
   remembers_kept at after suits is inside = record {
     inside = inside ∙ ap (λ (b : Bool). has_entered memory || b) (sym (or-false (is_entered r)));
     places = ap (λ (m : MemoryState). m.places) is ∙ places_kept memory r at act suits;
-    looks = subst (λ (m : MemoryState). LooksOn memory.observed.rows made m.observed.rows) (sym is) (looks_kept at suits);
+    looks =
+        subst (λ (m : MemoryState). LooksOn memory.observed.rows made m.observed.rows) (sym is) (looks_kept at suits);
   }
 
   -- and behind a visit
@@ -243,18 +271,27 @@ module _ (session moment : ℕ) (act : Act) (r : Reply) (memory : MemoryState) w
   entered_still true visit = forgets_entered visit.seat visit.desk memory
   entered_still false visit = refl
 
-  pub remembers_visited : {T : Type 0} (visit : Visit) (result : Result T NoMemory) (after : MemoryState) → act ≡ at_game visit desk_act.Fetch
-      → after ≡ kept_behind visit result memory r → has_entered memory ≡ true → Remembers memory (entry session (timed moment act) r ∷ []) after
+  pub remembers_visited : {T : Type 0} (visit : Visit) (result : Result T NoMemory) (after : MemoryState)
+      → act ≡ at_game visit desk_act.Fetch
+      → after ≡ kept_behind visit result memory r → has_entered memory ≡ true
+      → Remembers memory (entry session (timed moment act) r ∷ []) after
   remembers_visited visit result after fetches is inside =
       let over = is_done result && says_over r in
       record {
-        inside = ap has_entered is ∙ entered_still over visit ∙ inside ∙ sym (ap (λ (b : Bool). b || any_entered (entry session (timed moment act) r ∷ [])) inside);
-        places = ap (λ (m : MemoryState). m.places) is ∙ behind_places visit over memory ∙ sym (not_asked memory r act (ap asks_places fetches));
-        looks = subst (λ (m : MemoryState). LooksOn memory.observed.rows made m.observed.rows) (sym is) (looks_visited visit over (was_told (is_done result)) fetches);
+        inside =
+            ap has_entered is ∙ entered_still over visit ∙ inside
+            ∙ sym (ap (λ (b : Bool). b || any_entered (entry session (timed moment act) r ∷ [])) inside);
+        places =
+            ap (λ (m : MemoryState). m.places) is ∙ behind_places visit over memory
+            ∙ sym (not_asked memory r act (ap asks_places fetches));
+        looks =
+            subst (λ (m : MemoryState). LooksOn memory.observed.rows made m.observed.rows) (sym is)
+            (looks_visited visit over (was_told (is_done result)) fetches);
       }
 
   -- and behind an act that tells nothing of where it is
-  pub remembers_silent : asks_places act ≡ false → has_entered memory ≡ true → Remembers memory (entry session (timed moment act) r ∷ []) memory
+  pub remembers_silent : asks_places act ≡ false → has_entered memory ≡ true
+      → Remembers memory (entry session (timed moment act) r ∷ []) memory
   remembers_silent silent inside = record {
     inside = inside ∙ sym (ap (λ (b : Bool). b || any_entered (entry session (timed moment act) r ∷ [])) inside);
     places = sym (not_asked memory r act silent);
@@ -263,14 +300,16 @@ module _ (session moment : ℕ) (act : Act) (r : Reply) (memory : MemoryState) w
 
 -- ---- behind no entry, and behind some more
 
-pub remembers_none : (before after : MemoryState) → has_entered after ≡ has_entered before → after.places ≡ before.places → after.observed ≡ before.observed → Remembers before [] after
+pub remembers_none : (before after : MemoryState) → has_entered after ≡ has_entered before
+    → after.places ≡ before.places → after.observed ≡ before.observed → Remembers before [] after
 remembers_none before after inside places looks = record {
   inside = inside ∙ sym (or-false (has_entered before));
   places = places;
   looks = looks_same before.observed.rows after.observed.rows [] (ap (λ (l : PlaceList). l.rows) looks);
 }
 
-pub remembers_then : (before there after : MemoryState) (one two : Log) → Remembers before one there → Remembers there two after → Remembers before (one ++ two) after
+pub remembers_then : (before there after : MemoryState) (one two : Log) → Remembers before one there
+    → Remembers there two after → Remembers before (one ++ two) after
 remembers_then before there after one two p q = record {
   inside = q.inside ∙ inside_then (has_entered before) (has_entered there) one two p.inside;
   places = q.places ∙ ap (λ (l : PlaceList). places_told l two) p.places ∙ sym (places_then before.places one two);

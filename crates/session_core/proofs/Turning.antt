@@ -63,22 +63,26 @@ module _ (session moment : ℕ) (after : MemoryState) where
   none_moves (Done memory) (x ∷ front) later e text h f = let bad = f.0 in absurd cc
   none_moves (Writes put rest) front later e text h f = none_moves rest front later e f.0 h f.2
   none_moves (Asks act rest) [] later e text h f = ap (λ (x : Entry Timed Reply). is_move x.act.act) f.0 ∙ h.0
-  none_moves (Asks act rest) (x ∷ front) later e text h f = none_moves (rest x.reply) front later e text (h.1 x.reply) f.1
+  none_moves (Asks act rest) (x ∷ front) later e text h f =
+      none_moves (rest x.reply) front later e text (h.1 x.reply) f.1
 
-  first_made : (course : Course) (act : Act) (made : Log) (text : List ℕ) → next_act course [] ≡ Some act → Follows course session moment made text after
+  first_made : (course : Course) (act : Act) (made : Log) (text : List ℕ) → next_act course [] ≡ Some act
+      → Follows course session moment made text after
       → first_act made ≡ Some act
   first_made (Done memory) act made text is f = cc
   first_made (Writes put rest) act made text is f = first_made rest act made f.0 is f.2
   first_made (Asks asked rest) act [] text is f = absurd f
   first_made (Asks asked rest) act (e ∷ made) text is f = ap (λ (x : Entry Timed Reply). Some x.act.act) f.0 ∙ is
 
-  none_made : (course : Course) (made : Log) (text : List ℕ) → NoActs course → Follows course session moment made text after → made ≡ []
+  none_made : (course : Course) (made : Log) (text : List ℕ) → NoActs course
+      → Follows course session moment made text after → made ≡ []
   unfolding NoActs
   none_made (Done memory) made text h f = f.0
   none_made (Writes put rest) made text h f = none_made rest made f.0 h f.2
   none_made (Asks act rest) made text h f = absurd h
 
-  of_login : (course : Course) (made : Log) (text : List ℕ) → OneAct course → Follows course session moment made text after → IsOfLogin made
+  of_login : (course : Course) (made : Log) (text : List ℕ) → OneAct course
+      → Follows course session moment made text after → IsOfLogin made
   unfolding OneAct
   of_login (Done memory) made text h f =
       subst IsOfLogin (sym f.0) (record { few = omega arith; enters = All-nil (λ e. asks_to_enter e.act.act ≡ true) })
@@ -89,7 +93,8 @@ module _ (session moment : ℕ) (after : MemoryState) where
       subst (λ (l : Log). IsOfLogin (e ∷ l)) (sym (none_made (rest e.reply) made text (h.1 e.reply) f.1))
       (record {
         few = omega arith;
-        enters = All-cons (λ x. asks_to_enter x.act.act ≡ true) e [] enters (All-nil (λ x. asks_to_enter x.act.act ≡ true));
+        enters =
+            All-cons (λ x. asks_to_enter x.act.act ≡ true) e [] enters (All-nil (λ x. asks_to_enter x.act.act ≡ true));
       })
 
 -- no act of the round, nor of leaving
@@ -101,7 +106,12 @@ still_given_up visit false rest h = h
 still_visits : (games : List Visit) (memory : MemoryState) → NoMoves (visits games memory)
 unfolding NoMoves
 still_visits [] memory = tt
-still_visits (visit ∷ rest) memory = (refl, λ r. still_given_up visit (says_over r) (visits rest (behind visit (says_over r) memory)) (still_visits rest (behind visit (says_over r) memory)))
+still_visits (visit ∷ rest) memory = (
+  refl,
+  λ r.
+      still_given_up visit (says_over r) (visits rest (behind visit (says_over r) memory))
+      (still_visits rest (behind visit (says_over r) memory)),
+)
 
 still_round : (memory : MemoryState) → NoMoves (round memory)
 unfolding NoMoves
@@ -150,21 +160,24 @@ one_naming : (text : List ℕ) (memory : MemoryState) → OneAct (naming text me
 unfolding OneAct
 one_naming [] memory = tt
 one_naming (b ∷ text) memory =
-    one_either (is_guest (b ∷ text)) (entering None None memory) (entering_named (handle_of (b ∷ text)) memory) (one_entering None None memory) (one_named (handle_of (b ∷ text)) memory)
+    one_either (is_guest (b ∷ text)) (entering None None memory) (entering_named (handle_of (b ∷ text)) memory)
+    (one_entering None None memory) (one_named (handle_of (b ∷ text)) memory)
 
 one_proving : (name text : List ℕ) (memory : MemoryState) → OneAct (proving name text memory)
 unfolding OneAct
 one_proving name [] memory = tt
 one_proving name (b ∷ text) memory = one_entering (Some name) (Some (sha256 (b ∷ text))) memory
 
-one_text : (text : List ℕ) (stamp : Option ℕ) (at : Standing) (memory : MemoryState) → is_in at ≡ false → OneAct (text_course text stamp at memory)
+one_text : (text : List ℕ) (stamp : Option ℕ) (at : Standing) (memory : MemoryState) → is_in at ≡ false
+    → OneAct (text_course text stamp at memory)
 unfolding OneAct
 one_text text stamp standing.Login memory out = one_naming text memory
 one_text text stamp (standing.Password name) memory out = one_proving name text memory
 one_text text stamp (standing.In name) memory out = let bad : true ≡ false = out in cc
 one_text text stamp standing.Gone memory out = tt
 
-one_refusing : (cause : Refusal) (at : Standing) (memory : MemoryState) → is_in at ≡ false → OneAct (refusing cause at memory)
+one_refusing : (cause : Refusal) (at : Standing) (memory : MemoryState) → is_in at ≡ false
+    → OneAct (refusing cause at memory)
 unfolding OneAct
 one_refusing cause standing.Login memory out = tt
 one_refusing cause (standing.Password name) memory out = tt
@@ -178,7 +191,8 @@ one_ack stamp _ memory out = tt
 
 one_line : (line : Incoming) (memory : MemoryState) → is_in memory.standing ≡ false → OneAct (line_course line memory)
 one_line (incoming.Plain text) memory out = one_text text None memory.standing memory out
-one_line (incoming.Stamped text stamp) memory out = one_text text (stamp_on memory.link stamp) memory.standing memory out
+one_line (incoming.Stamped text stamp) memory out =
+    one_text text (stamp_on memory.link stamp) memory.standing memory out
 one_line (incoming.Ack stamp) memory out = one_ack stamp memory.standing memory out
 one_line incoming.TooLong memory out = one_refusing refusal.TooLong memory.standing memory out
 one_line incoming.BadByte memory out = one_refusing refusal.BadByte memory.standing memory out
@@ -192,7 +206,8 @@ one_input : (input : Input) (memory : MemoryState) → has_entered memory ≡ fa
 unfolding OneAct
 one_input Quiet memory out = one_quiet memory.standing memory out
 one_input (Line line) memory out =
-    one_either (is_greeting memory.link line) (Done (record memory { link = Stamped })) (line_course line (past_line memory)) tt (one_line line (past_line memory) out)
+    one_either (is_greeting memory.link line) (Done (record memory { link = Stamped }))
+    (line_course line (past_line memory)) tt (one_line line (past_line memory) out)
 
 pub input_of_login : (input : Input) (before after : MemoryState) (session moment : ℕ) (made : Log) (text : List ℕ)
     → Follows (input_course input before) session moment made text after → has_entered before ≡ false → IsOfLogin made
@@ -208,23 +223,32 @@ module _ (before : MemoryState) where
   fits_either true one other p q = p
   fits_either false one other p q = q
 
-  fits_asked : (asked : Result Command Refusal) (stamp : Option ℕ) (memory : MemoryState) → memory.places ≡ before.places → Same before memory
+  fits_asked : (asked : Result Command Refusal) (stamp : Option ℕ) (memory : MemoryState)
+      → memory.places ≡ before.places → Same before memory
       → Fits (asked_course asked stamp memory)
   fits_asked (Ok (command.Bare Quit)) stamp memory known s = inr (still_leaving memory)
-  fits_asked (Ok asked) stamp memory known s = inl (by_asked before (Ok asked) stamp memory before.places [] known s refl)
-  fits_asked (Err cause) stamp memory known s = inl (by_asked before (Err cause) stamp memory before.places [] known s refl)
+  fits_asked (Ok asked) stamp memory known s =
+      inl (by_asked before (Ok asked) stamp memory before.places [] known s refl)
+  fits_asked (Err cause) stamp memory known s =
+      inl (by_asked before (Err cause) stamp memory before.places [] known s refl)
 
-  fits_text : (text : List ℕ) (stamp : Option ℕ) (at : Standing) (memory : MemoryState) → memory.places ≡ before.places → Same before memory
+  fits_text : (text : List ℕ) (stamp : Option ℕ) (at : Standing) (memory : MemoryState) → memory.places ≡ before.places
+      → Same before memory
       → Fits (text_course text stamp at memory)
-  fits_text text stamp (standing.In name) memory known s = fits_asked (command_in memory.aliases text) stamp memory known s
-  fits_text text stamp standing.Login memory known s = inr (still_one _ (one_text text stamp standing.Login memory refl))
-  fits_text text stamp (standing.Password name) memory known s = inr (still_one _ (one_text text stamp (standing.Password name) memory refl))
+  fits_text text stamp (standing.In name) memory known s =
+      fits_asked (command_in memory.aliases text) stamp memory known s
+  fits_text text stamp standing.Login memory known s =
+      inr (still_one _ (one_text text stamp standing.Login memory refl))
+  fits_text text stamp (standing.Password name) memory known s =
+      inr (still_one _ (one_text text stamp (standing.Password name) memory refl))
   fits_text text stamp standing.Gone memory known s = inr (still_one _ (one_text text stamp standing.Gone memory refl))
 
-  fits_refusing : (cause : Refusal) (at : Standing) (memory : MemoryState) → Same before memory → Fits (refusing cause at memory)
+  fits_refusing : (cause : Refusal) (at : Standing) (memory : MemoryState) → Same before memory
+      → Fits (refusing cause at memory)
   fits_refusing cause (standing.In name) memory s = inl (written before _ memory before.places [] s)
   fits_refusing cause standing.Login memory s = inr (still_one _ (one_refusing cause standing.Login memory refl))
-  fits_refusing cause (standing.Password name) memory s = inr (still_one _ (one_refusing cause (standing.Password name) memory refl))
+  fits_refusing cause (standing.Password name) memory s =
+      inr (still_one _ (one_refusing cause (standing.Password name) memory refl))
   fits_refusing cause standing.Gone memory s = inr (still_one _ (one_refusing cause standing.Gone memory refl))
 
   still_acked : (stamp : ℕ) (place : Option Place) (memory : MemoryState) → NoMoves (acked_at stamp place memory)
@@ -234,12 +258,15 @@ module _ (before : MemoryState) where
 
   still_ack : (stamp : ℕ) (at : Standing) (memory : MemoryState) → NoMoves (ack_course stamp at memory)
   unfolding NoMoves
-  still_ack stamp (standing.In name) memory = (refl, λ r. still_acked stamp (present_in (told memory r)) (told memory r))
+  still_ack stamp (standing.In name) memory =
+      (refl, λ r. still_acked stamp (present_in (told memory r)) (told memory r))
   still_ack stamp _ memory = tt
 
-  fits_line : (line : Incoming) (memory : MemoryState) → memory.places ≡ before.places → Same before memory → Fits (line_course line memory)
+  fits_line : (line : Incoming) (memory : MemoryState) → memory.places ≡ before.places → Same before memory
+      → Fits (line_course line memory)
   fits_line (incoming.Plain text) memory known s = fits_text text None memory.standing memory known s
-  fits_line (incoming.Stamped text stamp) memory known s = fits_text text (stamp_on memory.link stamp) memory.standing memory known s
+  fits_line (incoming.Stamped text stamp) memory known s =
+      fits_text text (stamp_on memory.link stamp) memory.standing memory known s
   fits_line (incoming.Ack stamp) memory known s = inr (still_ack stamp memory.standing memory)
   fits_line incoming.TooLong memory known s = fits_refusing refusal.TooLong memory.standing memory s
   fits_line incoming.BadByte memory known s = fits_refusing refusal.BadByte memory.standing memory s
@@ -257,11 +284,16 @@ module _ (before : MemoryState) where
   fits_input : (input : Input) → Fits (input_course input before)
   fits_input Quiet = fits_quiet before.standing
   fits_input (Line line) =
-      fits_either (is_greeting before.link line) (Done (record before { link = Stamped })) (line_course line (past_line before))
-      (inr (still_done (record before { link = Stamped }))) (fits_line line (past_line before) refl (record { stands = refl; looks = refl }))
+      fits_either (is_greeting before.link line) (Done (record before { link = Stamped }))
+      (line_course line (past_line before))
+      (inr (still_done (record before { link = Stamped }))) (fits_line line (past_line before) refl (record {
+        stands = refl;
+        looks = refl;
+      }))
 
   -- behind each half-move on the way to the round
-  turns_behind : (session moment : ℕ) (after : MemoryState) (course : Course) (places : PlaceList) (done front later : Log) (e : Entry Timed Reply) (text : List ℕ)
+  turns_behind : (session moment : ℕ) (after : MemoryState) (course : Course) (places : PlaceList)
+      (done front later : Log) (e : Entry Timed Reply) (text : List ℕ)
       → ToRound before places done course → Follows course session moment (front ++ e ∷ later) text after
       → is_move e.act.act ≡ true → is_accepted e.reply ≡ true → (places_after places front).giving ≡ true
       → first_act later ≡ Some (one_act.Lobby lobby_act.SimNext)
@@ -278,11 +310,13 @@ module _ (before : MemoryState) where
       let next = step e is in
       first_made session moment after (rest e.reply) (one_act.Lobby lobby_act.SimNext) later text
       (next.0 (sym (ap is_move is) ∙ move) accepted gives) f.1
-  turns_behind session moment after (Asks act rest) places done (x ∷ front) later e text (inr step) f move accepted gives =
+  turns_behind session moment after (Asks act rest) places done (x ∷ front) later e text (inr step) f move accepted
+      gives =
       turns_behind session moment after (rest x.reply) (places_by places x.reply) (done ++ x ∷ []) front later e text
       (step x (ap (λ (y : Entry Timed Reply). y.act.act) f.0)).1 f.1 move accepted gives
 
-  turns_fitting : (session moment : ℕ) (after : MemoryState) (course : Course) (front later : Log) (e : Entry Timed Reply) (text : List ℕ)
+  turns_fitting : (session moment : ℕ) (after : MemoryState) (course : Course) (front later : Log)
+      (e : Entry Timed Reply) (text : List ℕ)
       → Fits course → Follows course session moment (front ++ e ∷ later) text after
       → is_move e.act.act ≡ true → is_accepted e.reply ≡ true → (places_after before.places front).giving ≡ true
       → first_act later ≡ Some (one_act.Lobby lobby_act.SimNext)

@@ -36,7 +36,8 @@ onto_given_up out visit true games memory = refl
 onto_given_up out visit false games memory = onto_visits out games memory
 
 -- the lobby has told what waits there
-pub settles_rounding : (put out out' : List ℕ) (memory : MemoryState) → out' ≡ out ++ put → Settles (Writes put (rounding memory)) (rounding memory) out out'
+pub settles_rounding : (put out out' : List ℕ) (memory : MemoryState) → out' ≡ out ++ put
+    → Settles (Writes put (rounding memory)) (rounding memory) out out'
 settles_rounding put out out' memory is = record {
   text = is ∙ sym (onto_visits (out ++ put) (visits_in memory) memory);
   goes = sym (settled_visits (visits_in memory) memory);
@@ -49,45 +50,67 @@ module _ (visit : Visit) (before : MemoryState) (rest : List Visit) where
       Writes (news_text (reader_in before visit.seat) reply)
       (given_up visit (says_over reply) (visits rest (behind visit (says_over reply) before)))
 
-  settles_news : (reply : Reply) (over : Bool) (after : MemoryState) (out out' : List ℕ) → over ≡ says_over reply → after ≡ behind visit (says_over reply) before
-      → out' ≡ out ++ news_text (reader_in before visit.seat) reply → Settles (news_of reply) (given_up visit over (visits rest after)) out out'
+  settles_news : (reply : Reply) (over : Bool) (after : MemoryState) (out out' : List ℕ) → over ≡ says_over reply
+      → after ≡ behind visit (says_over reply) before
+      → out' ≡ out ++ news_text (reader_in before visit.seat) reply
+      → Settles (news_of reply) (given_up visit over (visits rest after)) out out'
   settles_news reply over after out out' over_is after_is is = record {
-    text = is ∙ sym (onto_given_up (out ++ news_text (reader_in before visit.seat) reply) visit (says_over reply) rest (behind visit (says_over reply) before));
+    text =
+        is
+        ∙ sym
+        (onto_given_up (out ++ news_text (reader_in before visit.seat) reply) visit (says_over reply) rest
+        (behind visit (says_over reply) before));
     goes =
         ap (λ (b : Bool). given_up visit b (visits rest after)) over_is
         ∙ ap (λ (m : MemoryState). given_up visit (says_over reply) (visits rest m)) after_is
         ∙ sym (settled_given_up visit (says_over reply) rest (behind visit (says_over reply) before));
   }
 
-  pub on_news : (moment : ℕ) (result : Result Bool NoMemory) (reply : Reply) (old : RunnerState) (out : List ℕ) (new : RunnerState) (after : MemoryState) (out' : List ℕ)
+  pub on_news : (moment : ℕ) (result : Result Bool NoMemory) (reply : Reply) (old : RunnerState) (out : List ℕ)
+      (new : RunnerState) (after : MemoryState) (out' : List ℕ)
       → Ran old (timed moment (at_game visit desk_act.Fetch)) reply new → IfOk result (λ over. over ≡ says_over reply)
-      → IfOk result (λ over. out' ≡ out ++ news_text (reader_in before visit.seat) reply) → after ≡ kept_behind visit result before reply → has_entered before ≡ true
-      → IfOk result (λ over. WentOn (visits (visit ∷ rest) before) (given_up visit over (visits rest after)) moment old before out new after out')
+      → IfOk result (λ over. out' ≡ out ++ news_text (reader_in before visit.seat) reply)
+      → after ≡ kept_behind visit result before reply → has_entered before ≡ true
+      → IfOk result
+      (λ over.
+      WentOn (visits (visit ∷ rest) before) (given_up visit over (visits rest after)) moment old before out new after
+      out')
   on_news moment (Ok over) reply old out new after out' ran over_is text_is after_is inside =
-      on_asked moment (at_game visit desk_act.Fetch) news_of reply (Ok over) (λ b. given_up visit b (visits rest after)) old before out new after out' ran
+      on_asked moment (at_game visit desk_act.Fetch) news_of reply (Ok over) (λ b. given_up visit b (visits rest after))
+      old before out new after out' ran
       (settles_news reply over after out out' over_is after_is text_is)
-      (remembers_visited old.number moment (at_game visit desk_act.Fetch) reply before visit (Ok over) after refl after_is inside)
+      (remembers_visited old.number moment (at_game visit desk_act.Fetch) reply before visit (Ok over) after refl
+      after_is inside)
   on_news moment (Err e) reply old out new after out' ran over_is text_is after_is inside = tt
 
-  pub broke_news : (moment : ℕ) (result : Result Bool NoMemory) (reply : Reply) (old : RunnerState) (new : RunnerState) (after : MemoryState)
-      → Ran old (timed moment (at_game visit desk_act.Fetch)) reply new → after ≡ kept_behind visit result before reply → has_entered before ≡ true
+  pub broke_news : (moment : ℕ) (result : Result Bool NoMemory) (reply : Reply) (old : RunnerState) (new : RunnerState)
+      (after : MemoryState)
+      → Ran old (timed moment (at_game visit desk_act.Fetch)) reply new → after ≡ kept_behind visit result before reply
+      → has_entered before ≡ true
       → OnErr result (BrokeOff (visits (visit ∷ rest) before) moment old before new after)
   broke_news moment result reply old new after ran after_is inside =
       broke_asked moment (at_game visit desk_act.Fetch) news_of reply result old before new after ran
-      (remembers_visited old.number moment (at_game visit desk_act.Fetch) reply before visit result after refl after_is inside)
+      (remembers_visited old.number moment (at_game visit desk_act.Fetch) reply before visit result after refl after_is
+      inside)
 
 -- a game was given up, or it ran out of memory
-module _ (moment : ℕ) (one : Course) (visit : Visit) (over : Bool) (rest : Course) (old : RunnerState) (before : MemoryState) (out : List ℕ)
-    (mid : RunnerState) (there : MemoryState) (out' : List ℕ) (new : RunnerState) (w : WentOn one (given_up visit over rest) moment old before out mid there out')
+module _ (moment : ℕ) (one : Course) (visit : Visit) (over : Bool) (rest : Course) (old : RunnerState)
+    (before : MemoryState) (out : List ℕ)
+    (mid : RunnerState) (there : MemoryState) (out' : List ℕ) (new : RunnerState)
+    (w : WentOn one (given_up visit over rest) moment old before out mid there out')
     (is : over ≡ true) where
-  pub on_given_up : (result : Result (Unit {0}) NoMemory) → OnOk result (WentOn (given_up visit true rest) rest moment mid there out' new there out')
+  pub on_given_up : (result : Result (Unit {0}) NoMemory)
+      → OnOk result (WentOn (given_up visit true rest) rest moment mid there out' new there out')
       → OnOk result (WentOn one rest moment old before out new there out')
   on_given_up (Ok u) more =
-      on_after moment one (given_up visit over rest) (given_up visit true rest) rest old before out mid there out' new there out' w (ap (λ (b : Bool). given_up visit b rest) is) more
+      on_after moment one (given_up visit over rest) (given_up visit true rest) rest old before out mid there out' new
+      there out' w (ap (λ (b : Bool). given_up visit b rest) is) more
   on_given_up (Err e) more = tt
 
-  pub broke_given_up : (result : Result (Unit {0}) NoMemory) → OnErr result (BrokeOff (given_up visit true rest) moment mid there new there)
+  pub broke_given_up : (result : Result (Unit {0}) NoMemory)
+      → OnErr result (BrokeOff (given_up visit true rest) moment mid there new there)
       → OnErr result (BrokeOff one moment old before new there)
   broke_given_up (Ok u) more = tt
   broke_given_up (Err e) more =
-      broke_after moment one (given_up visit over rest) (given_up visit true rest) old before out mid there out' new there w (ap (λ (b : Bool). given_up visit b rest) is) more
+      broke_after moment one (given_up visit over rest) (given_up visit true rest) old before out mid there out' new
+      there w (ap (λ (b : Bool). given_up visit b rest) is) more

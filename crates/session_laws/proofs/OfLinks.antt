@@ -19,7 +19,8 @@ use Rattle.session_laws.proofs.OfInputs.{never_input}
 use Rattle.session_laws.specs.WhoSaves.{LinksNeverSave, NoneSaves}
 
 never_departing : (memory : MemoryState) → NeverSaves (departing memory)
-never_departing memory = never_either (has_entered memory) (leaving_course memory) (Done memory) (never_leaving memory) tt
+never_departing memory =
+    never_either (has_entered memory) (leaving_course memory) (Done memory) (never_leaving memory) tt
 
 module _ (shows : ℕ → Bool) (mark : Bool) (session : ℕ) where
   -- the entries for inputs that were answered

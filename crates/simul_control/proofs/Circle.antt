@@ -32,22 +32,26 @@ on count zero h = next_last count (count - 1) (omega arith)
 on count (suc at) h =
     let less : suc at - 1 ≡ at = omega arith in
     let same : at + 1 ≡ suc at = omega arith in
-    ap (turned_from Next count) (previous_inside count (suc at) (omega arith) ∙ less) ∙ next_inside count at (omega arith) ∙ same
+    ap (turned_from Next count) (previous_inside count (suc at) (omega arith) ∙ less)
+    ∙ next_inside count at (omega arith) ∙ same
 
 -- turns on that stay before the end
 climb : (turns count at : ℕ) → at + turns < count → turned_often turns Next count at ≡ at + turns
 climb zero count at h = let same : at ≡ at + 0 = omega arith in same
 climb (suc turns) count at h =
     let same : at + 1 + turns ≡ at + suc turns = omega arith in
-    ap (turned_often turns Next count) (next_inside count at (omega arith)) ∙ climb turns count (at + 1) (omega arith) ∙ same
+    ap (turned_often turns Next count) (next_inside count at (omega arith)) ∙ climb turns count (at + 1) (omega arith)
+    ∙ same
 
 -- turns on that pass the end
-over : (turns count at : ℕ) → at < count → turns ≤ count → count ≤ at + turns → turned_often turns Next count at ≡ at + turns - count
+over : (turns count at : ℕ) → at < count → turns ≤ count → count ≤ at + turns
+    → turned_often turns Next count at ≡ at + turns - count
 over zero count at h most past = absurd (omega arith)
 over (suc turns) count at h most past = elim (cases_lt (at + 1) count) [
   | inl more ↦
       let same : at + 1 + turns - count ≡ at + suc turns - count = omega arith in
-      ap (turned_often turns Next count) (next_inside count at more) ∙ over turns count (at + 1) more (omega arith) (omega arith) ∙ same
+      ap (turned_often turns Next count) (next_inside count at more)
+      ∙ over turns count (at + 1) more (omega arith) (omega arith) ∙ same
   | inr last ↦
       let same : 0 + turns ≡ at + suc turns - count = omega arith in
       ap (turned_often turns Next count) (next_last count at last) ∙ climb turns count 0 (omega arith) ∙ same
@@ -58,10 +62,12 @@ descend : (turns count at : ℕ) → turns ≤ at → turned_often turns Previou
 descend zero count at h = let same : at ≡ at - 0 = omega arith in same
 descend (suc turns) count at h =
     let same : at - 1 - turns ≡ at - suc turns = omega arith in
-    ap (turned_often turns Previous count) (previous_inside count at (omega arith)) ∙ descend turns count (at - 1) (omega arith) ∙ same
+    ap (turned_often turns Previous count) (previous_inside count at (omega arith))
+    ∙ descend turns count (at - 1) (omega arith) ∙ same
 
 -- turns back that pass the first
-under : (turns count at : ℕ) → at < count → turns ≤ count → at < turns → turned_often turns Previous count at ≡ at + count - turns
+under : (turns count at : ℕ) → at < count → turns ≤ count → at < turns
+    → turned_often turns Previous count at ≡ at + count - turns
 under zero count at h most past = absurd (omega arith)
 under (suc turns) count zero h most past =
     let same : count - 1 - turns ≡ 0 + count - suc turns = omega arith in
@@ -69,7 +75,8 @@ under (suc turns) count zero h most past =
 under (suc turns) count (suc at) h most past =
     let less : suc at - 1 ≡ at = omega arith in
     let same : at + count - turns ≡ suc at + count - suc turns = omega arith in
-    ap (turned_often turns Previous count) (previous_inside count (suc at) (omega arith) ∙ less) ∙ under turns count at (omega arith) (omega arith) (omega arith) ∙ same
+    ap (turned_often turns Previous count) (previous_inside count (suc at) (omega arith) ∙ less)
+    ∙ under turns count at (omega arith) (omega arith) (omega arith) ∙ same
 
 -- as many turns as there are places
 pub round : (count at : ℕ) → at ≤ count - 1 → (way : Direction) → turned_often count way count at ≡ at

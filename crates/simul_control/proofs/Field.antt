@@ -22,7 +22,8 @@ take-column told rows =
     ap (λ n. take n (column_of told rows)) (sym (length-map rows told))
     ∙ take-append_seam (map told rows) (replicate (32 - length rows) 0)
 
-placed-columns : (rows : List Place) → placed (map (λ row. row.desk) rows) (map (λ row. row.seat) rows) (map (λ row. row.serial) rows) ≡ rows
+placed-columns : (rows : List Place)
+    → placed (map (λ row. row.desk) rows) (map (λ row. row.seat) rows) (map (λ row. row.serial) rows) ≡ rows
 placed-columns [] = refl
 placed-columns (row ∷ rows) = ap (λ rs. row ∷ rs) (placed-columns rows)
 
@@ -31,13 +32,19 @@ inside_of giving at rows = fields_of (record { giving = giving; at = at; rows = 
 
 rows_in-inside_of : (giving : Bool) (at : ℕ) (rows : List Place) → rows_in (inside_of giving at rows) ≡ rows
 rows_in-inside_of giving at rows =
-    ap (λ ds. placed ds (take (length rows) (column_of (λ row. row.seat) rows)) (take (length rows) (column_of (λ row. row.serial) rows))) (take-column (λ row. row.desk) rows)
-    ∙ ap (λ ss. placed (map (λ row. row.desk) rows) ss (take (length rows) (column_of (λ row. row.serial) rows))) (take-column (λ row. row.seat) rows)
-    ∙ ap (λ ss. placed (map (λ row. row.desk) rows) (map (λ row. row.seat) rows) ss) (take-column (λ row. row.serial) rows)
+    ap (λ ds.
+    placed ds (take (length rows) (column_of (λ row. row.seat) rows))
+    (take (length rows) (column_of (λ row. row.serial) rows)))
+    (take-column (λ row. row.desk) rows)
+    ∙ ap (λ ss. placed (map (λ row. row.desk) rows) ss (take (length rows) (column_of (λ row. row.serial) rows)))
+    (take-column (λ row. row.seat) rows)
+    ∙ ap (λ ss. placed (map (λ row. row.desk) rows) (map (λ row. row.seat) rows) ss)
+    (take-column (λ row. row.serial) rows)
     ∙ placed-columns rows
 
 -- a list of places, in its columns
-HoldsPlaces-inside_of : (giving : Bool) (at : ℕ) (rows : List Place) → length rows ≤ 32 → at ≤ length rows - 1 → AreAtDesks rows
+HoldsPlaces-inside_of : (giving : Bool) (at : ℕ) (rows : List Place) → length rows ≤ 32 → at ≤ length rows - 1
+    → AreAtDesks rows
     → HoldsPlaces (inside_of giving at rows)
 HoldsPlaces-inside_of giving at rows most present at_desks =
     let same = sym (rows_in-inside_of giving at rows) in
@@ -72,10 +79,12 @@ set-column told rows place h =
     ∙ ap (λ k. map told (rows ++ place ∷ []) ++ replicate (32 - k) 0) (sym (length-append rows (place ∷ [])))
 
 -- the same for a column as it stands in the field
-set-held : (told : Place → ℕ) (rows : List Place) (place : Place) (count : ℕ) (column : List ℕ) → count ≡ length rows → length rows < 32
+set-held : (told : Place → ℕ) (rows : List Place) (place : Place) (count : ℕ) (column : List ℕ) → count ≡ length rows
+    → length rows < 32
     → column ≡ column_of told rows → set column count (told place) ≡ column_of told (rows ++ place ∷ [])
 set-held told rows place count column counted more is =
-    ap (λ c. set c count (told place)) is ∙ ap (λ n. set (column_of told rows) n (told place)) counted ∙ set-column told rows place more
+    ap (λ c. set c count (told place)) is ∙ ap (λ n. set (column_of told rows) n (told place)) counted
+    ∙ set-column told rows place more
 
 -- the field with one place more
 abbrev added : Inside → Place → Inside
@@ -88,7 +97,8 @@ added p place = record {
   serials = set p.serials p.count place.serial;
 }
 
-added-is : (p : Inside) (place : Place) → HoldsPlaces p → p.count < 32 → inside_of p.giving p.at (rows_in p ++ place ∷ []) ≡ added p place
+added-is : (p : Inside) (place : Place) → HoldsPlaces p → p.count < 32
+    → inside_of p.giving p.at (rows_in p ++ place ∷ []) ≡ added p place
 added-is p place h more =
     let rows = rows_in p in
     let long : length (rows ++ place ∷ []) ≡ p.count + 1 = omega (arith, length-append rows (place ∷ []), h.counted) in
@@ -96,21 +106,35 @@ added-is p place h more =
     let desks = set-held (λ row. row.desk) rows place p.count p.desks h.counted wide h.desks in
     let seats = set-held (λ row. row.seat) rows place p.count p.seats h.counted wide h.seats in
     let serials = set-held (λ row. row.serial) rows place p.count p.serials h.counted wide h.serials in
-    λ i. record { giving = p.giving; at = p.at; count = long i; desks = sym desks i; seats = sym seats i; serials = sym serials i }
+    λ i.
+    record {
+      giving = p.giving;
+      at = p.at;
+      count = long i;
+      desks = sym desks i;
+      seats = sym seats i;
+      serials = sym serials i;
+    }
 
-pub rows_in-add : (p : Inside) (place : Place) → HoldsPlaces p → p.count < 32 → rows_in (added p place) ≡ rows_in p ++ place ∷ []
-rows_in-add p place h more = ap rows_in (sym (added-is p place h more)) ∙ rows_in-inside_of p.giving p.at (rows_in p ++ place ∷ [])
+pub rows_in-add : (p : Inside) (place : Place) → HoldsPlaces p → p.count < 32
+    → rows_in (added p place) ≡ rows_in p ++ place ∷ []
+rows_in-add p place h more =
+    ap rows_in (sym (added-is p place h more)) ∙ rows_in-inside_of p.giving p.at (rows_in p ++ place ∷ [])
 
-pub HoldsPlaces-add : (p : Inside) (place : Place) → HoldsPlaces p → p.count < 32 → IsDesk place.desk → HoldsPlaces (added p place)
+pub HoldsPlaces-add : (p : Inside) (place : Place) → HoldsPlaces p → p.count < 32 → IsDesk place.desk
+    → HoldsPlaces (added p place)
 HoldsPlaces-add p place h more is_desk =
     let rows = rows_in p in
     let most : length (rows ++ place ∷ []) ≤ 32 = omega (arith, length-append rows (place ∷ []), h.counted) in
-    let present : p.at ≤ length (rows ++ place ∷ []) - 1 = omega (arith, length-append rows (place ∷ []), h.counted, h.present) in
+    let present : p.at ≤ length (rows ++ place ∷ []) - 1 =
+    omega (arith, length-append rows (place ∷ []), h.counted, h.present) in
     let at_desks = All-push (λ (row : Place). IsDesk row.desk) rows place h.at_desks is_desk in
-    subst HoldsPlaces (added-is p place h more) (HoldsPlaces-inside_of p.giving p.at (rows ++ place ∷ []) most present at_desks)
+    subst HoldsPlaces (added-is p place h more)
+    (HoldsPlaces-inside_of p.giving p.at (rows ++ place ∷ []) most present at_desks)
 
 -- the same, of the places that the field tells
-module _ (p : Inside) (place : Place) (now : PlaceList) (told : places_in p ≡ now) (h : HoldsPlaces p) (more : p.count < 32) where
+module _ (p : Inside) (place : Place) (now : PlaceList) (told : places_in p ≡ now) (h : HoldsPlaces p)
+    (more : p.count < 32) where
   pub room-add : is_full now ≡ false
   room-add =
       let rows : length now.rows ≡ length (rows_in p) = ap (λ l. length l.rows) (sym told) in
@@ -124,10 +148,14 @@ module _ (p : Inside) (place : Place) (now : PlaceList) (told : places_in p ≡ 
       one ∙ ap (λ l. record { giving = l.giving; at = l.at; rows = l.rows ++ place ∷ [] }) told
 
   pub after-add : places_in (added p place) ≡ with_place place now
-  after-add = places_in-add ∙ sym (ap (λ b. unless (cond b (Some SimulFull) None) now (record now { rows = now.rows ++ place ∷ [] })) room-add)
+  after-add =
+      places_in-add
+      ∙ sym
+      (ap (λ b. unless (cond b (Some SimulFull) None) now (record now { rows = now.rows ++ place ∷ [] })) room-add)
 
 -- the number of a place in its columns
-get-column : (told : Place → ℕ) (rows : List Place) (column : List ℕ) (i d : ℕ) (other : Place) → column ≡ column_of told rows → i < length rows
+get-column : (told : Place → ℕ) (rows : List Place) (column : List ℕ) (i d : ℕ) (other : Place)
+    → column ≡ column_of told rows → i < length rows
     → get_or column i d ≡ told (get_or rows i other)
 get-column told rows column i d other is inside =
     let wide : i < length (map told rows) = subst (λ n. i < n) (sym (length-map rows told)) inside in
@@ -136,7 +164,8 @@ get-column told rows column i d other is inside =
     ∙ get_or-map told rows i other d inside
 
 pub get-held : (p : Inside) (i d e f : ℕ) (other : Place) → HoldsPlaces p → i < length (rows_in p)
-    → record { desk = get_or p.desks i d; serial = get_or p.serials i e; seat = get_or p.seats i f } ≡ get_or (rows_in p) i other
+    → record { desk = get_or p.desks i d; serial = get_or p.serials i e; seat = get_or p.seats i f }
+    ≡ get_or (rows_in p) i other
 get-held p i d e f other h inside =
     let desk = get-column (λ row. row.desk) (rows_in p) p.desks i d other h.desks inside in
     let serial = get-column (λ row. row.serial) (rows_in p) p.serials i e other h.serials inside in
@@ -153,12 +182,22 @@ filter_one_more giving desk rows i d place kept new most inside read else is add
     let p = is_elsewhere desk in
     let front = filter p (take i rows) in
     let passes : p (get_or rows i d) ≡ true = ap p (sym read) ∙ ap not (ne_eqb place.desk desk else) in
-    let wide : length front < 32 = omega (arith, length-filter p (take i rows), count_by-le-length p (take i rows), length-take-le i rows (omega arith)) in
+    let wide : length front < 32 =
+    omega
+    (arith, length-filter p (take i rows), count_by-le-length p (take i rows), length-take-le i rows (omega arith)) in
     let room : leb 32 (length front) ≡ false = lt-leb 32 (length front) wide in
     let more : filter p (take (i + 1) rows) ≡ front ++ place ∷ [] =
-    filter_more p rows i d inside ∙ ap (λ b. front ++ cond b (get_or rows i d ∷ []) []) passes ∙ ap (λ x. front ++ x ∷ []) (sym read) in
+    filter_more p rows i d inside ∙ ap (λ b. front ++ cond b (get_or rows i d ∷ []) []) passes
+    ∙ ap (λ x. front ++ x ∷ []) (sym read) in
     added ∙ ap (with_place place) is
-    ∙ ap (λ b. unless (cond b (Some SimulFull) None) (record { giving = giving; at = 0; rows = front }) (record { giving = giving; at = 0; rows = front ++ place ∷ [] })) room
+    ∙ ap
+    (λ b.
+    unless (cond b (Some SimulFull) None) (record {
+      giving = giving;
+      at = 0;
+      rows = front;
+    }) (record { giving = giving; at = 0; rows = front ++ place ∷ [] }))
+    room
     ∙ ap (λ rs. record { giving = giving; at = 0; rows = rs }) (sym more)
 
 -- a row of the desk itself, among one more
@@ -179,19 +218,24 @@ take-front zero xs ys h = refl
 take-front (suc n) [] ys h = absurd (omega (arith, h))
 take-front (suc n) (x ∷ xs) ys h = ap (λ zs. x ∷ zs) (take-front n xs ys (omega (arith, h)))
 
-count_by-desks : (desk : ℕ) (rows : List Place) → count_by (is_other desk) (map (λ row. row.desk) rows) ≡ count_by (is_elsewhere desk) rows
+count_by-desks : (desk : ℕ) (rows : List Place)
+    → count_by (is_other desk) (map (λ row. row.desk) rows) ≡ count_by (is_elsewhere desk) rows
 count_by-desks desk rows = fold-map (λ a x. a + cond (is_other desk x) 1 0) (λ row. row.desk) 0 rows
 
 -- the places of other desks among the first ones, counted in the column of desks
-pub count-column : (desk first : ℕ) (rows : List Place) (column : List ℕ) → column ≡ column_of (λ row. row.desk) rows → first ≤ length rows
+pub count-column : (desk first : ℕ) (rows : List Place) (column : List ℕ) → column ≡ column_of (λ row. row.desk) rows
+    → first ≤ length rows
     → count_by (is_other desk) (take first column) ≡ count_by (is_elsewhere desk) (take first rows)
 count-column desk first rows column is inside =
     ap (λ c. count_by (is_other desk) (take first c)) is
-    ∙ ap (count_by (is_other desk)) (take-front first (map (λ row. row.desk) rows) (replicate (32 - length rows) 0) (subst (λ n. first ≤ n) (sym (length-map rows (λ row. row.desk))) inside))
+    ∙ ap (count_by (is_other desk))
+    (take-front first (map (λ row. row.desk) rows) (replicate (32 - length rows) 0)
+    (subst (λ n. first ≤ n) (sym (length-map rows (λ row. row.desk))) inside))
     ∙ ap (count_by (is_other desk)) (take-map (λ row. row.desk) first rows)
     ∙ count_by-desks desk (take first rows)
 
 pub desk-held : (p : Inside) (i d : ℕ) → HoldsPlaces p → i < length (rows_in p) → IsDesk (get_or p.desks i d)
 desk-held p i d h inside =
     let other : Place = record { desk = 0; serial = 0; seat = 0 } in
-    subst IsDesk (sym (get-column (λ row. row.desk) (rows_in p) p.desks i d other h.desks inside)) (h.at_desks i other inside)
+    subst IsDesk (sym (get-column (λ row. row.desk) (rows_in p) p.desks i d other h.desks inside))
+    (h.at_desks i other inside)

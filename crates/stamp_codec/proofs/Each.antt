@@ -2,7 +2,8 @@
 use Rattle.std.specs.Prelude.{Option, Some, None, IfSome, IfNone}
 
 -- what holds of a value, if there is one
-pub some_both : {A : Type 0} (P Q R : A → Type 0) → ((x : A) → P x → Q x → R x) → (o : Option A) → IfSome o P → IfSome o Q → IfSome o R
+pub some_both : {A : Type 0} (P Q R : A → Type 0) → ((x : A) → P x → Q x → R x) → (o : Option A) → IfSome o P
+    → IfSome o Q → IfSome o R
 some_both P Q R h None p q = tt
 some_both P Q R h (Some x) p q = h x p q
 

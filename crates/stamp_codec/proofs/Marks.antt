@@ -12,7 +12,8 @@ mark_within mark [] back h = h.0 refl
 mark_within mark (byte ∷ front) back h = mark_within mark front back h.1
 
 -- what stands before the first mark, and behind it, is fixed by the bytes
-pub one_cut : (mark : ℕ) (a b x y : List ℕ) → AllByRecursion (λ c. c ≢ mark) a → AllByRecursion (λ c. c ≢ mark) b → a ++ mark ∷ x ≡ b ++ mark ∷ y → (a ≡ b) × (x ≡ y)
+pub one_cut : (mark : ℕ) (a b x y : List ℕ) → AllByRecursion (λ c. c ≢ mark) a → AllByRecursion (λ c. c ≢ mark) b
+    → a ++ mark ∷ x ≡ b ++ mark ∷ y → (a ≡ b) × (x ≡ y)
 one_cut mark [] [] x y p q e = (refl, cc)
 one_cut mark [] (d ∷ b) x y p q e = absurd (q.0 cc)
 one_cut mark (c ∷ a) [] x y p q e = absurd (p.0 cc)
@@ -26,13 +27,15 @@ one_cut mark (c ∷ a) (d ∷ b) x y p q e =
 differ : (a b : ℕ) → a ≢ b → (a == b) ≡ false
 differ a b h = grind (arith, nat_tests)
 
-pub before-mark : (mark : ℕ) (front back : List ℕ) → AllByRecursion (λ c. c ≢ mark) front → before mark (front ++ mark ∷ back) ≡ front
+pub before-mark : (mark : ℕ) (front back : List ℕ) → AllByRecursion (λ c. c ≢ mark) front
+    → before mark (front ++ mark ∷ back) ≡ front
 before-mark mark [] back h = ap (λ (t : Bool). cond t [] (mark ∷ before mark back)) (eq-eqb mark mark refl)
 before-mark mark (byte ∷ front) back h =
     ap (λ (t : Bool). cond t [] (byte ∷ before mark (front ++ mark ∷ back))) (differ byte mark h.0)
     ∙ ap (λ (l : List ℕ). byte ∷ l) (before-mark mark front back h.1)
 
-pub behind-mark : (mark : ℕ) (front back : List ℕ) → AllByRecursion (λ c. c ≢ mark) front → behind mark (front ++ mark ∷ back) ≡ back
+pub behind-mark : (mark : ℕ) (front back : List ℕ) → AllByRecursion (λ c. c ≢ mark) front
+    → behind mark (front ++ mark ∷ back) ≡ back
 behind-mark mark [] back h = ap (λ (t : Bool). cond t back (behind mark back)) (eq-eqb mark mark refl)
 behind-mark mark (byte ∷ front) back h =
     ap (λ (t : Bool). cond t (front ++ mark ∷ back) (behind mark (front ++ mark ∷ back))) (differ byte mark h.0)

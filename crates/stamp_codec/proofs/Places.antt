@@ -26,7 +26,9 @@ at_each P (x ∷ xs) none all zero = all.0
 at_each P (x ∷ xs) none all (suc n) = at_each P xs none all.1 n
 
 key_small : (place : ℕ) → key_at place < 256
-key_small place = at_each (λ b. b < 256) key (omega arith) (each (λ b. nat_lt b 256) (λ b. b < 256) (λ b h. grind (arith, nat_tests)) key refl) (place % 50)
+key_small place =
+    at_each (λ b. b < 256) key (omega arith)
+    (each (λ b. nat_lt b 256) (λ b. b < 256) (λ b h. grind (arith, nat_tests)) key refl) (place % 50)
 
 -- a small byte is read back as it was
 decipher-cipher : (place byte : ℕ) → byte < 128 → decipher place (cipher place byte) ≡ byte
@@ -53,15 +55,19 @@ cipher-decipher place byte fits small =
 
 -- ---- all bytes
 
-pub decipher-cipher_each : (place : ℕ) (bytes : List ℕ) → AllByRecursion (λ b. b < 128) bytes → by_place decipher place (by_place cipher place bytes) ≡ bytes
+pub decipher-cipher_each : (place : ℕ) (bytes : List ℕ) → AllByRecursion (λ b. b < 128) bytes
+    → by_place decipher place (by_place cipher place bytes) ≡ bytes
 decipher-cipher_each place [] small = refl
 decipher-cipher_each place (byte ∷ bytes) small =
-    ap (λ (b : ℕ). b ∷ by_place decipher (place + 1) (by_place cipher (place + 1) bytes)) (decipher-cipher place byte small.0)
+    ap (λ (b : ℕ). b ∷ by_place decipher (place + 1) (by_place cipher (place + 1) bytes))
+    (decipher-cipher place byte small.0)
     ∙ ap (λ (l : List ℕ). byte ∷ l) (decipher-cipher_each (place + 1) bytes small.1)
 
-pub cipher-decipher_each : (place : ℕ) (bytes : List ℕ) → AllByRecursion (λ b. b < 256) bytes → AllByRecursion (λ b. b < 128) (by_place decipher place bytes)
+pub cipher-decipher_each : (place : ℕ) (bytes : List ℕ) → AllByRecursion (λ b. b < 256) bytes
+    → AllByRecursion (λ b. b < 128) (by_place decipher place bytes)
     → by_place cipher place (by_place decipher place bytes) ≡ bytes
 cipher-decipher_each place [] fits small = refl
 cipher-decipher_each place (byte ∷ bytes) fits small =
-    ap (λ (b : ℕ). b ∷ by_place cipher (place + 1) (by_place decipher (place + 1) bytes)) (cipher-decipher place byte fits.0 small.0)
+    ap (λ (b : ℕ). b ∷ by_place cipher (place + 1) (by_place decipher (place + 1) bytes))
+    (cipher-decipher place byte fits.0 small.0)
     ∙ ap (λ (l : List ℕ). byte ∷ l) (cipher-decipher_each (place + 1) bytes fits.1 small.1)

@@ -20,7 +20,8 @@ length-swapped short = refl
 
 -- what holds of each byte holds of each after the swaps
 pub AllByRecursion-swapped : (P : ℕ → Type 0) (xs : List ℕ) → AllByRecursion P xs → AllByRecursion P (swapped xs)
-AllByRecursion-swapped P (a ∷ b ∷ c ∷ d ∷ e ∷ f ∷ g ∷ h ∷ i ∷ j ∷ k ∷ l ∷ rest) (p, (q, (r, (s, (t, (u, (v, (w, (x, (y, (z, (o, more)))))))))))) =
+AllByRecursion-swapped P (a ∷ b ∷ c ∷ d ∷ e ∷ f ∷ g ∷ h ∷ i ∷ j ∷ k ∷ l ∷ rest)
+    (p, (q, (r, (s, (t, (u, (v, (w, (x, (y, (z, (o, more)))))))))))) =
     (o, (q, (y, (s, (w, (u, (v, (t, (x, (r, (z, (p, AllByRecursion-swapped P rest more))))))))))))
 AllByRecursion-swapped P short all = all
 
@@ -48,16 +49,22 @@ pub swapped_more : (a k n : ℕ) (bytes group whole : List ℕ) → k ≡ 12 →
 swapped_more a k n bytes group whole twelve next within is so_far =
     let part : length (take k (drop a bytes)) ≡ 12 = omega (arith, length-take k (drop a bytes), length-drop a bytes) in
     let len : length group ≡ 12 = ap length is ∙ length-swapped (take k (drop a bytes)) ∙ part in
-    let back : drop n bytes ≡ drop k (drop a bytes) = ap (λ (m : ℕ). drop m bytes) (let e : n ≡ a + k = omega arith in e) ∙ sym (drop-drop k a bytes) in
-    ap (λ (l : List ℕ). l ++ swapped (drop n (put_mid a k bytes group))) (take-put_mid a k bytes group n (omega arith) (omega arith))
-    ∙ ap (λ (l : List ℕ). (take a bytes ++ group) ++ swapped l) (drop-put_mid a k bytes group n (omega arith) (omega arith) (omega arith) ∙ back)
+    let back : drop n bytes ≡ drop k (drop a bytes) =
+    ap (λ (m : ℕ). drop m bytes) (let e : n ≡ a + k = omega arith in e) ∙ sym (drop-drop k a bytes) in
+    ap (λ (l : List ℕ). l ++ swapped (drop n (put_mid a k bytes group)))
+    (take-put_mid a k bytes group n (omega arith) (omega arith))
+    ∙ ap (λ (l : List ℕ). (take a bytes ++ group) ++ swapped l)
+    (drop-put_mid a k bytes group n (omega arith) (omega arith) (omega arith) ∙ back)
     ∙ append_assoc (take a bytes) group (swapped (drop k (drop a bytes)))
     ∙ ap (λ (l : List ℕ). take a bytes ++ (l ++ swapped (drop k (drop a bytes)))) is
-    ∙ ap (λ (l : List ℕ). take a bytes ++ l) (sym (swapped_front (take k (drop a bytes)) (drop k (drop a bytes)) part) ∙ ap swapped (take-append-drop k (drop a bytes)))
+    ∙ ap (λ (l : List ℕ). take a bytes ++ l)
+    (sym (swapped_front (take k (drop a bytes)) (drop k (drop a bytes)) part)
+    ∙ ap swapped (take-append-drop k (drop a bytes)))
     ∙ so_far
 
 -- where less than a group is left, all is swapped
-pub swapped_whole : (a : ℕ) (bytes whole : List ℕ) → length bytes < a + 12 → take a bytes ++ swapped (drop a bytes) ≡ whole → bytes ≡ whole
+pub swapped_whole : (a : ℕ) (bytes whole : List ℕ) → length bytes < a + 12
+    → take a bytes ++ swapped (drop a bytes) ≡ whole → bytes ≡ whole
 swapped_whole a bytes whole less so_far =
     sym (take-append-drop a bytes)
     ∙ ap (λ (l : List ℕ). take a bytes ++ l) (sym (swapped_short (drop a bytes) (omega (arith, length-drop a bytes))))

@@ -60,10 +60,14 @@ abbrev pub NotSaved : Entry Timed Reply → Type 0
 NotSaved e = SaysSaved e.act.act → ⊥
 
 -- neither the session nor another tells orders as saved
-not_saved : (k : ℕ) (log : Log) → AllByRecursion NotSaved (calls_of k log) → AllByRecursion (IsNoOthers k) log → AllByRecursion NotSaved log
+not_saved : (k : ℕ) (log : Log) → AllByRecursion NotSaved (calls_of k log) → AllByRecursion (IsNoOthers k) log
+    → AllByRecursion NotSaved log
 not_saved k [] own others = tt
 not_saved k (e ∷ log) own others =
-    elim (e.session == k) as (λ t. (e.session == k) ≡ t → AllByRecursion NotSaved (cond t (e ∷ calls_of k log) (calls_of k log)) → AllByRecursion NotSaved (e ∷ log)) [
+    elim (e.session == k)
+    as (λ t.
+    (e.session == k) ≡ t → AllByRecursion NotSaved (cond t (e ∷ calls_of k log) (calls_of k log))
+    → AllByRecursion NotSaved (e ∷ log)) [
       | true ↦ λ is mine. (mine.0, not_saved k log mine.1 others.1)
       | false ↦ λ is mine. (others.0 (eqb-false e.session k is), not_saved k log mine others.1)
     ] refl own
@@ -88,7 +92,8 @@ module _ (old new : RunnerState) (entries : Log) (made : Made old entries new) w
   legal_gained : (gained : Log) → new.seen ≡ old.seen ++ gained → Legal house (state_seen old) gained
   legal_gained gained is =
       legal_back house old.opening old.seen gained
-      (subst (λ (log : Log). Legal house old.opening log) is (subst (λ (parts : List Part). Legal house parts new.seen) same_opening made.known.legal))
+      (subst (λ (log : Log). Legal house old.opening log) is
+      (subst (λ (parts : List Part). Legal house parts new.seen) same_opening made.known.legal))
 
   state_gained : (gained : Log) → new.seen ≡ old.seen ++ gained → state_seen new ≡ state house (state_seen old) gained
   state_gained gained is =
@@ -100,28 +105,46 @@ whole_seen : (it : RunnerState) → IsWhole it.opening → IsKnown it → IsWhol
 whole_seen it whole known = stays_whole house house_lawful it.opening it.seen whole known.legal
 
 -- acts that tell no orders as saved
-agrees_gained : (table : Records) (old new : RunnerState) (entries : Log) → IsWhole old.opening → IsKnown old → Made old entries new → AllByRecursion NotSaved entries
+agrees_gained : (table : Records) (old new : RunnerState) (entries : Log) → IsWhole old.opening → IsKnown old
+    → Made old entries new → AllByRecursion NotSaved entries
     → NoOthersSave old new → AgreesSeen table old → AgreesSeen table new
 agrees_gained table old new entries whole known made unsaved none agreed lobby there =
-    let quiet = not_saved old.number none.gained (subst (AllByRecursion NotSaved) (sym (calls_gained old new entries made known none.gained none.is)) unsaved) none.none in
-    let r = (leads_log (state_seen old) none.gained (whole_seen old whole known) (legal_gained old new entries made none.gained none.is) quiet).0 in
-    let same = one_lobby (state house (state_seen old) none.gained) lobby r.new (ap (λ (l : List Part). slice_get l 0) (sym (state_gained old new entries made none.gained none.is)) ∙ there) r.there_now in
+    let quiet =
+    not_saved old.number none.gained
+    (subst (AllByRecursion NotSaved) (sym (calls_gained old new entries made known none.gained none.is)) unsaved)
+    none.none in
+    let r =
+    (leads_log (state_seen old) none.gained (whole_seen old whole known)
+    (legal_gained old new entries made none.gained none.is) quiet).0 in
+    let same =
+    one_lobby (state house (state_seen old) none.gained) lobby r.new
+    (ap (λ (l : List Part). slice_get l 0) (sym (state_gained old new entries made none.gained none.is)) ∙ there)
+    r.there_now in
     subst (AgreesWith (held table)) (sym same) (r.leads.agrees (held table) (agreed r.old r.there))
 
-pub agreed_unsaved : (table : Option Records) (old new : RunnerState) (entries : Log) → IsKnown old → Made old entries new → AllByRecursion NotSaved entries
+pub agreed_unsaved : (table : Option Records) (old new : RunnerState) (entries : Log) → IsKnown old
+    → Made old entries new → AllByRecursion NotSaved entries
     → StaysAgreed table table old new
 agreed_unsaved None old new entries known made unsaved = tt
-agreed_unsaved (Some table) old new entries known made unsaved = λ whole none agreed. agrees_gained table old new entries whole known made unsaved none agreed
+agreed_unsaved (Some table) old new entries known made unsaved = λ whole none agreed.
+    agrees_gained table old new entries whole known made unsaved none agreed
 
 -- one thing after another
-split_none : (old mid new : RunnerState) → mid.number ≡ old.number → IsPrefix old.seen mid.seen → IsPrefix mid.seen new.seen → NoOthersSave old new
+split_none : (old mid new : RunnerState) → mid.number ≡ old.number → IsPrefix old.seen mid.seen
+    → IsPrefix mid.seen new.seen → NoOthersSave old new
     → NoOthersSave old mid × NoOthersSave mid new
 split_none old mid new same p q none =
     let both : none.gained ≡ p.0 ++ q.0 = append_cancel_left old.seen none.gained (p.0 ++ q.0)
     (sym none.is ∙ sym q.1 ∙ ap (λ (l : Log). l ++ q.0) (sym p.1) ∙ append_assoc old.seen p.0 q.0) in
     let all = subst (AllByRecursion (IsNoOthers old.number)) both none.none in (
       record { gained = p.0; is = sym p.1; none = each-front (IsNoOthers old.number) p.0 q.0 all },
-      record { gained = q.0; is = sym q.1; none = subst (λ (n : ℕ). AllByRecursion (IsNoOthers n) q.0) (sym same) (each-back (IsNoOthers old.number) p.0 q.0 all) },
+      record {
+        gained = q.0;
+        is = sym q.1;
+        none =
+            subst (λ (n : ℕ). AllByRecursion (IsNoOthers n) q.0) (sym same)
+            (each-back (IsNoOthers old.number) p.0 q.0 all);
+      },
     )
 
 pub agreed_then : (t0 t1 t2 : Option Records) (s0 s1 s2 : RunnerState) (one two : Log) → Made s0 one s1 → Made s1 two s2
@@ -136,7 +159,8 @@ agreed_then (Some t0) (Some t1) (Some t2) s0 s1 s2 one two m n p q = λ whole no
 -- ---- orders that were carried out and told as saved
 
 -- carried out once, and to be carried out again, leads to the same
-put_prefix : (t0 t1 : StoreMap) (lobby : LobbyState) (first rest : List Order) → lobby.shelf.orders ≡ first ++ rest → ((key : List ℕ) → t1 key ≡ table_with t0 first key)
+put_prefix : (t0 t1 : StoreMap) (lobby : LobbyState) (first rest : List Order) → lobby.shelf.orders ≡ first ++ rest
+    → ((key : List ℕ) → t1 key ≡ table_with t0 first key)
     → AgreesWith t0 lobby → AgreesWith t1 lobby
 put_prefix t0 t1 lobby first rest is holds agreed key =
     ap (λ (orders : List Order). table_with t1 orders key) is
@@ -145,25 +169,36 @@ put_prefix t0 t1 lobby first rest is holds agreed key =
     ∙ ap (λ (orders : List Order). table_with t0 orders key) (sym is)
     ∙ agreed key
 
-above : (upto low made : ℕ) (orders : List Order) → upto ≤ low → OrdersRise low made orders → filter (λ (o : Order). nat_lt upto o.number) orders ≡ orders
+above : (upto low made : ℕ) (orders : List Order) → upto ≤ low → OrdersRise low made orders
+    → filter (λ (o : Order). nat_lt upto o.number) orders ≡ orders
 above upto low made [] le rise = refl
 above upto low made (order ∷ orders) le rise =
     let less = rise.0 in
-    ap (λ t. cond t (order ∷ filter (λ (o : Order). nat_lt upto o.number) orders) (filter (λ (o : Order). nat_lt upto o.number) orders)) (lt-ltb upto order.number (omega (arith, less, le)))
+    ap (λ t.
+    cond t (order ∷ filter (λ (o : Order). nat_lt upto o.number) orders)
+    (filter (λ (o : Order). nat_lt upto o.number) orders))
+    (lt-ltb upto order.number (omega (arith, less, le)))
     ∙ ap (λ (l : List Order). order ∷ l) (above upto order.number made orders (omega (arith, less, le)) rise.1)
 
-below_last : (low made upto : ℕ) (order : Order) (first rest : List Order) → OrdersRise low made ((order ∷ first) ++ rest) → last_number (order ∷ first) ≡ Some upto → low < upto
-below_last low made upto order [] rest rise last = let same : order.number ≡ upto = cc in let less = rise.0 in omega (arith, same, less)
+below_last : (low made upto : ℕ) (order : Order) (first rest : List Order)
+    → OrdersRise low made ((order ∷ first) ++ rest) → last_number (order ∷ first) ≡ Some upto → low < upto
+below_last low made upto order [] rest rise last =
+    let same : order.number ≡ upto = cc in let less = rise.0 in omega (arith, same, less)
 below_last low made upto order (more ∷ first) rest rise last =
-    let less = rise.0 in let later = below_last order.number made upto more first rest rise.1 last in omega (arith, less, later)
+    let less = rise.0 in let later = below_last order.number made upto more first rest rise.1 last in
+    omega (arith, less, later)
 
 -- what is told as saved goes, and the rest stands
-pub kept_behind : (low made upto : ℕ) (first rest : List Order) → OrdersRise low made (first ++ rest) → last_number first ≡ Some upto
+pub kept_behind : (low made upto : ℕ) (first rest : List Order) → OrdersRise low made (first ++ rest)
+    → last_number first ≡ Some upto
     → filter (λ (o : Order). nat_lt upto o.number) (first ++ rest) ≡ rest
 kept_behind low made upto [] rest rise last = cc
 kept_behind low made upto (order ∷ []) rest rise last =
     let same : order.number ≡ upto = cc in
-    ap (λ t. cond t (order ∷ filter (λ (o : Order). nat_lt upto o.number) rest) (filter (λ (o : Order). nat_lt upto o.number) rest)) (le-ltb upto order.number (omega (arith, same)))
+    ap (λ t.
+    cond t (order ∷ filter (λ (o : Order). nat_lt upto o.number) rest)
+    (filter (λ (o : Order). nat_lt upto o.number) rest))
+    (le-ltb upto order.number (omega (arith, same)))
     ∙ above upto order.number made rest (omega (arith, same)) rise.1
 kept_behind low made upto (order ∷ (more ∷ first)) rest rise last =
     let later = below_last order.number made upto more first rest rise.1 last in
@@ -171,8 +206,10 @@ kept_behind low made upto (order ∷ (more ∷ first)) rest rise last =
     ap (λ t. cond t (order ∷ left) left) (le-ltb upto order.number (omega (arith, later)))
     ∙ kept_behind order.number made upto (more ∷ first) rest rise.1 last
 
-saved_prefix : (t0 t1 : StoreMap) (lobby : LobbyState) (first rest : List Order) (upto : ℕ) → IsShelf lobby.shelf → lobby.shelf.orders ≡ first ++ rest → last_number first ≡ Some upto
-    → ((key : List ℕ) → t1 key ≡ table_with t0 first key) → AgreesWith t0 lobby → AgreesWith t1 (record lobby { shelf = saved lobby.shelf upto })
+saved_prefix : (t0 t1 : StoreMap) (lobby : LobbyState) (first rest : List Order) (upto : ℕ) → IsShelf lobby.shelf
+    → lobby.shelf.orders ≡ first ++ rest → last_number first ≡ Some upto
+    → ((key : List ℕ) → t1 key ≡ table_with t0 first key) → AgreesWith t0 lobby
+    → AgreesWith t1 (record lobby { shelf = saved lobby.shelf upto })
 saved_prefix t0 t1 lobby first rest upto shelf is last holds agreed key =
     let rise = subst (λ (orders : List Order). OrdersRise 0 lobby.shelf.made orders) is shelf.orders in
     ap (λ (orders : List Order). table_with t1 (filter (λ (o : Order). nat_lt upto o.number) orders) key) is
@@ -182,10 +219,13 @@ saved_prefix t0 t1 lobby first rest upto shelf is last holds agreed key =
     ∙ ap (λ (orders : List Order). table_with t0 orders key) (sym is)
     ∙ agreed key
 
-module _ (moment : ℕ) (orders carried left : List Order) (before after_all : Records) (old new : RunnerState) (known : IsKnown old) (whole : IsWhole old.opening)
-    (all : orders ≡ carried ++ left) (first : StandFirst orders (state_seen old)) (holds : (key : List ℕ) → held after_all key ≡ table_with (held before) carried key)
+module _ (moment : ℕ) (orders carried left : List Order) (before after_all : Records) (old new : RunnerState)
+    (known : IsKnown old) (whole : IsWhole old.opening)
+    (all : orders ≡ carried ++ left) (first : StandFirst orders (state_seen old))
+    (holds : (key : List ℕ) → held after_all key ≡ table_with (held before) carried key)
     (agreed : AgreesSeen before old) where
-  stand : (lobby : LobbyState) → slice_get (state_seen old) 0 ≡ Some (TheLobby lobby) → (more : List Order) × (lobby.shelf.orders ≡ carried ++ more)
+  stand : (lobby : LobbyState) → slice_get (state_seen old) 0 ≡ Some (TheLobby lobby)
+      → (more : List Order) × (lobby.shelf.orders ≡ carried ++ more)
   stand lobby there =
       let more = first.first lobby there in
       (left ++ more.0, more.1 ∙ ap (λ (l : List Order). l ++ more.0) all ∙ append_assoc carried left more.0)
@@ -195,51 +235,75 @@ module _ (moment : ℕ) (orders carried left : List Order) (before after_all : R
       let more = stand lobby there in
       put_prefix (held before) (held after_all) lobby carried more.0 more.1 holds (agreed lobby there)
 
-  agreed_said : (upto : ℕ) (answer : Reply) → last_number carried ≡ Some upto → Ran old (says_saved moment upto) answer new → NoOthersSave old new → AgreesSeen after_all new
+  agreed_said : (upto : ℕ) (answer : Reply) → last_number carried ≡ Some upto
+      → Ran old (says_saved moment upto) answer new → NoOthersSave old new → AgreesSeen after_all new
   agreed_said upto answer last ran none lobby there =
       let a = says_saved moment upto in
       let e : Entry Timed Reply = entry old.number a answer in
       let others = ran.others in
-      let gained : none.gained ≡ others ++ e ∷ [] = append_cancel_left old.seen none.gained (others ++ e ∷ []) (sym none.is ∙ ran.ends ∙ append_assoc old.seen others (e ∷ [])) in
+      let gained : none.gained ≡ others ++ e ∷ [] =
+      append_cancel_left old.seen none.gained (others ++ e ∷ [])
+      (sym none.is ∙ ran.ends ∙ append_assoc old.seen others (e ∷ [])) in
       let is : new.seen ≡ old.seen ++ (others ++ e ∷ []) = ran.ends ∙ append_assoc old.seen others (e ∷ []) in
       let mine = calls_gained old new (e ∷ []) ran.grew known (others ++ e ∷ []) is in
       let nobody = no_more (calls_of old.number others) e (sym (calls_own old.number others e refl) ∙ mine) in
       let unsaved = not_saved old.number others (subst (AllByRecursion NotSaved) (sym nobody) tt)
-      (each-front (IsNoOthers old.number) others (e ∷ []) (subst (AllByRecursion (IsNoOthers old.number)) gained none.none)) in
-      let legal = legal_front house (state_seen old) others (e ∷ []) (legal_gained old new (e ∷ []) ran.grew (others ++ e ∷ []) is) in
+      (each-front (IsNoOthers old.number) others (e ∷ [])
+      (subst (AllByRecursion (IsNoOthers old.number)) gained none.none)) in
+      let legal =
+      legal_front house (state_seen old) others (e ∷ [])
+      (legal_gained old new (e ∷ []) ran.grew (others ++ e ∷ []) is) in
       let led = leads_log (state_seen old) others (whole_seen old whole known) legal unsaved in
       let r = led.0 in
       let parts = state house (state_seen old) others in
       let more = stand r.old r.there in
-      let orders_now = r.leads.orders ∙ ap (λ (l : List Order). l ++ r.leads.more) more.1 ∙ append_assoc carried more.0 r.leads.more in
+      let orders_now =
+      r.leads.orders ∙ ap (λ (l : List Order). l ++ r.leads.more) more.1 ∙ append_assoc carried more.0 r.leads.more in
       let same_lobby = one_lobby parts led.1.lobby r.new led.1.first r.there_now in
       let shelf = subst (λ (l : LobbyState). IsShelf l.shelf) same_lobby led.1.formed.shelf.sound in
       let after_it : LobbyState = record r.new { shelf = saved r.new.shelf upto } in
-      let alone : after house parts old.number a ≡ set parts 0 (TheLobby after_it) = after_alone house parts old.number a (TheLobby r.new) r.there_now refl in
+      let alone : after house parts old.number a ≡ set parts 0 (TheLobby after_it) =
+      after_alone house parts old.number a (TheLobby r.new) r.there_now refl in
       let path : state_seen new ≡ after house parts old.number a =
       state_gained old new (e ∷ []) ran.grew (others ++ e ∷ []) is ∙ steps_once house (state_seen old) others e in
-      let found = one_lobby (state_seen new) lobby after_it there (ap (λ (l : List Part). slice_get l 0) (path ∙ alone) ∙ put_lobby parts r.new after_it r.there_now) in
+      let found =
+      one_lobby (state_seen new) lobby after_it there
+      (ap (λ (l : List Part). slice_get l 0) (path ∙ alone) ∙ put_lobby parts r.new after_it r.there_now) in
       subst (AgreesWith (held after_all)) (sym found)
-      (saved_prefix (held before) (held after_all) r.new carried (more.0 ++ r.leads.more) upto shelf orders_now last holds (r.leads.agrees (held before) (agreed r.old r.there)))
+      (saved_prefix (held before) (held after_all) r.new carried (more.0 ++ r.leads.more) upto shelf orders_now last
+      holds (r.leads.agrees (held before) (agreed r.old r.there)))
 
-  agreed_tells : (upto : Option ℕ) (said : SavedTold) → last_number carried ≡ upto → TellsUpTo moment upto said old new → NoOthersSave old new → AgreesSeen after_all new
+  agreed_tells : (upto : Option ℕ) (said : SavedTold) → last_number carried ≡ upto → TellsUpTo moment upto said old new
+      → NoOthersSave old new → AgreesSeen after_all new
   agreed_tells None said last t none = subst (AgreesSeen after_all) (sym t.1) agreed_put
   agreed_tells (Some upto) told.Done last t none = agreed_said upto t.0 last t.1 none
   agreed_tells (Some upto) told.Memory last t none = agrees_gained after_all old new [] whole known t tt none agreed_put
 
 -- orders that were told are carried out and told as saved
-told_agrees_at : (moment : ℕ) (end : SaveRound) (orders : List Order) (before after_all : Option Records) (faults faults' : ℕ) (calls calls' : Calls) (old new : RunnerState) → IsKnown old
-    → SavesTold moment end orders (record { table = before; faults = faults; calls = calls }) (record { table = after_all; faults = faults'; calls = calls' }) old new
+told_agrees_at : (moment : ℕ) (end : SaveRound) (orders : List Order) (before after_all : Option Records)
+    (faults faults' : ℕ) (calls calls' : Calls) (old new : RunnerState)
+    → IsKnown old
+    → SavesTold moment end orders (record {
+      table = before;
+      faults = faults;
+      calls = calls;
+    }) (record { table = after_all; faults = faults'; calls = calls' }) old new
     → StandFirst orders (state_seen old) → StaysAgreed before after_all old new
 told_agrees_at moment end orders None after_all faults faults' calls calls' old new known s first = tt
 told_agrees_at moment end orders (Some before) None faults faults' calls calls' old new known s first = absurd s.table
-told_agrees_at moment end orders (Some before) (Some after_all) faults faults' calls calls' old new known s first = λ whole none agreed.
-    agreed_tells moment orders s.carried s.left before after_all old new known whole s.all first s.table agreed (last_number s.carried) s.said refl s.tells none
+told_agrees_at moment end orders (Some before) (Some after_all) faults faults' calls calls' old new known s
+    first = λ whole none agreed.
+    agreed_tells moment orders s.carried s.left before after_all old new known whole s.all first s.table agreed
+    (last_number s.carried) s.said refl s.tells none
 
-pub told_agrees : (moment : ℕ) (end : SaveRound) (orders : List Order) (before after_all : Store) (old new : RunnerState) → IsKnown old
-    → SavesTold moment end orders before after_all old new → StandFirst orders (state_seen old) → StaysAgreed before.table after_all.table old new
+pub told_agrees : (moment : ℕ) (end : SaveRound) (orders : List Order) (before after_all : Store)
+    (old new : RunnerState)
+    → IsKnown old
+    → SavesTold moment end orders before after_all old new → StandFirst orders (state_seen old)
+    → StaysAgreed before.table after_all.table old new
 told_agrees moment end orders before after_all old new known s first =
-    told_agrees_at moment end orders before.table after_all.table before.faults after_all.faults before.calls after_all.calls old new known s first
+    told_agrees_at moment end orders before.table after_all.table before.faults after_all.faults before.calls
+    after_all.calls old new known s first
 
 -- nothing at all
 pub agreed_still : (table : Option Records) (it : RunnerState) → StaysAgreed table table it it
@@ -248,20 +312,25 @@ agreed_still (Some table) it = λ whole none agreed. agreed
 
 -- ---- clearing tells no orders as saved
 
-unsaved_part : (moment : ℕ) (es : Log) (rows : List DeskInUse) → IsPartOf (acts_of es) (map (clears moment) rows) → AllByRecursion NotSaved es
+unsaved_part : (moment : ℕ) (es : Log) (rows : List DeskInUse) → IsPartOf (acts_of es) (map (clears moment) rows)
+    → AllByRecursion NotSaved es
 unsaved_part moment [] rows p = tt
 unsaved_part moment (e ∷ es) [] p = absurd p
-unsaved_part moment (e ∷ es) (row ∷ rows) (inl p) = (subst (λ (t : Timed). SaysSaved t.act → ⊥) (sym p.0) (λ bad. bad), unsaved_part moment es rows p.1)
+unsaved_part moment (e ∷ es) (row ∷ rows) (inl p) =
+    (subst (λ (t : Timed). SaysSaved t.act → ⊥) (sym p.0) (λ bad. bad), unsaved_part moment es rows p.1)
 unsaved_part moment (e ∷ es) (row ∷ rows) (inr p) = unsaved_part moment (e ∷ es) rows p
 
-asks_unsaved : (moment : ℕ) (end : ClearingEnd) (entries : Log) → AsksAndClears end moment entries → AllByRecursion NotSaved entries
+asks_unsaved : (moment : ℕ) (end : ClearingEnd) (entries : Log) → AsksAndClears end moment entries
+    → AllByRecursion NotSaved entries
 asks_unsaved moment end entries p =
     subst (AllByRecursion NotSaved) (sym p.all) (
       subst (λ (t : Timed). SaysSaved t.act → ⊥) (sym p.asks) (λ bad. bad),
-      unsaved_part moment p.rest (rows_told p.first.reply) (some_cleared moment end (rows_told p.first.reply) p.rest p.clears),
+      unsaved_part moment p.rest (rows_told p.first.reply)
+          (some_cleared moment end (rows_told p.first.reply) p.rest p.clears),
     )
 
-pub clearing_unsaved : (moment : ℕ) (end : ClearingEnd) (entries : Log) → IsClearing end moment entries → AllByRecursion NotSaved entries
+pub clearing_unsaved : (moment : ℕ) (end : ClearingEnd) (entries : Log) → IsClearing end moment entries
+    → AllByRecursion NotSaved entries
 clearing_unsaved moment clearing.Done entries p = asks_unsaved moment clearing.Done entries p
 clearing_unsaved moment clearing.Memory entries (inl p) = subst (AllByRecursion NotSaved) (sym p) tt
 clearing_unsaved moment clearing.Memory entries (inr p) = asks_unsaved moment clearing.Memory entries p

@@ -41,15 +41,19 @@ none_saved moment store old known = record {
   called = sym (append-nil store.calls);
 }
 
-module _ (moment rounds : ℕ) (before mid after : Store) (old between new : RunnerState) (so_far : HasSaved moment rounds before mid old between) where
+module _ (moment rounds : ℕ) (before mid after : Store) (old between new : RunnerState)
+    (so_far : HasSaved moment rounds before mid old between) where
   grown : (entries : Log) → Made between entries new → Made old (so_far.entries ++ entries) new
   grown entries grew = made_then old between new so_far.entries entries so_far.grew grew
 
-  carried_on : (carried : List Order) → Carries mid.table after.table carried → Carries before.table after.table (so_far.carried ++ carried)
+  carried_on : (carried : List Order) → Carries mid.table after.table carried
+      → Carries before.table after.table (so_far.carried ++ carried)
   carried_on carried kept = carries_then before.table mid.table after.table so_far.carried carried so_far.kept kept
 
-  called_on : (answer : Kept) (carried : List Order) → CallsFor answer carried mid.calls after.calls → CallsFor answer (so_far.carried ++ carried) before.calls after.calls
-  called_on answer carried called = called_then answer before.calls mid.calls after.calls so_far.carried carried so_far.called called
+  called_on : (answer : Kept) (carried : List Order) → CallsFor answer carried mid.calls after.calls
+      → CallsFor answer (so_far.carried ++ carried) before.calls after.calls
+  called_on answer carried called =
+      called_then answer before.calls mid.calls after.calls so_far.carried carried so_far.called called
 
   -- one more full round
   pub saved_next : RunsRound moment round.Full mid after between new → HasSaved moment (suc rounds) before after old new
@@ -59,39 +63,70 @@ module _ (moment rounds : ℕ) (before mid after : Store) (old between new : Run
     grew = grown r.entries r.grew;
     full = (so_far.entries, r.entries, so_far.carried, r.carried, so_far.full, r.ends.0, r.ends.1, refl, refl);
     kept = carried_on r.carried r.kept;
-    called = called_on kept.Done r.carried (subst (λ (answer : Kept). CallsFor answer r.carried mid.calls after.calls) r.called.1 r.called.2);
+    called =
+        called_on kept.Done r.carried
+        (subst (λ (answer : Kept). CallsFor answer r.carried mid.calls after.calls) r.called.1 r.called.2);
   }
 
   -- a round that is the last one
-  ended : (end : StewardEnd) (entries : Log) (carried : List Order) → Made between entries new → EndsSaving moment end rounds entries carried
-      → LeavesOne end entries carried → Carries mid.table after.table carried → HasCalled end carried mid.calls after.calls → TakesSaving moment end before after old new
+  ended : (end : StewardEnd) (entries : Log) (carried : List Order) → Made between entries new
+      → EndsSaving moment end rounds entries carried
+      → LeavesOne end entries carried → Carries mid.table after.table carried
+      → HasCalled end carried mid.calls after.calls → TakesSaving moment end before after old new
   ended end entries carried grew ends left kept called = record {
     entries = so_far.entries ++ entries;
     carried = so_far.carried ++ carried;
     grew = grown entries grew;
-    saving = record { rounds = rounds; full = so_far.entries; first = so_far.carried; rest = entries; last = carried; are_full = so_far.full; ends = ends; left = left; all = refl; orders = refl };
+    saving =
+        record {
+          rounds = rounds;
+          full = so_far.entries;
+          first = so_far.carried;
+          rest = entries;
+          last = carried;
+          are_full = so_far.full;
+          ends = ends;
+          left = left;
+          all = refl;
+          orders = refl;
+        };
     kept = carried_on carried kept;
     called = (called.0, called.1, called_on called.0 carried called.2);
   }
 
-  pub ended_last : (few : ℕ) → RunsRound moment (round.Last few) mid after between new → TakesSaving moment (Done (rounds * 16 + few)) before after old new
+  pub ended_last : (few : ℕ) → RunsRound moment (round.Last few) mid after between new
+      → TakesSaving moment (Done (rounds * 16 + few)) before after old new
   ended_last few r = ended (Done (rounds * 16 + few)) r.entries r.carried r.grew
       (inl (r.ends.0, r.ends.1, ap (λ n. rounds * 16 + n) r.ends.2)) tt r.kept r.called
 
-  pub ended_fault : RunsRound moment round.KeeperFault mid after between new → TakesSaving moment KeeperFault before after old new
+  pub ended_fault : RunsRound moment round.KeeperFault mid after between new
+      → TakesSaving moment KeeperFault before after old new
   ended_fault r = ended KeeperFault r.entries r.carried r.grew r.ends.0 r.ends.1 r.kept r.called
 
   pub ended_short : RunsRound moment round.Memory mid after between new → TakesSaving moment Memory before after old new
   ended_short r = ended Memory r.entries r.carried r.grew r.ends tt r.kept r.called
 
 -- the most rounds
-pub ended_most : (moment rounds : ℕ) (before after : Store) (old new : RunnerState) → rounds ≡ 2 ^ 28 - 1 → HasSaved moment rounds before after old new
+pub ended_most : (moment rounds : ℕ) (before after : Store) (old new : RunnerState) → rounds ≡ 2 ^ 28 - 1
+    → HasSaved moment rounds before after old new
     → TakesSaving moment (Done (rounds * 16)) before after old new
 ended_most moment rounds before after old new most s = record {
   entries = s.entries;
   carried = s.carried;
   grew = s.grew;
-  saving = record { rounds = rounds; full = s.entries; first = s.carried; rest = []; last = []; are_full = s.full; ends = inr (most, refl, refl, refl); left = tt; all = sym (append-nil s.entries); orders = sym (append-nil s.carried) };
+  saving =
+      record {
+        rounds = rounds;
+        full = s.entries;
+        first = s.carried;
+        rest = [];
+        last = [];
+        are_full = s.full;
+        ends = inr (most, refl, refl, refl);
+        left = tt;
+        all = sym (append-nil s.entries);
+        orders = sym (append-nil s.carried);
+      };
   kept = s.kept;
   called = (kept.Done, refl, s.called);
 }
@@ -99,7 +134,8 @@ ended_most moment rounds before after old new most s = record {
 -- ---- one round
 
 -- memory ran out at the question for orders
-pub round_unasked : (moment : ℕ) (store : Store) (old new : RunnerState) → Made old [] new → RunsRound moment round.Memory store store old new
+pub round_unasked : (moment : ℕ) (store : Store) (old new : RunnerState) → Made old [] new
+    → RunsRound moment round.Memory store store old new
 round_unasked moment store old new grew = record {
   entries = [];
   carried = [];
@@ -111,14 +147,20 @@ round_unasked moment store old new grew = record {
 
 -- what telling made, and whether it was made
 abbrev pub Said : ℕ → Option ℕ → SavedTold → RunnerState → RunnerState → Type 0
-Said moment upto said old new = (entries : Log) × Made old entries new × ((said ≡ told.Done → acts_of entries ≡ tells_upto moment upto) × (said ≡ told.Memory → entries ≡ []))
+Said moment upto said old new =
+    (entries : Log) × Made old entries new
+    × ((said ≡ told.Done → acts_of entries ≡ tells_upto moment upto) × (said ≡ told.Memory → entries ≡ []))
 
-pub said_made : (moment : ℕ) (upto : Option ℕ) (said : SavedTold) (old new : RunnerState) → IsKnown old → TellsUpTo moment upto said old new → Said moment upto said old new
-said_made moment None said old new known t = ([], subst (λ (s : RunnerState). Made old [] s) (sym t.1) (made_none old known), (λ _. refl, λ _. refl))
-said_made moment (Some upto) told.Done old new known t = (entry old.number (says_saved moment upto) t.0 ∷ [], t.1.grew, (λ _. refl, λ bad. cc))
+pub said_made : (moment : ℕ) (upto : Option ℕ) (said : SavedTold) (old new : RunnerState) → IsKnown old
+    → TellsUpTo moment upto said old new → Said moment upto said old new
+said_made moment None said old new known t =
+    ([], subst (λ (s : RunnerState). Made old [] s) (sym t.1) (made_none old known), (λ _. refl, λ _. refl))
+said_made moment (Some upto) told.Done old new known t =
+    (entry old.number (says_saved moment upto) t.0 ∷ [], t.1.grew, (λ _. refl, λ bad. cc))
 said_made moment (Some upto) told.Memory old new known t = ([], t, (λ bad. cc, λ _. refl))
 
-module _ (moment : ℕ) (orders : List Order) (before after : Store) (answer : Reply) (old mid new : RunnerState) (known : IsKnown mid)
+module _ (moment : ℕ) (orders : List Order) (before after : Store) (answer : Reply) (old mid new : RunnerState)
+    (known : IsKnown mid)
     (ran : Ran old (asks_orders moment) answer mid) (tells : orders_in answer ≡ orders) (few : length orders ≤ 16) where
   asked : Entry Timed Reply
   asked = entry old.number (asks_orders moment) answer
@@ -127,15 +169,28 @@ module _ (moment : ℕ) (orders : List Order) (before after : Store) (answer : R
   unfolding asked
   round_made said made = made_then old mid new (asked ∷ []) said ran.grew made
 
-  whole_round : (carried left : List Order) (said : Log) → orders ≡ carried ++ left → left ≡ [] → acts_of said ≡ tells_upto moment (last_number carried) → IsSaveRound moment (asked ∷ said) carried
+  whole_round : (carried left : List Order) (said : Log) → orders ≡ carried ++ left → left ≡ []
+      → acts_of said ≡ tells_upto moment (last_number carried) → IsSaveRound moment (asked ∷ said) carried
   unfolding asked
-  whole_round carried left said all none acts = record { first = asked; rest = said; all = refl; asks = refl; told = tells ∙ all ∙ ap (λ l. carried ++ l) none ∙ append-nil carried; saved = acts }
+  whole_round carried left said all none acts =
+      record {
+        first = asked;
+        rest = said;
+        all = refl;
+        asks = refl;
+        told = tells ∙ all ∙ ap (λ l. carried ++ l) none ∙ append-nil carried;
+        saved = acts;
+      }
 
-  cut_round : (carried left : List Order) (said : Log) → orders ≡ carried ++ left → (acts_of said ≡ tells_upto moment (last_number carried)) ⊎ (said ≡ []) → IsCutShort moment (asked ∷ said) carried
+  cut_round : (carried left : List Order) (said : Log) → orders ≡ carried ++ left
+      → (acts_of said ≡ tells_upto moment (last_number carried)) ⊎ (said ≡ [])
+      → IsCutShort moment (asked ∷ said) carried
   unfolding asked
-  cut_round carried left said all acts = record { first = asked; rest = said; all = refl; asks = refl; left = left; told = tells ∙ all; saved = acts }
+  cut_round carried left said all acts =
+      record { first = asked; rest = said; all = refl; asks = refl; left = left; told = tells ∙ all; saved = acts }
 
-  one_left : (carried left : List Order) → orders ≡ carried ++ left → (left ≡ [] → ⊥) → length carried < length (orders_in answer)
+  one_left : (carried left : List Order) → orders ≡ carried ++ left → (left ≡ [] → ⊥)
+      → length carried < length (orders_in answer)
   one_left carried [] all some = absurd (some refl)
   one_left carried (order ∷ left) all some =
       let told : length (orders_in answer) ≡ length (carried ++ order ∷ left) = ap length (tells ∙ all) in
@@ -144,28 +199,45 @@ module _ (moment : ℕ) (orders : List Order) (before after : Store) (answer : R
   same_length : (carried left : List Order) → orders ≡ carried ++ left → left ≡ [] → length orders ≡ length carried
   same_length carried left all none = ap length (all ∙ ap (λ l. carried ++ l) none ∙ append-nil carried)
 
-  ends_whole : (carried left : List Order) (said : Log) → orders ≡ carried ++ left → left ≡ [] → acts_of said ≡ tells_upto moment (last_number carried)
-      → (is_full : Bool) → (length orders == 16) ≡ is_full → EndsRound moment (cond is_full round.Full (round.Last (length orders))) (asked ∷ said) carried
+  ends_whole : (carried left : List Order) (said : Log) → orders ≡ carried ++ left → left ≡ []
+      → acts_of said ≡ tells_upto moment (last_number carried)
+      → (is_full : Bool) → (length orders == 16) ≡ is_full
+      → EndsRound moment (cond is_full round.Full (round.Last (length orders))) (asked ∷ said) carried
   ends_whole carried left said all none acts true full =
-      let same = same_length carried left all none in
-      (whole_round carried left said all none acts, let sixteen = eqb-true (length orders) 16 full in omega (arith, same, sixteen))
+      let same = same_length carried left all none in (
+        whole_round carried left said all none acts,
+        let sixteen = eqb-true (length orders) 16 full in omega (arith, same, sixteen),
+      )
   ends_whole carried left said all none acts false full =
-      let same = same_length carried left all none in
-      (whole_round carried left said all none acts, let other = eqb-false (length orders) 16 full in omega (arith, same, few, other), same)
+      let same = same_length carried left all none in (
+        whole_round carried left said all none acts,
+        let other = eqb-false (length orders) 16 full in omega (arith, same, few, other),
+        same,
+      )
 
-  ends_by : (outcome : Kept) (said : SavedTold) (carried left : List Order) (entries : Log) → orders ≡ carried ++ left → (outcome ≡ kept.Done → left ≡ [])
+  ends_by : (outcome : Kept) (said : SavedTold) (carried left : List Order) (entries : Log) → orders ≡ carried ++ left
+      → (outcome ≡ kept.Done → left ≡ [])
       → (left ≡ [] → outcome ≡ kept.Done)
-      → (said ≡ told.Done → acts_of entries ≡ tells_upto moment (last_number carried)) → (said ≡ told.Memory → entries ≡ [])
+      → (said ≡ told.Done → acts_of entries ≡ tells_upto moment (last_number carried))
+      → (said ≡ told.Memory → entries ≡ [])
       → EndsRound moment (round_of outcome said (length orders)) (asked ∷ entries) carried
   unfolding asked
-  ends_by kept.Failed told.Done carried left entries all whole only acts none =
-      (cut_round carried left entries all (inl (acts refl)), one_left carried left all (λ bare. let bad = only bare in cc))
-  ends_by kept.Failed told.Memory carried left entries all whole only acts none =
-      (cut_round carried left entries all (inr (none refl)), one_left carried left all (λ bare. let bad = only bare in cc))
-  ends_by kept.Memory told.Done carried left entries all whole only acts none = inl (cut_round carried left entries all (inl (acts refl)))
-  ends_by kept.Memory told.Memory carried left entries all whole only acts none = inl (cut_round carried left entries all (inr (none refl)))
-  ends_by kept.Done told.Memory carried left entries all whole only acts none = inl (cut_round carried left entries all (inr (none refl)))
-  ends_by kept.Done told.Done carried left entries all whole only acts none = ends_whole carried left entries all (whole refl) (acts refl) (length orders == 16) refl
+  ends_by kept.Failed told.Done carried left entries all whole only acts none = (
+    cut_round carried left entries all (inl (acts refl)),
+    one_left carried left all (λ bare. let bad = only bare in cc),
+  )
+  ends_by kept.Failed told.Memory carried left entries all whole only acts none = (
+    cut_round carried left entries all (inr (none refl)),
+    one_left carried left all (λ bare. let bad = only bare in cc),
+  )
+  ends_by kept.Memory told.Done carried left entries all whole only acts none =
+      inl (cut_round carried left entries all (inl (acts refl)))
+  ends_by kept.Memory told.Memory carried left entries all whole only acts none =
+      inl (cut_round carried left entries all (inr (none refl)))
+  ends_by kept.Done told.Memory carried left entries all whole only acts none =
+      inl (cut_round carried left entries all (inr (none refl)))
+  ends_by kept.Done told.Done carried left entries all whole only acts none =
+      ends_whole carried left entries all (whole refl) (acts refl) (length orders == 16) refl
 
   answered_whole : (is_full : Bool) (count : ℕ) → RoundAt (cond is_full round.Full (round.Last count)) kept.Done
   answered_whole true count = refl
@@ -177,7 +249,8 @@ module _ (moment : ℕ) (orders : List Order) (before after : Store) (answer : R
   answered kept.Done told.Memory count = λ bad. cc
   answered kept.Done told.Done count = answered_whole (count == 16) count
 
-  pub round_run : (end : SaveRound) → SavesTold moment end orders before after mid new → RunsRound moment end before after old new
+  pub round_run : (end : SaveRound) → SavesTold moment end orders before after mid new
+      → RunsRound moment end before after old new
   round_run end s =
       let said = said_made moment (last_number s.carried) s.said mid new known s.tells in
       record {
@@ -187,5 +260,9 @@ module _ (moment : ℕ) (orders : List Order) (before after : Store) (answer : R
         ends = subst (λ (r : SaveRound). EndsRound moment r (asked ∷ said.0) s.carried) (sym s.ends)
             (ends_by s.outcome s.said s.carried s.left said.0 s.all s.whole s.only_whole said.2.0 said.2.1);
         kept = s.table;
-        called = (s.outcome, subst (λ (r : SaveRound). RoundAt r s.outcome) (sym s.ends) (answered s.outcome s.said (length orders)), s.called);
+        called = (
+          s.outcome,
+          subst (λ (r : SaveRound). RoundAt r s.outcome) (sym s.ends) (answered s.outcome s.said (length orders)),
+          s.called,
+        );
       }

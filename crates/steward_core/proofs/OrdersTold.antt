@@ -28,21 +28,26 @@ use Rattle.steward_core.proofs.StatesLead.{lobby_in}
 -- the orders are at most 16, and the first that stand in the lobby of the state
 pub record StandFirst (orders : List Order) (parts : List Part) : Type 0 where
   pub few : length orders ≤ 16
-  pub first : (lobby : LobbyState) → slice_get parts 0 ≡ Some (TheLobby lobby) → (more : List Order) × (lobby.shelf.orders ≡ orders ++ more)
+  pub first : (lobby : LobbyState) → slice_get parts 0 ≡ Some (TheLobby lobby)
+      → (more : List Order) × (lobby.shelf.orders ≡ orders ++ more)
 
 -- the last act of a legal history has the reply of the state before it
-pub legal_last : (xs : List Part) (es : Log) (e : Entry Timed Reply) → Legal house xs (es ++ e ∷ []) → reply house (state house xs es) e.session e.act ≡ Some e.reply
+pub legal_last : (xs : List Part) (es : Log) (e : Entry Timed Reply) → Legal house xs (es ++ e ∷ [])
+    → reply house (state house xs es) e.session e.act ≡ Some e.reply
 legal_last xs [] e legal = legal.1
 legal_last xs (f ∷ es) e legal = legal_last (after house xs f.session f.act) es e legal.2
 
 few_told : (orders : List Order) → length (take 16 orders) ≤ 16
 few_told orders = let long = length-take 16 orders in omega (arith, long)
 
-told_in : (xs : List Part) (k moment : ℕ) (answer : Reply) (part : Option Part) → slice_get xs 0 ≡ part → reply house xs k (asks_orders moment) ≡ Some answer
+told_in : (xs : List Part) (k moment : ℕ) (answer : Reply) (part : Option Part) → slice_get xs 0 ≡ part
+    → reply house xs k (asks_orders moment) ≡ Some answer
     → StandFirst (orders_in answer) (after house xs k (asks_orders moment))
 told_in xs k moment answer None there told =
     let a = asks_orders moment in
-    let bad : Some answer ≡ None = sym told ∙ ap (λ (part : Option Part). option_map (λ (p : Part). house.answer p (other_of house xs k a) k a) part) there in
+    let bad : Some answer ≡ None =
+    sym told
+    ∙ ap (λ (part : Option Part). option_map (λ (p : Part). house.answer p (other_of house xs k a) k a) part) there in
     cc
 told_in xs k moment answer (Some (ADesk desk)) there told =
     let a = asks_orders moment in
@@ -57,44 +62,54 @@ told_in xs k moment answer (Some (TheLobby lobby)) there told =
     let same : answer ≡ one = cc in
     let alone : after house xs k a ≡ set xs 0 (TheLobby lobby) = after_alone house xs k a (TheLobby lobby) there refl in
     let there_now : slice_get (after house xs k a) 0 ≡ Some (TheLobby lobby) =
-    ap (λ (l : List Part). slice_get l 0) alone ∙ get_set_same xs 0 (TheLobby lobby) (slice_get_length xs 0 (TheLobby lobby) there) in
+    ap (λ (l : List Part). slice_get l 0) alone
+    ∙ get_set_same xs 0 (TheLobby lobby) (slice_get_length xs 0 (TheLobby lobby) there) in
     subst (λ (orders : List Order). StandFirst orders (after house xs k a)) (sym (ap orders_in same))
     (record {
       few = few_told lobby.shelf.orders;
       first = λ other found.
-          let same_lobby : other ≡ lobby = ap (lobby_in lobby) (sym found ∙ there_now) in
-          (drop 16 lobby.shelf.orders, ap (λ (l : LobbyState). l.shelf.orders) same_lobby ∙ sym (take-append-drop 16 lobby.shelf.orders));
+          let same_lobby : other ≡ lobby = ap (lobby_in lobby) (sym found ∙ there_now) in (
+            drop 16 lobby.shelf.orders,
+            ap (λ (l : LobbyState). l.shelf.orders) same_lobby ∙ sym (take-append-drop 16 lobby.shelf.orders),
+          );
     })
 
 -- the session was told orders
-pub told_first : (moment : ℕ) (answer : Reply) (old new : RunnerState) → Ran old (asks_orders moment) answer new → StandFirst (orders_in answer) (state_seen new)
+pub told_first : (moment : ℕ) (answer : Reply) (old new : RunnerState) → Ran old (asks_orders moment) answer new
+    → StandFirst (orders_in answer) (state_seen new)
 told_first moment answer old new ran =
     let e : Entry Timed Reply = entry old.number (asks_orders moment) answer in
     let before : Log = old.seen ++ ran.others in
     let legal = subst (λ (log : Log). Legal house new.opening log) ran.ends ran.grew.known.legal in
     let told = legal_last new.opening before e legal in
     let parts = state house new.opening before in
-    subst (StandFirst (orders_in answer)) (sym (ap (λ (log : Log). state house new.opening log) ran.ends ∙ steps_once house new.opening before e))
+    subst (StandFirst (orders_in answer))
+    (sym (ap (λ (log : Log). state house new.opening log) ran.ends ∙ steps_once house new.opening before e))
     (told_in parts old.number moment answer (slice_get parts 0) refl told)
 
 -- the number of the last order
-last_is : (orders : List Order) (n : ℕ) (last : Order) → n ≡ length orders - 1 → slice_get orders n ≡ Some last → last_number orders ≡ Some last.number
+last_is : (orders : List Order) (n : ℕ) (last : Order) → n ≡ length orders - 1 → slice_get orders n ≡ Some last
+    → last_number orders ≡ Some last.number
 last_is [] n last long there = cc
 last_is (order ∷ []) zero last long there = let same : order ≡ last = cc in ap (λ (o : Order). Some o.number) same
 last_is (order ∷ []) (suc n) last long there = absurd (omega (arith, long))
 last_is (order ∷ (more ∷ orders)) zero last long there = absurd (omega (arith, long))
 last_is (order ∷ (more ∷ orders)) (suc n) last long there = last_is (more ∷ orders) n last (omega (arith, long)) there
 
-pub says_last : (orders : List Order) (last : Order) → slice_get orders (length orders - 1) ≡ Some last → last_number orders ≡ Some last.number
+pub says_last : (orders : List Order) (last : Order) → slice_get orders (length orders - 1) ≡ Some last
+    → last_number orders ≡ Some last.number
 says_last orders last there = last_is orders (length orders - 1) last refl there
 
-pub tells_done : (moment : ℕ) (orders : List Order) (upto : ℕ) (end : SavedTold) (answer : Reply) (old new : RunnerState) → last_number orders ≡ Some upto → end ≡ told.Done
+pub tells_done : (moment : ℕ) (orders : List Order) (upto : ℕ) (end : SavedTold) (answer : Reply)
+    (old new : RunnerState)
+    → last_number orders ≡ Some upto → end ≡ told.Done
     → Ran old (says_saved moment upto) answer new → Tells moment orders end old new
 tells_done moment orders upto end answer old new last is ran =
     subst (λ (e : SavedTold). Tells moment orders e old new) (sym is)
     (subst (λ (n : Option ℕ). TellsUpTo moment n told.Done old new) (sym last) (answer, ran))
 
-pub tells_short : (moment : ℕ) (orders : List Order) (upto : ℕ) (end : SavedTold) (old new : RunnerState) → last_number orders ≡ Some upto → end ≡ told.Memory
+pub tells_short : (moment : ℕ) (orders : List Order) (upto : ℕ) (end : SavedTold) (old new : RunnerState)
+    → last_number orders ≡ Some upto → end ≡ told.Memory
     → Made old [] new → Tells moment orders end old new
 tells_short moment orders upto end old new last is made =
     subst (λ (e : SavedTold). Tells moment orders e old new) (sym is)

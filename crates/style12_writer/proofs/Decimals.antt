@@ -12,7 +12,8 @@ IsDigitOrMinus byte = (45 ≤ byte) × (byte ≤ 57)
 
 IsDigit-glyph : (n : ℕ) → IsDigit (digit_glyph false (n % 10))
 IsDigit-glyph n =
-    let glyph : 48 + n % 10 ≡ digit_glyph false (n % 10) = cond_below (n % 10) 10 (48 + n % 10) (87 + n % 10) (omega arith) in
+    let glyph : 48 + n % 10 ≡ digit_glyph false (n % 10) =
+    cond_below (n % 10) 10 (48 + n % 10) (87 + n % 10) (omega arith) in
     subst IsDigit glyph (omega arith, omega arith)
 
 All-digits_onto : (k n : ℕ) (after : List ℕ) → All IsDigit after → All IsDigit (digits_onto k 10 false n after)
@@ -25,12 +26,14 @@ length-digits_onto : (k n : ℕ) (after : List ℕ) → length after ≤ length 
 length-digits_onto zero n after = omega arith
 length-digits_onto (suc k) n after =
     let longer = digit_glyph false (n % 10) ∷ after in
-    cond_both (eqb (n / 10) 0) longer (digits_onto k 10 false (n / 10) longer) (λ digits. length after ≤ length digits) (λ _. omega arith) (λ _. let step = length-digits_onto k (n / 10) longer in omega arith)
+    cond_both (eqb (n / 10) 0) longer (digits_onto k 10 false (n / 10) longer) (λ digits. length after ≤ length digits)
+    (λ _. omega arith) (λ _. let step = length-digits_onto k (n / 10) longer in omega arith)
 
 length-digits_onto-suc : (k n : ℕ) (after : List ℕ) → length after < length (digits_onto (suc k) 10 false n after)
 length-digits_onto-suc k n after =
     let longer = digit_glyph false (n % 10) ∷ after in
-    cond_both (eqb (n / 10) 0) longer (digits_onto k 10 false (n / 10) longer) (λ digits. length after < length digits) (λ _. omega arith) (λ _. let step = length-digits_onto k (n / 10) longer in omega arith)
+    cond_both (eqb (n / 10) 0) longer (digits_onto k 10 false (n / 10) longer) (λ digits. length after < length digits)
+    (λ _. omega arith) (λ _. let step = length-digits_onto k (n / 10) longer in omega arith)
 
 pub All-decimal : (n : ℕ) → All IsDigit (decimal n)
 unfolding digits
@@ -41,7 +44,8 @@ unfolding digits
 decimal_some n = length-digits_onto-suc 63 n []
 
 pub All-signed_decimal : (z : ℤ) → All IsDigitOrMinus (signed_decimal z)
-All-signed_decimal (pos n) = All-weaker IsDigit IsDigitOrMinus (λ byte h. (omega arith, h.1)) (decimal n) (All-decimal n)
+All-signed_decimal (pos n) =
+    All-weaker IsDigit IsDigitOrMinus (λ byte h. (omega arith, h.1)) (decimal n) (All-decimal n)
 All-signed_decimal (negsuc n) =
     All-cons IsDigitOrMinus 45 (decimal (suc n)) (omega arith, omega arith)
     (All-weaker IsDigit IsDigitOrMinus (λ byte h. (omega arith, h.1)) (decimal (suc n)) (All-decimal (suc n)))

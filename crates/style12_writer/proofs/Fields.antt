@@ -35,12 +35,14 @@ AllPass-from_unbroken : (text : List ℕ) → HasNoBlank text → All (λ byte. 
 AllPass-from_unbroken text h k d within = ne_eqb _ 32 (h k d within)
 
 -- fields that are joined by blanks are what the line is cut into
-pub cut-join : (fields : List (List ℕ)) → 0 < length fields → All IsField fields → cut_at_blanks (join_with_byte 32 fields) ≡ fields
+pub cut-join : (fields : List (List ℕ)) → 0 < length fields → All IsField fields
+    → cut_at_blanks (join_with_byte 32 fields) ≡ fields
 cut-join [] some h = absurd (omega arith)
 cut-join (field ∷ []) some h =
     slice_split_none (λ byte. byte == 32) field (AllPass-from_unbroken field (All-head IsField field [] h).unbroken)
 cut-join (field ∷ next ∷ rest) some h =
-    slice_split_at (λ byte. byte == 32) field 32 (join_with_byte 32 (next ∷ rest)) (AllPass-from_unbroken field (All-head IsField field (next ∷ rest) h).unbroken) refl
+    slice_split_at (λ byte. byte == 32) field 32 (join_with_byte 32 (next ∷ rest))
+    (AllPass-from_unbroken field (All-head IsField field (next ∷ rest) h).unbroken) refl
     ∙ ap (λ fields. field ∷ fields) (cut-join (next ∷ rest) (omega arith) (All-tail IsField field (next ∷ rest) h))
 
 pub IsField-decimal : (n : ℕ) → IsField (decimal n)
@@ -84,8 +86,11 @@ unfolding rank_text
 IsField-rank men rank = record {
   some = omega arith;
   unbroken =
-      All-map (λ byte. byte ≢ 32) (λ file. square_letter (man_at men (square_at file rank))) (0 ∷ 1 ∷ 2 ∷ 3 ∷ 4 ∷ 5 ∷ 6 ∷ 7 ∷ [])
-      (λ k d inside blank. let high = square_letter_high (man_at men (square_at (get_or (0 ∷ 1 ∷ 2 ∷ 3 ∷ 4 ∷ 5 ∷ 6 ∷ 7 ∷ []) k d) rank)) in omega arith);
+      All-map (λ byte. byte ≢ 32) (λ file. square_letter (man_at men (square_at file rank)))
+      (0 ∷ 1 ∷ 2 ∷ 3 ∷ 4 ∷ 5 ∷ 6 ∷ 7 ∷ [])
+      (λ k d inside blank.
+      let high = square_letter_high (man_at men (square_at (get_or (0 ∷ 1 ∷ 2 ∷ 3 ∷ 4 ∷ 5 ∷ 6 ∷ 7 ∷ []) k d) rank)) in
+      omega arith);
 }
 
 one_unbroken : (byte : ℕ) → byte ≢ 32 → HasNoBlank (byte ∷ [])
@@ -96,7 +101,11 @@ IsField-colour White = record { some = omega arith; unbroken = one_unbroken 87 (
 IsField-colour Black = record { some = omega arith; unbroken = one_unbroken 66 (λ e. omega arith) }
 
 pub IsField-push : (push : Option ℕ) → IsField (double_push push)
-IsField-push None = record { some = omega arith; unbroken = All-cons (λ byte. byte ≢ 32) 45 (49 ∷ []) (λ e. omega arith) (one_unbroken 49 (λ e. omega arith)) }
+IsField-push None =
+    record {
+      some = omega arith;
+      unbroken = All-cons (λ byte. byte ≢ 32) 45 (49 ∷ []) (λ e. omega arith) (one_unbroken 49 (λ e. omega arith));
+    }
 IsField-push (Some file) = IsField-decimal file
 
 pub IsField-flag : (b : Bool) → IsField (flag_text b)
@@ -110,12 +119,14 @@ IsField-time_taken millis =
     record {
       some = omega arith;
       unbroken =
-          All-append IsNoBlank (codes "(" ++ decimal (seconds / 60) ++ codes ":" ++ two_digits_of (seconds % 60)) (codes ")")
+          All-append IsNoBlank (codes "(" ++ decimal (seconds / 60) ++ codes ":" ++ two_digits_of (seconds % 60))
+          (codes ")")
           (All-append IsNoBlank (codes "(" ++ decimal (seconds / 60) ++ codes ":") (two_digits_of (seconds % 60))
           (All-append IsNoBlank (codes "(" ++ decimal (seconds / 60)) (codes ":")
           (All-cons IsNoBlank 40 (decimal (seconds / 60)) (λ e. omega arith) (IsField-decimal (seconds / 60)).unbroken)
           (one_unbroken 58 (λ e. omega arith)))
-          (All-cons IsNoBlank (48 + seconds % 60 / 10) ((48 + seconds % 60 % 10) ∷ []) (λ e. omega arith) (one_unbroken (48 + seconds % 60 % 10) (λ e. omega arith))))
+          (All-cons IsNoBlank (48 + seconds % 60 / 10) ((48 + seconds % 60 % 10) ∷ []) (λ e. omega arith)
+          (one_unbroken (48 + seconds % 60 % 10) (λ e. omega arith))))
           (one_unbroken 41 (λ e. omega arith));
     }
 
@@ -128,16 +139,21 @@ pub record HasUnbrokenParts (v : BoardView) : Type 0 where
 
 IsField-ranks : (men : List (Option Man)) → All IsField (ranks men)
 unfolding ranks
-IsField-ranks men = All-map IsField (rank_text men) (7 ∷ 6 ∷ 5 ∷ 4 ∷ 3 ∷ 2 ∷ 1 ∷ 0 ∷ []) (λ k d within. IsField-rank men _)
+IsField-ranks men =
+    All-map IsField (rank_text men) (7 ∷ 6 ∷ 5 ∷ 4 ∷ 3 ∷ 2 ∷ 1 ∷ 0 ∷ []) (λ k d within. IsField-rank men _)
 
 IsField-position : (face : Face) → All IsField (position_fields face)
 unfolding position_fields castle_flags ranks
 IsField-position face =
-    let rest : List (List ℕ) = colour_to_move face.to_move ∷ double_push face.push ∷ castle_flags face.rights ++ decimal face.quiet ∷ [] in
+    let rest : List (List ℕ) =
+    colour_to_move face.to_move ∷ double_push face.push ∷ castle_flags face.rights ++ decimal face.quiet ∷ [] in
     All-append IsField (ranks face.men) rest (IsField-ranks face.men)
     (All-from_recursion IsField rest (
       IsField-colour face.to_move,
-      (IsField-push face.push, (IsField-flag _, (IsField-flag _, (IsField-flag _, (IsField-flag _, (IsField-decimal face.quiet, tt)))))),
+      (
+        IsField-push face.push,
+        (IsField-flag _, (IsField-flag _, (IsField-flag _, (IsField-flag _, (IsField-decimal face.quiet, tt))))),
+      ),
     ))
 
 IsField-game : (v : BoardView) (who : Viewer) → HasUnbrokenParts v → All IsField (game_fields v who)
@@ -178,13 +194,16 @@ IsField-moves v who h =
 IsField-first : IsField (codes "<12>")
 IsField-first = record {
   some = omega arith;
-  unbroken = All-from_recursion (λ byte. byte ≢ 32) (codes "<12>") (λ e. omega arith, (λ e. omega arith, (λ e. omega arith, (λ e. omega arith, tt))));
+  unbroken =
+      All-from_recursion (λ byte. byte ≢ 32)
+      (codes "<12>") (λ e. omega arith, (λ e. omega arith, (λ e. omega arith, (λ e. omega arith, tt))));
 }
 
 pub All-fields_of : (v : BoardView) (who : Viewer) → HasUnbrokenParts v → All IsField (fields_of v who)
 unfolding fields_of
 All-fields_of v who h =
-    All-append IsField (codes "<12>" ∷ position_fields v.face ++ game_fields v who ++ strength_fields v) (move_fields v who)
+    All-append IsField (codes "<12>" ∷ position_fields v.face ++ game_fields v who ++ strength_fields v)
+    (move_fields v who)
     (All-append IsField (codes "<12>" ∷ position_fields v.face ++ game_fields v who) (strength_fields v)
     (All-append IsField (codes "<12>" ∷ position_fields v.face) (game_fields v who)
     (All-cons IsField (codes "<12>") (position_fields v.face) IsField-first (IsField-position v.face))
@@ -197,7 +216,8 @@ unfolding fields_of position_fields ranks castle_flags game_fields strength_fiel
 length-fields_of v who = refl
 
 -- a line is cut into its fields
-pub cut-line12_text : (v : BoardView) (who : Viewer) → HasUnbrokenParts v → cut_at_blanks (line12_text v who) ≡ fields_of v who
+pub cut-line12_text : (v : BoardView) (who : Viewer) → HasUnbrokenParts v
+    → cut_at_blanks (line12_text v who) ≡ fields_of v who
 unfolding line12_text
 cut-line12_text v who h =
     let count = length-fields_of v who in

@@ -5,11 +5,15 @@ use Rattle.std.proofs.lemmas.List.{length-drop, get_or-drop}
 use Rattle.chess_model.specs.declared.man.Man.{Man}
 use Rattle.style12_writer.specs.Board.{square_letter, rank_text}
 
-first_eight : (ys : List (Option Man)) → 8 ≤ length ys → take 8 ys ≡ get_or ys 0 None ∷ get_or ys 1 None ∷ get_or ys 2 None ∷ get_or ys 3 None ∷ get_or ys 4 None ∷ get_or ys 5 None ∷ get_or ys 6 None ∷ get_or ys 7 None ∷ []
+first_eight : (ys : List (Option Man)) → 8 ≤ length ys
+    → take 8 ys
+    ≡ get_or ys 0 None ∷ get_or ys 1 None ∷ get_or ys 2 None ∷ get_or ys 3 None ∷ get_or ys 4 None ∷ get_or ys 5 None
+    ∷ get_or ys 6 None ∷ get_or ys 7 None ∷ []
 first_eight (a ∷ b ∷ c ∷ d ∷ e ∷ f ∷ g ∷ h ∷ rest) enough = refl
 first_eight ys short = absurd (omega arith)
 
-pub letters-slice_range : (men : List (Option Man)) (rank : ℕ) → rank < 8 → length men ≡ 64 → map square_letter (slice_range men (8 * rank) (8 * rank + 8)) ≡ rank_text men rank
+pub letters-slice_range : (men : List (Option Man)) (rank : ℕ) → rank < 8 → length men ≡ 64
+    → map square_letter (slice_range men (8 * rank) (8 * rank + 8)) ≡ rank_text men rank
 unfolding rank_text
 letters-slice_range men rank within whole =
     let eight : 8 * rank + 8 - 8 * rank ≡ 8 = omega arith in

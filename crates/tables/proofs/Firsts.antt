@@ -23,7 +23,8 @@ pub find-absent : {X : Type 0} (p : X → Bool) (xs : List X) → list_any p xs 
 find-absent p xs absent = none_found (find p xs) (find p xs) refl (is_some-find p xs ∙ absent)
 
 -- as many items as before
-pub length-change_first : {X : Type 0} (p : X → Bool) (f : X → X) (xs : List X) → length (change_first p f xs) ≡ length xs
+pub length-change_first : {X : Type 0} (p : X → Bool) (f : X → X) (xs : List X)
+    → length (change_first p f xs) ≡ length xs
 length-change_first p f [] = refl
 length-change_first p f (x ∷ xs) =
     elim (p x) as (λ t. length (cond t (f x ∷ xs) (x ∷ change_first p f xs)) ≡ suc (length xs)) [
@@ -32,10 +33,12 @@ length-change_first p f (x ∷ xs) =
     ]
 
 -- where no item passes, none is changed
-pub change_first-none : {X : Type 0} (test : X → Bool) (f : X → X) (xs : List X) → find test xs ≡ None → change_first test f xs ≡ xs
+pub change_first-none : {X : Type 0} (test : X → Bool) (f : X → X) (xs : List X) → find test xs ≡ None
+    → change_first test f xs ≡ xs
 change_first-none test f [] none = refl
 change_first-none test f (x ∷ xs) none =
-    elim (test x) as (λ t. cond t (Some x) (find test xs) ≡ None → cond t (f x ∷ xs) (x ∷ change_first test f xs) ≡ x ∷ xs) [
+    elim (test x)
+    as (λ t. cond t (Some x) (find test xs) ≡ None → cond t (f x ∷ xs) (x ∷ change_first test f xs) ≡ x ∷ xs) [
       | true ↦ λ h. absurd (none-some _ (sym h))
       | false ↦ λ h. ap (λ l. x ∷ l) (change_first-none test f xs h)
     ] none

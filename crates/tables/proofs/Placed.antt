@@ -25,21 +25,27 @@ find-found p xs i e = find_at p xs ∙ ap (slice_get xs) (cond_some _ (position_
 pub find-missing : {X : Type 0} (p : X → Bool) (xs : List X) → position p xs ≡ None → find p xs ≡ None
 find-missing p xs e = find_at p xs ∙ slice_get_past xs _ (ltb-false _ _ (none_by_test _ (position_or_len p xs) e))
 
-change_at-first : {X : Type 0} (p : X → Bool) (f : X → X) (xs : List X) → change_at (position_or_len p xs) f xs ≡ change_first p f xs
+change_at-first : {X : Type 0} (p : X → Bool) (f : X → X) (xs : List X)
+    → change_at (position_or_len p xs) f xs ≡ change_first p f xs
 change_at-first p f [] = refl
 change_at-first p f (x ∷ xs) =
     let next : 1 + position_or_len p xs ≡ suc (position_or_len p xs) = omega arith in
-    elim (p x) as (λ t. change_at (cond (not t) (1 + position_or_len p xs) 0) f (x ∷ xs) ≡ cond t (f x ∷ xs) (x ∷ change_first p f xs)) [
+    elim (p x)
+    as (λ t.
+    change_at (cond (not t) (1 + position_or_len p xs) 0) f (x ∷ xs) ≡ cond t (f x ∷ xs) (x ∷ change_first p f xs)) [
       | true ↦ refl
       | false ↦ ap (λ n. change_at n f (x ∷ xs)) next ∙ ap (λ l. x ∷ l) (change_at-first p f xs)
     ]
 
 -- a change at its place is a change of it
-pub changed_at : {X : Type 0} (p : X → Bool) (f : X → X) (xs : List X) (i : ℕ) → position p xs ≡ Some i → change_at i f xs ≡ change_first p f xs
-changed_at p f xs i e = ap (λ n. change_at n f xs) (sym (cond_some _ (position_or_len p xs) i e).1) ∙ change_at-first p f xs
+pub changed_at : {X : Type 0} (p : X → Bool) (f : X → X) (xs : List X) (i : ℕ) → position p xs ≡ Some i
+    → change_at i f xs ≡ change_first p f xs
+changed_at p f xs i e =
+    ap (λ n. change_at n f xs) (sym (cond_some _ (position_or_len p xs) i e).1) ∙ change_at-first p f xs
 
 -- what is read of it
-pub part_found : {X P : Type 0} (p : X → Bool) (part : X → P) (xs : List X) (i : ℕ) (now : P) → position p xs ≡ Some i → ((x : X) → slice_get xs i ≡ Some x → now ≡ part x) → Some now ≡ option_map part (find p xs)
+pub part_found : {X P : Type 0} (p : X → Bool) (part : X → P) (xs : List X) (i : ℕ) (now : P) → position p xs ≡ Some i
+    → ((x : X) → slice_get xs i ≡ Some x → now ≡ part x) → Some now ≡ option_map part (find p xs)
 part_found {X} p part [] i now e reads = absurd (omega (arith, position-within p [] i e))
 part_found {X} p part (y ∷ ys) i now e reads =
     let at = slice_get-get_or (y ∷ ys) i y (position-within p (y ∷ ys) i e) in

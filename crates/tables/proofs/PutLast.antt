@@ -54,7 +54,8 @@ module _ {K X : Type 0} (eq : K → K → Bool) (one : (k other : K) → eq k ot
       ap (λ t. cond (not t) (e ∷ others es) (others es)) apart.0 ∙ ap (λ l. e ∷ l) (all_others es apart.1)
 
   -- what was entered stands at that place among the others
-  entered : (es : List (K × X)) → IsDistinct eq (keys_of es) → insert_entry eq es k v ≡ insert (others es) (place es) (k, v)
+  entered : (es : List (K × X)) → IsDistinct eq (keys_of es)
+      → insert_entry eq es k v ≡ insert (others es) (place es) (k, v)
   unfolding IsDistinct
   entered [] apart = refl
   entered (e ∷ es) apart =
@@ -62,7 +63,8 @@ module _ {K X : Type 0} (eq : K → K → Bool) (one : (k other : K) → eq k ot
       ≡ insert (cond (not t) (e ∷ others es) (others es)) (cond (not t) (1 + place es) 0) (k, v)) [
         | true ↦ λ same.
             let is = one k e.0 same in
-            let rest = all_others es (subst (λ k. AllByRecursion (λ other. eq k other ≡ false) (keys_of es)) (sym is) apart.0) in
+            let rest =
+            all_others es (subst (λ k. AllByRecursion (λ other. eq k other ≡ false) (keys_of es)) (sym is) apart.0) in
             (λ j. (sym is j, v) ∷ sym rest j) ∙ sym (front (k, v) (others es))
         | false ↦ λ _.
             let next : suc (place es) ≡ 1 + place es = omega arith in
@@ -86,14 +88,18 @@ module _ {K X : Type 0} (eq : K → K → Bool) (one : (k other : K) → eq k ot
   fewer [] within = absurd (omega (arith, within))
   fewer (e ∷ es) within =
       let all = few es in
-      elim (eq k e.0) as (λ t. cond (not t) (1 + place es) 0 < suc (length es) → length (cond (not t) (e ∷ others es) (others es)) < suc (length es)) [
+      elim (eq k e.0)
+      as (λ t.
+      cond (not t) (1 + place es) 0 < suc (length es)
+      → length (cond (not t) (e ∷ others es) (others es)) < suc (length es)) [
         | true ↦ λ _. omega (arith, all)
         | false ↦ λ h. let rest = fewer es (omega (arith, h)) in omega (arith, rest)
       ] within
 
   end-behind : (es : List (K × X)) → length (others es) ≤ index_before (place es) (length es)
   end-behind es =
-      elim (ltb (place es) (length es)) as (λ t. ltb (place es) (length es) ≡ t → length (others es) ≤ cond t (length es - 1) (length es)) [
+      elim (ltb (place es) (length es))
+      as (λ t. ltb (place es) (length es) ≡ t → length (others es) ≤ cond t (length es - 1) (length es)) [
         | true ↦ λ h. let less = fewer es (ltb-true _ _ h) in omega (arith, less)
         | false ↦ λ _. few es
       ] refl
@@ -105,13 +111,17 @@ module _ {K X : Type 0} (eq : K → K → Bool) (one : (k other : K) → eq k ot
       ∙ to_end (k, v) (others es) (place es) (index_before (place es) (length es)) (place-within es) (end-behind es)
 
 -- a row behind the others, in place of the one that has its key
-pub put_last-keyed : {K T S : Type 0} (key_of : T → K) (eq : K → K → Bool) (m : IndexMap K T S) (rows : List T) (row : T) (k : K) (end to : ℕ)
+pub put_last-keyed : {K T S : Type 0} (key_of : T → K) (eq : K → K → Bool) (m : IndexMap K T S) (rows : List T)
+    (row : T) (k : K) (end to : ℕ)
     → ((k other : K) → eq k other ≡ true → k ≡ other) → IsUnique eq m → k ≡ key_of row → keyed key_of rows ≡ m.entries
     → end ≡ length m.entries → to ≡ index_before (insert_index eq m k) end
-    → move_index (insert_entry eq m.entries k row) (insert_index eq m k) to ≡ keyed key_of (filter (λ other. not (has_key key_of eq (key_of row) other)) rows ++ row ∷ [])
+    → move_index (insert_entry eq m.entries k row) (insert_index eq m k) to
+    ≡ keyed key_of (filter (λ other. not (has_key key_of eq (key_of row) other)) rows ++ row ∷ [])
 put_last-keyed key_of eq m rows row k end to one apart is same all at =
-    ap (move_index (insert_entry eq m.entries k row) (insert_index eq m k)) (at ∙ ap (index_before (insert_index eq m k)) all)
+    ap (move_index (insert_entry eq m.entries k row) (insert_index eq m k))
+    (at ∙ ap (index_before (insert_index eq m k)) all)
     ∙ last eq one k row m.entries apart
     ∙ (λ j. filter (λ e. not (eq (is j) e.0)) (sym same j) ++ (is j, row) ∷ [])
     ∙ ap (λ l. l ++ (key_of row, row) ∷ []) (filter_keys key_of (λ other. not (eq (key_of row) other)) rows)
-    ∙ sym (map-append (λ row. (key_of row, row)) (filter (λ other. not (eq (key_of row) (key_of other))) rows) (row ∷ []))
+    ∙ sym
+    (map-append (λ row. (key_of row, row)) (filter (λ other. not (eq (key_of row) (key_of other))) rows) (row ∷ []))

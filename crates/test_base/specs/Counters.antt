@@ -41,7 +41,8 @@ first_in xs Left w = omega arith
 first_in xs Right w = omega arith
 first_in xs Both w = omega arith
 
-pub second_in : (xs : List ℕ) (a : Bump) (s : ℕ) → length xs ≡ 2 → second_of a ≡ Some s → (s < length xs) × (s ≢ first_of a)
+pub second_in : (xs : List ℕ) (a : Bump) (s : ℕ) → length xs ≡ 2 → second_of a ≡ Some s
+    → (s < length xs) × (s ≢ first_of a)
 second_in xs Left s w e = absurd cc
 second_in xs Right s w e = absurd cc
 second_in xs Both s w e = let h : 1 ≡ s = cc in (omega arith, λ z. omega arith)

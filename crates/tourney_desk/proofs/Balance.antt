@@ -25,12 +25,17 @@ black_off a pair p q = ap (λ t. cond t 1 0) (ne_eqb pair.1 a q)
 
 -- the value of the pair of the two, whether the first has White or not
 pair_of : (n i j : ℕ) (f : ℕ × ℕ → ℕ) → f (as_pair n (i, j)) ≡ cond (first_is_white n (i, j)) (f (i, j)) (f (j, i))
-pair_of n i j f = elim (first_is_white n (i, j)) as (λ t. f (cond t (i, j) (j, i)) ≡ cond t (f (i, j)) (f (j, i))) [ true ↦ refl | false ↦ refl ]
+pair_of n i j f =
+    elim (first_is_white n (i, j)) as (λ t. f (cond t (i, j) (j, i)) ≡ cond t (f (i, j)) (f (j, i))) [
+      | true ↦ refl
+      | false ↦ refl
+    ]
 
 -- the value of two whose lesser number is the player's, and of two whose greater number is
 white_first : (n a k : ℕ) → pair_value (whites a) n a k ≡ cond (ltb a k) (cond (first_is_white n (a, k)) 1 0) 0
 white_first n a k =
-    elim (ltb a k) as (λ t. ltb a k ≡ t → cond t (whites a (as_pair n (a, k))) 0 ≡ cond t (cond (first_is_white n (a, k)) 1 0) 0) [
+    elim (ltb a k)
+    as (λ t. ltb a k ≡ t → cond t (whites a (as_pair n (a, k))) 0 ≡ cond t (cond (first_is_white n (a, k)) 1 0) 0) [
       | true ↦ λ e.
           let less : a < k = ltb-true a k e in
           pair_of n a k (whites a)
@@ -41,7 +46,8 @@ white_first n a k =
 
 white_second : (n a k : ℕ) → pair_value (whites a) n k a ≡ cond (ltb k a) (cond (first_is_white n (k, a)) 0 1) 0
 white_second n a k =
-    elim (ltb k a) as (λ t. ltb k a ≡ t → cond t (whites a (as_pair n (k, a))) 0 ≡ cond t (cond (first_is_white n (k, a)) 0 1) 0) [
+    elim (ltb k a)
+    as (λ t. ltb k a ≡ t → cond t (whites a (as_pair n (k, a))) 0 ≡ cond t (cond (first_is_white n (k, a)) 0 1) 0) [
       | true ↦ λ e.
           let less : k < a = ltb-true k a e in
           pair_of n k a (whites a)
@@ -52,7 +58,8 @@ white_second n a k =
 
 black_first : (n a k : ℕ) → pair_value (blacks a) n a k ≡ cond (ltb a k) (cond (first_is_white n (a, k)) 0 1) 0
 black_first n a k =
-    elim (ltb a k) as (λ t. ltb a k ≡ t → cond t (blacks a (as_pair n (a, k))) 0 ≡ cond t (cond (first_is_white n (a, k)) 0 1) 0) [
+    elim (ltb a k)
+    as (λ t. ltb a k ≡ t → cond t (blacks a (as_pair n (a, k))) 0 ≡ cond t (cond (first_is_white n (a, k)) 0 1) 0) [
       | true ↦ λ e.
           let less : a < k = ltb-true a k e in
           pair_of n a k (blacks a)
@@ -63,7 +70,8 @@ black_first n a k =
 
 black_second : (n a k : ℕ) → pair_value (blacks a) n k a ≡ cond (ltb k a) (cond (first_is_white n (k, a)) 1 0) 0
 black_second n a k =
-    elim (ltb k a) as (λ t. ltb k a ≡ t → cond t (blacks a (as_pair n (k, a))) 0 ≡ cond t (cond (first_is_white n (k, a)) 1 0) 0) [
+    elim (ltb k a)
+    as (λ t. ltb k a ≡ t → cond t (blacks a (as_pair n (k, a))) 0 ≡ cond t (cond (first_is_white n (k, a)) 1 0) 0) [
       | true ↦ λ e.
           let less : k < a = ltb-true k a e in
           pair_of n k a (blacks a)
@@ -77,7 +85,8 @@ in_circle : (n i j : ℕ) → (j ≡ rounds_of n → ⊥) → first_is_white n (
 in_circle n i j circle = ap (λ t. cond t (not (is_odd i)) (is_odd (j - i))) (ne_eqb j (rounds_of n) circle)
 
 against_last : (n i : ℕ) → first_is_white n (i, rounds_of n) ≡ not (is_odd i)
-against_last n i = ap (λ t. cond t (not (is_odd i)) (is_odd (rounds_of n - i))) (eq-eqb (rounds_of n) (rounds_of n) refl)
+against_last n i =
+    ap (λ t. cond t (not (is_odd i)) (is_odd (rounds_of n - i))) (eq-eqb (rounds_of n) (rounds_of n) refl)
 
 -- ---- sums over the circle, with the last player or without
 
@@ -106,16 +115,20 @@ not_both true x y = refl
 not_both false x y = refl
 
 -- a sum of a player of the circle over those with greater numbers, where the first of two counts so
-above_circle : (n a x y : ℕ) → a < rounds_of n → total (rounds_of n) (λ k. cond (ltb a k) (cond (first_is_white n (a, k)) x y) 0)
+above_circle : (n a x y : ℕ) → a < rounds_of n
+    → total (rounds_of n) (λ k. cond (ltb a k) (cond (first_is_white n (a, k)) x y) 0)
     ≡ total (rounds_of n) (λ k. cond (ltb a k) (cond (is_odd (k - a)) x y) 0)
 above_circle n a x y low =
-    total-same (rounds_of n) (λ k. cond (ltb a k) (cond (first_is_white n (a, k)) x y) 0) (λ k. cond (ltb a k) (cond (is_odd (k - a)) x y) 0)
+    total-same (rounds_of n) (λ k. cond (ltb a k) (cond (first_is_white n (a, k)) x y) 0)
+    (λ k. cond (ltb a k) (cond (is_odd (k - a)) x y) 0)
     (λ k q. ap (λ t. cond (ltb a k) (cond t x y) 0) (in_circle n a k (λ e. omega (arith, e, q))))
 
-below_circle : (n a x y : ℕ) → a < rounds_of n → total (rounds_of n) (λ k. cond (ltb k a) (cond (first_is_white n (k, a)) x y) 0)
+below_circle : (n a x y : ℕ) → a < rounds_of n
+    → total (rounds_of n) (λ k. cond (ltb k a) (cond (first_is_white n (k, a)) x y) 0)
     ≡ total (rounds_of n) (λ k. cond (ltb k a) (cond (is_odd (a - k)) x y) 0)
 below_circle n a x y low =
-    total-same (rounds_of n) (λ k. cond (ltb k a) (cond (first_is_white n (k, a)) x y) 0) (λ k. cond (ltb k a) (cond (is_odd (a - k)) x y) 0)
+    total-same (rounds_of n) (λ k. cond (ltb k a) (cond (first_is_white n (k, a)) x y) 0)
+    (λ k. cond (ltb k a) (cond (is_odd (a - k)) x y) 0)
     (λ k q. ap (λ t. cond (ltb k a) (cond t x y) 0) (in_circle n k a (λ e. omega (arith, e, low))))
 
 -- two numbers differ by at most 1
@@ -132,12 +145,14 @@ halved x d y none e = omega arith
 halved_more : (x d y : ℕ) → d ≡ 0 → x + (d + 1) / 2 ≡ y → x ≡ y
 halved_more x d y none e = omega arith
 
-sides : (wu wd bu bd wl bl w b p q r s : ℕ) → w ≡ wu + wl + (wd + 0) → b ≡ bu + bl + (bd + 0) → wu ≡ p → bu ≡ r → wd ≡ q → bd ≡ s → p + q ≡ r + s
+sides : (wu wd bu bd wl bl w b p q r s : ℕ) → w ≡ wu + wl + (wd + 0) → b ≡ bu + bl + (bd + 0) → wu ≡ p → bu ≡ r → wd ≡ q
+    → bd ≡ s → p + q ≡ r + s
     → wl ≤ 1 → bl ≤ 1 → AreClose w b
 sides wu wd bu bd wl bl w b p q r s e1 e2 e3 e4 e5 e6 e7 lw lb = (omega arith, omega arith)
 
 close : (m a half : ℕ) → m ≡ half + half + 1 → a < m → (wu wd bu bd wu' wd' bu' bd' wl bl w b : ℕ)
-    → w ≡ wu + wd → b ≡ bu + bd → wu' ≡ (m - a) / 2 → bu' ≡ (m - a - 1) / 2 → wd' + (a - m) / 2 ≡ a / 2 → bd' + (a - m + 1) / 2 ≡ (a + 1) / 2
+    → w ≡ wu + wd → b ≡ bu + bd → wu' ≡ (m - a) / 2 → bu' ≡ (m - a - 1) / 2 → wd' + (a - m) / 2 ≡ a / 2
+    → bd' + (a - m + 1) / 2 ≡ (a + 1) / 2
     → wu ≡ wu' + wl → bu ≡ bu' + bl → wd ≡ wd' + 0 → bd ≡ bd' + 0 → wl ≤ 1 → bl ≤ 1 → AreClose w b
 close m a half odd low wu wd bu bd wu' wd' bu' bd' wl bl w b e1 e2 e3 e4 e5 e6 e7 e8 e9 e10 q r =
     let none : a - m ≡ 0 = omega (arith, low) in
@@ -145,7 +160,8 @@ close m a half odd low wu wd bu bd wu' wd' bu' bd' wl bl w b e1 e2 e3 e4 e5 e6 e
     let wd_is : wd' ≡ a / 2 = halved wd' (a - m) (a / 2) none e5 in
     let bd_is : bd' ≡ (a + 1) / 2 = halved_more bd' (a - m) ((a + 1) / 2) none e6 in
     sides wu' wd' bu' bd' wl bl w b ((m - a) / 2) (a / 2) ((m - a - 1) / 2) ((a + 1) / 2)
-    (e1 ∙ ap (λ x. x + wd) e7 ∙ ap (λ x. wu' + wl + x) e9) (e2 ∙ ap (λ x. x + bd) e8 ∙ ap (λ x. bu' + bl + x) e10) e3 e4 wd_is bd_is split q r
+    (e1 ∙ ap (λ x. x + wd) e7 ∙ ap (λ x. wu' + wl + x) e9) (e2 ∙ ap (λ x. x + bd) e8 ∙ ap (λ x. bu' + bl + x) e10) e3 e4
+    wd_is bd_is split q r
 
 halves : (m w b : ℕ) → w ≡ m / 2 → b ≡ (m + 1) / 2 → AreClose w b
 halves m w b e f = (omega arith, omega arith)
@@ -160,11 +176,13 @@ circle_close n a joined low =
     let b_down : ℕ → ℕ = λ k. cond (ltb k a) (cond (first_is_white n (k, a)) 1 0) 0 in
     let w : white_games n a ≡ total n w_up + total n w_down =
     sum_of_player n a (whites a) joined (white_off a)
-    ∙ ap (λ t. t + total n (λ k. pair_value (whites a) n k a)) (total-same n (λ k. pair_value (whites a) n a k) w_up (λ k q. white_first n a k))
+    ∙ ap (λ t. t + total n (λ k. pair_value (whites a) n k a))
+    (total-same n (λ k. pair_value (whites a) n a k) w_up (λ k q. white_first n a k))
     ∙ ap (λ t. total n w_up + t) (total-same n (λ k. pair_value (whites a) n k a) w_down (λ k q. white_second n a k)) in
     let b : black_games n a ≡ total n b_up + total n b_down =
     sum_of_player n a (blacks a) joined (black_off a)
-    ∙ ap (λ t. t + total n (λ k. pair_value (blacks a) n k a)) (total-same n (λ k. pair_value (blacks a) n a k) b_up (λ k q. black_first n a k))
+    ∙ ap (λ t. t + total n (λ k. pair_value (blacks a) n k a))
+    (total-same n (λ k. pair_value (blacks a) n a k) b_up (λ k q. black_first n a k))
     ∙ ap (λ t. total n b_up + t) (total-same n (λ k. pair_value (blacks a) n k a) b_down (λ k q. black_second n a k)) in
     let w_up_is : total m w_up ≡ (m - a) / 2 = above_circle n a 1 0 low ∙ odd_above a m in
     let b_up_is : total m b_up ≡ (m - a - 1) / 2 = above_circle n a 0 1 low ∙ even_above a m in
@@ -174,8 +192,10 @@ circle_close n a joined low =
     ap (λ t. t + (a - m + 1) / 2) (below_circle n a 1 0 low) ∙ odd_below a m in
     let w_up_all : total n w_up ≡ total m w_up + cond (ltb m n) (w_up m) 0 = with_last n m w_up are.most are.least in
     let b_up_all : total n b_up ≡ total m b_up + cond (ltb m n) (b_up m) 0 = with_last n m b_up are.most are.least in
-    let w_down_all : total n w_down ≡ total m w_down + cond (ltb m n) (w_down m) 0 = with_last n m w_down are.most are.least in
-    let b_down_all : total n b_down ≡ total m b_down + cond (ltb m n) (b_down m) 0 = with_last n m b_down are.most are.least in
+    let w_down_all : total n w_down ≡ total m w_down + cond (ltb m n) (w_down m) 0 =
+    with_last n m w_down are.most are.least in
+    let b_down_all : total n b_down ≡ total m b_down + cond (ltb m n) (b_down m) 0 =
+    with_last n m b_down are.most are.least in
     let w_last : cond (ltb m n) (w_up m) 0 ≤ 1 = (one_at_most (ltb m n) (ltb a m) (first_is_white n (a, m))).0 in
     let b_last : cond (ltb m n) (b_up m) 0 ≤ 1 = (one_at_most (ltb m n) (ltb a m) (first_is_white n (a, m))).1 in
     let flat : ltb m a ≡ false = le-ltb m a (omega arith) in
@@ -183,7 +203,8 @@ circle_close n a joined low =
     ap (λ t. cond (ltb m n) (cond t (cond (first_is_white n (m, a)) 0 1) 0) 0) flat ∙ nothing (ltb m n) 0 refl in
     let b_none : cond (ltb m n) (b_down m) 0 ≡ 0 =
     ap (λ t. cond (ltb m n) (cond t (cond (first_is_white n (m, a)) 1 0) 0) 0) flat ∙ nothing (ltb m n) 0 refl in
-    close m a are.half are.odd low (total n w_up) (total n w_down) (total n b_up) (total n b_down) (total m w_up) (total m w_down) (total m b_up) (total m b_down)
+    close m a are.half are.odd low (total n w_up) (total n w_down) (total n b_up) (total n b_down) (total m w_up)
+    (total m w_down) (total m b_up) (total m b_down)
     (cond (ltb m n) (w_up m) 0) (cond (ltb m n) (b_up m) 0) (white_games n a) (black_games n a) w b
     w_up_is b_up_is w_down_is b_down_is w_up_all b_up_all
     (w_down_all ∙ ap (λ t. total m w_down + t) w_none) (b_down_all ∙ ap (λ t. total m b_down + t) b_none) w_last b_last
@@ -198,11 +219,15 @@ last_close n a joined last =
     sum_of_player n a (blacks a) joined (black_off a) in
     let none_above : (k : ℕ) → k < n → ltb a k ≡ false = λ k q. le-ltb a k (omega (arith, last, are.least, q)) in
     let w_none : total n (λ k. pair_value (whites a) n a k) ≡ 0 =
-    total-zero n (λ k. pair_value (whites a) n a k) (λ k q. ap (λ t. cond t (whites a (as_pair n (a, k))) 0) (none_above k q)) in
+    total-zero n (λ k. pair_value (whites a) n a k)
+    (λ k q. ap (λ t. cond t (whites a (as_pair n (a, k))) 0) (none_above k q)) in
     let b_none : total n (λ k. pair_value (blacks a) n a k) ≡ 0 =
-    total-zero n (λ k. pair_value (blacks a) n a k) (λ k q. ap (λ t. cond t (blacks a (as_pair n (a, k))) 0) (none_above k q)) in
+    total-zero n (λ k. pair_value (blacks a) n a k)
+    (λ k q. ap (λ t. cond t (blacks a (as_pair n (a, k))) 0) (none_above k q)) in
     let colour : (k x y : ℕ) → cond (first_is_white n (k, a)) x y ≡ cond (is_odd k) y x =
-    λ k x y. ap (λ j. cond (first_is_white n (k, j)) x y) last ∙ ap (λ t. cond t x y) (against_last n k) ∙ not_both (is_odd k) x y in
+    λ k x y.
+    ap (λ j. cond (first_is_white n (k, j)) x y) last ∙ ap (λ t. cond t x y) (against_last n k)
+    ∙ not_both (is_odd k) x y in
     let below : (k : ℕ) → k < m → ltb k a ≡ true = λ k q. lt-ltb k a (omega (arith, last, q)) in
     let beside : (f : ℕ → ℕ) → f m ≡ 0 → total n f ≡ total m f =
     λ f e.
@@ -220,8 +245,12 @@ last_close n a joined last =
     ∙ total-same m (λ k. pair_value (blacks a) n k a) one_even
     (λ k q. black_second n a k ∙ ap (λ t. cond t (cond (first_is_white n (k, a)) 1 0) 0) (below k q) ∙ colour k 1 0)
     ∙ even_numbers m in
-    let w' : white_games n a ≡ m / 2 = w ∙ ap (λ t. t + total n (λ k. pair_value (whites a) n k a)) w_none ∙ (let e : 0 + total n (λ k. pair_value (whites a) n k a) ≡ m / 2 = omega (arith, w_is) in e) in
-    let b' : black_games n a ≡ (m + 1) / 2 = b ∙ ap (λ t. t + total n (λ k. pair_value (blacks a) n k a)) b_none ∙ (let e : 0 + total n (λ k. pair_value (blacks a) n k a) ≡ (m + 1) / 2 = omega (arith, b_is) in e) in
+    let w' : white_games n a ≡ m / 2 =
+    w ∙ ap (λ t. t + total n (λ k. pair_value (whites a) n k a)) w_none
+    ∙ (let e : 0 + total n (λ k. pair_value (whites a) n k a) ≡ m / 2 = omega (arith, w_is) in e) in
+    let b' : black_games n a ≡ (m + 1) / 2 =
+    b ∙ ap (λ t. t + total n (λ k. pair_value (blacks a) n k a)) b_none
+    ∙ (let e : 0 + total n (λ k. pair_value (blacks a) n k a) ≡ (m + 1) / 2 = omega (arith, b_is) in e) in
     halves m (white_games n a) (black_games n a) w' b'
 
 colours_close : (n a : ℕ) → a < n → AreClose (white_games n a) (black_games n a)

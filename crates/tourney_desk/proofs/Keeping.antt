@@ -30,22 +30,30 @@ small n w b few is = (omega (arith, is.white, few), omega (arith, is.black, few)
 -- all players of results have numbers below 64
 are_small : (n : ℕ) (reports : List Report) → 0 < n → n ≤ 64 → All (IsGame n) reports → All IsSmall reports
 are_small n reports some few h =
-    All-weaker (IsGame n) IsSmall (λ report is. small n report.white report.black few (are_paired n report.white report.black some is)) reports h
+    All-weaker (IsGame n) IsSmall
+    (λ report is. small n report.white report.black few (are_paired n report.white report.black some is)) reports h
 
 -- a game that has no result isn't one of the two who have one
-new_apart : (n : ℕ) (old : Report) (w b : ℕ) (score : Score) → 0 < n → IsGame n old → is_paired n w b ≡ true → is_of_game w b old ≡ false
+new_apart : (n : ℕ) (old : Report) (w b : ℕ) (score : Score) → 0 < n → IsGame n old → is_paired n w b ≡ true
+    → is_of_game w b old ≡ false
     → same_players old (record { white = w; black = b; score = score }) ≡ false
 new_apart n old w b score some game paired none =
     let now = are_paired n w b some paired in
-    or_from (is_of_game old.white old.black (record { white = w; black = b; score = score })) (is_of_game old.black old.white (record { white = w; black = b; score = score }))
+    or_from (is_of_game old.white old.black (record {
+      white = w;
+      black = b;
+      score = score;
+    })) (is_of_game old.black old.white (record { white = w; black = b; score = score }))
     (false_from_ne_true ((w == old.white) && (b == old.black)) (λ e.
     let both = and_parts (w == old.white) (b == old.black) e in
     both_ways (is_of_game w b old) none
-    (and_from (old.white == w) (old.black == b) (eq-eqb old.white w (sym (eqb-true w old.white both.0))) (eq-eqb old.black b (sym (eqb-true b old.black both.1))))))
+    (and_from (old.white == w) (old.black == b) (eq-eqb old.white w (sym (eqb-true w old.white both.0)))
+    (eq-eqb old.black b (sym (eqb-true b old.black both.1))))))
     (false_from_ne_true ((w == old.black) && (b == old.white)) (λ e.
     let both = and_parts (w == old.black) (b == old.white) e in
     let turned : is_paired n b w ≡ true =
-    ap (λ k. is_paired n k w) (eqb-true b old.white both.1) ∙ ap (λ k. is_paired n old.white k) (eqb-true w old.black both.0) ∙ game in
+    ap (λ k. is_paired n k w) (eqb-true b old.white both.1)
+    ∙ ap (λ k. is_paired n old.white k) (eqb-true w old.black both.0) ∙ game in
     both_ways (is_paired n b w) now.turned turned))
 
 -- the results with one more
@@ -55,27 +63,31 @@ module _ (t : TourneyState) (space : ℕ) (h : IsTourney t space) (started : t.s
   some = let two : 2 ≤ length t.players = h.enough started in omega (arith, two)
 
   added_games : All (IsGame (length t.players)) (t.results ++ record { white = w; black = b; score = score } ∷ [])
-  added_games = All-push (IsGame (length t.players)) t.results (record { white = w; black = b; score = score }) h.games paired
+  added_games =
+      All-push (IsGame (length t.players)) t.results (record { white = w; black = b; score = score }) h.games paired
 
   added_apart : AllPairs Apart (t.results ++ record { white = w; black = b; score = score } ∷ [])
   added_apart =
       all_pairs_push Apart t.results (record { white = w; black = b; score = score }) h.apart
       (λ k d q. new_apart (length t.players) (get_or t.results k d) w b score some
       (All-get_or (IsGame (length t.players)) t.results k d q h.games) paired
-      (All-get_or (λ (report : Report). is_of_game w b report ≡ false) t.results k d q (none_passes (is_of_game w b) t.results none)))
+      (All-get_or (λ (report : Report). is_of_game w b report ≡ false) t.results k d q
+      (none_passes (is_of_game w b) t.results none)))
 
   -- there is room for it
   pub has_room : 0 < space
   has_room =
       let most : length (t.results ++ record { white = w; black = b; score = score } ∷ []) ≤ 4096 =
       few_results (t.results ++ record { white = w; black = b; score = score } ∷ []) added_apart
-      (are_small (length t.players) (t.results ++ record { white = w; black = b; score = score } ∷ []) some h.few added_games) in
+      (are_small (length t.players) (t.results ++ record { white = w; black = b; score = score } ∷ []) some h.few
+      added_games) in
       let more : length (t.results ++ record { white = w; black = b; score = score } ∷ []) ≡ length t.results + 1 =
       length_push t.results (record { white = w; black = b; score = score }) in
       let all : 4096 ≤ length t.results + space = h.room started in
       omega (arith, most, more, all)
 
-  pub kept_report : IsTourney (record t { results = t.results ++ record { white = w; black = b; score = score } ∷ [] }) (space - 1)
+  pub kept_report : IsTourney (record t { results = t.results ++ record { white = w; black = b; score = score } ∷ [] })
+      (space - 1)
   kept_report =
       let more : length (t.results ++ record { white = w; black = b; score = score } ∷ []) ≡ length t.results + 1 =
       length_push t.results (record { white = w; black = b; score = score }) in
@@ -90,7 +102,8 @@ module _ (t : TourneyState) (space : ℕ) (h : IsTourney t space) (started : t.s
       }
 
 -- after the start nobody has more than 64 results
-pub games_few : (t : TourneyState) (space : ℕ) → IsTourney t space → t.started ≡ true → (player : ℕ) → count_by (has_player player) t.results ≤ 64
+pub games_few : (t : TourneyState) (space : ℕ) → IsTourney t space → t.started ≡ true → (player : ℕ)
+    → count_by (has_player player) t.results ≤ 64
 games_few t space h started player =
     let two : 2 ≤ length t.players = h.enough started in
     few_games player t.results h.apart (are_small (length t.players) t.results (omega (arith, two)) h.few h.games)

@@ -39,10 +39,12 @@ pair_told : (n i j w b : ℕ) → ((i ≡ w) × (j ≡ b)) ⊎ ((i ≡ b) × (j 
 pair_told n i j w b (inl e) apart =
     of_pair n (i, j) (λ pair. is_game w b pair ≡ eqb pair.0 w)
     (ap (λ t. eqb i w && t) (eq-eqb j b e.1) ∙ and-true (eqb i w))
-    (ap (λ t. t && eqb i b) (ne_eqb j w (λ same. apart (sym same ∙ e.1))) ∙ sym (ne_eqb j w (λ same. apart (sym same ∙ e.1))))
+    (ap (λ t. t && eqb i b) (ne_eqb j w (λ same. apart (sym same ∙ e.1)))
+    ∙ sym (ne_eqb j w (λ same. apart (sym same ∙ e.1))))
 pair_told n i j w b (inr e) apart =
     of_pair n (i, j) (λ pair. is_game w b pair ≡ eqb pair.0 w)
-    (ap (λ t. t && eqb j b) (ne_eqb i w (λ same. apart (sym same ∙ e.0))) ∙ sym (ne_eqb i w (λ same. apart (sym same ∙ e.0))))
+    (ap (λ t. t && eqb j b) (ne_eqb i w (λ same. apart (sym same ∙ e.0)))
+    ∙ sym (ne_eqb i w (λ same. apart (sym same ∙ e.0))))
     (ap (λ t. eqb j w && t) (eq-eqb i b e.0) ∙ and-true (eqb j w))
 
 bit_back : (t : Bool) → ltb 0 (cond t 1 0) ≡ t
@@ -50,22 +52,26 @@ bit_back true = refl
 bit_back false = refl
 
 -- the count of such pairs of two different players
-count_is : (n w b : ℕ) → w < n → b < n → (w ≡ b → ⊥) → count_by (is_game w b) (all_pairs n) ≡ pair_value (value w b) n w b + pair_value (value w b) n b w
+count_is : (n w b : ℕ) → w < n → b < n → (w ≡ b → ⊥)
+    → count_by (is_game w b) (all_pairs n) ≡ pair_value (value w b) n w b + pair_value (value w b) n b w
 count_is n w b p q apart =
     let f = value w b in
     let other : b ≡ w → ⊥ = λ e. apart (sym e) in
     sum_of_player n w f p (off_white w b)
     ∙ ap (λ t. t + total n (λ k. pair_value f n k w))
-    (total-single n (λ k. pair_value f n w k) b q (λ k r differs. nothing (ltb w k) (f (as_pair n (w, k))) (of_player n b f (off_black w b) w k apart differs)))
+    (total-single n (λ k. pair_value f n w k) b q
+    (λ k r differs. nothing (ltb w k) (f (as_pair n (w, k))) (of_player n b f (off_black w b) w k apart differs)))
     ∙ ap (λ t. pair_value f n w b + t)
-    (total-single n (λ k. pair_value f n k w) b q (λ k r differs. nothing (ltb k w) (f (as_pair n (k, w))) (of_player n b f (off_black w b) k w differs apart)))
+    (total-single n (λ k. pair_value f n k w) b q
+    (λ k r differs. nothing (ltb k w) (f (as_pair n (k, w))) (of_player n b f (off_black w b) k w differs apart)))
 
 -- two meet with these colours where White is the first of their pair
 pub paired_less : (n w b : ℕ) → b < n → w < b → is_paired n w b ≡ eqb (as_pair n (w, b)).0 w
 paired_less n w b q less =
     let f = value w b in
     let apart : w ≡ b → ⊥ = λ e. omega (arith, e, less) in
-    let first : pair_value f n w b ≡ f (as_pair n (w, b)) = ap (λ t. cond t (f (as_pair n (w, b))) 0) (lt-ltb w b less) in
+    let first : pair_value f n w b ≡ f (as_pair n (w, b)) =
+    ap (λ t. cond t (f (as_pair n (w, b))) 0) (lt-ltb w b less) in
     let second : pair_value f n b w ≡ 0 = ap (λ t. cond t (f (as_pair n (b, w))) 0) (le-ltb b w (omega arith)) in
     let sums : pair_value f n w b + pair_value f n b w ≡ f (as_pair n (w, b)) = omega (arith, first, second) in
     any-count (is_game w b) (all_pairs n) ∙ ap (ltb 0) (count_is n w b (omega arith) q apart ∙ sums)
@@ -76,13 +82,15 @@ paired_more n w b p more =
     let f = value w b in
     let apart : w ≡ b → ⊥ = λ e. omega (arith, e, more) in
     let first : pair_value f n w b ≡ 0 = ap (λ t. cond t (f (as_pair n (w, b))) 0) (le-ltb w b (omega arith)) in
-    let second : pair_value f n b w ≡ f (as_pair n (b, w)) = ap (λ t. cond t (f (as_pair n (b, w))) 0) (lt-ltb b w more) in
+    let second : pair_value f n b w ≡ f (as_pair n (b, w)) =
+    ap (λ t. cond t (f (as_pair n (b, w))) 0) (lt-ltb b w more) in
     let sums : pair_value f n w b + pair_value f n b w ≡ f (as_pair n (b, w)) = omega (arith, first, second) in
     any-count (is_game w b) (all_pairs n) ∙ ap (ltb 0) (count_is n w b p (omega arith) apart ∙ sums)
     ∙ bit_back (is_game w b (as_pair n (b, w))) ∙ pair_told n b w w b (inr (refl, refl)) apart
 
 -- two who have no such pair don't meet so
-unpaired : (n w b : ℕ) → 0 < n → ((i j : ℕ) → i < n → j < n → i < j → value w b (as_pair n (i, j)) ≡ 0) → is_paired n w b ≡ false
+unpaired : (n w b : ℕ) → 0 < n → ((i j : ℕ) → i < n → j < n → i < j → value w b (as_pair n (i, j)) ≡ 0)
+    → is_paired n w b ≡ false
 unpaired n w b some none =
     let f = value w b in
     let each : (i j : ℕ) → i < n → j < n → pair_value f n i j ≡ 0 =
@@ -91,15 +99,22 @@ unpaired n w b some none =
       | inr more ↦ ap (λ t. cond t (f (as_pair n (i, j))) 0) (le-ltb i j more)
     ] in
     any-count (is_game w b) (all_pairs n)
-    ∙ ap (ltb 0) (sum_by-all_pairs f n some ∙ total-zero n (λ i. total n (λ j. pair_value f n i j)) (λ i p. total-zero n (λ j. pair_value f n i j) (λ j q. each i j p q)))
+    ∙ ap (ltb 0)
+    (sum_by-all_pairs f n some
+    ∙ total-zero n (λ i. total n (λ j. pair_value f n i j))
+    (λ i p. total-zero n (λ j. pair_value f n i j) (λ j q. each i j p q)))
 
 pub unpaired_white : (n w b : ℕ) → 0 < n → n ≤ w → is_paired n w b ≡ false
 unpaired_white n w b some high =
-    unpaired n w b some (λ i j p q less. of_player n w (value w b) (off_white w b) i j (λ e. omega (arith, e, p, high)) (λ e. omega (arith, e, q, high)))
+    unpaired n w b some
+    (λ i j p q less.
+    of_player n w (value w b) (off_white w b) i j (λ e. omega (arith, e, p, high)) (λ e. omega (arith, e, q, high)))
 
 pub unpaired_black : (n w b : ℕ) → 0 < n → n ≤ b → is_paired n w b ≡ false
 unpaired_black n w b some high =
-    unpaired n w b some (λ i j p q less. of_player n b (value w b) (off_black w b) i j (λ e. omega (arith, e, p, high)) (λ e. omega (arith, e, q, high)))
+    unpaired n w b some
+    (λ i j p q less.
+    of_player n b (value w b) (off_black w b) i j (λ e. omega (arith, e, p, high)) (λ e. omega (arith, e, q, high)))
 
 twice : (i j w : ℕ) → i < j → value w w (i, j) ≡ 0
 twice i j w less =
@@ -117,7 +132,8 @@ twice_turned i j w less =
 
 pub unpaired_same : (n w : ℕ) → 0 < n → is_paired n w w ≡ false
 unpaired_same n w some =
-    unpaired n w w some (λ i j p q less. of_pair n (i, j) (λ pair. value w w pair ≡ 0) (twice i j w less) (twice_turned i j w less))
+    unpaired n w w some
+    (λ i j p q less. of_pair n (i, j) (λ pair. value w w pair ≡ 0) (twice i j w less) (twice_turned i j w less))
 
 -- what follows where two meet with these colours
 pub record ArePaired (n w b : ℕ) : Type 0 where
@@ -137,17 +153,22 @@ are_paired n w b some is =
       | inl white ↦ elim (cases_lt b n) as (λ _. ArePaired n w b) [
         | inr high ↦ absurd (let no : false ≡ true = sym (unpaired_black n w b some high) ∙ is in cc)
         | inl black ↦ elim (cases_order w b) as (λ _. ArePaired n w b) [
-          | inl same ↦ absurd (let no : false ≡ true = sym (unpaired_same n w some) ∙ ap (λ k. is_paired n w k) same ∙ is in cc)
+          | inl same ↦
+              absurd (let no : false ≡ true = sym (unpaired_same n w some) ∙ ap (λ k. is_paired n w k) same ∙ is in cc)
           | inr differ ↦ elim differ as (λ _. ArePaired n w b) [
             | inl less ↦ record {
               white = white;
               black = black;
-              turned = paired_more n b w black less ∙ not_turned n w b w b (λ e. omega (arith, e, less)) (sym (paired_less n w b black less) ∙ is);
+              turned =
+                  paired_more n b w black less
+                  ∙ not_turned n w b w b (λ e. omega (arith, e, less)) (sym (paired_less n w b black less) ∙ is);
             }
             | inr more ↦ record {
               white = white;
               black = black;
-              turned = paired_less n b w white more ∙ not_turned n b w w b (λ e. omega (arith, e, more)) (sym (paired_more n w b white more) ∙ is);
+              turned =
+                  paired_less n b w white more
+                  ∙ not_turned n b w w b (λ e. omega (arith, e, more)) (sym (paired_more n w b white more) ∙ is);
             }
           ]
         ]

@@ -72,7 +72,8 @@ same_double m half c k l odd q r e f =
 -- nobody meets two
 pub meets_one : (m half c a k l : ℕ) → m ≡ half + half + 1 → IsMet m c a k → IsMet m c a l → k ≡ l
 meets_one m half c a k l odd (InCircle p q apart e) (InCircle p' r other f) = same_sum m c a k l p q r e f
-meets_one m half c a k l odd (InCircle p q apart e) (WithLast p' r f) = absurd (apart (sym (same_sum m c a k a p q p e f)))
+meets_one m half c a k l odd (InCircle p q apart e) (WithLast p' r f) =
+    absurd (apart (sym (same_sum m c a k a p q p e f)))
 meets_one m half c a k l odd (InCircle p q apart e) (OfLast r q' f) = absurd (omega (arith, p, r))
 meets_one m half c a k l odd (WithLast p r e) (InCircle p' q other f) = absurd (other (same_sum m c a a l p p q e f))
 meets_one m half c a k l odd (WithLast p q e) (WithLast p' r f) = q ∙ sym r

@@ -49,7 +49,8 @@ starting t = record {
   after = record t { started = true };
 }
 
--- why the pairs of a round aren't told: before the start, and where there is no round of that number, which is 0 or above
+-- why the pairs of a round aren't told: before the start, and where there is no round of that number, which is 0 or
+-- above
 -- the number of rounds
 abbrev pub no_pairs : TourneyState → ℕ → List Cause
 no_pairs t round =

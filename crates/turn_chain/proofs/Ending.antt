@@ -25,7 +25,13 @@ module _ {P A R : Type 0} (c : Core P A R) (v : View P A R) (a : A) where
 
     module _ (single : c.second p v.number a ≡ None) where
       pub out_alone : AllOut c v a p None
-      out_alone = record { flies = ready.flies; pending = ready.pending; first = first_there; second = subst (λ o. SecondOut o None v.held) (sym single) refl }
+      out_alone =
+          record {
+            flies = ready.flies;
+            pending = ready.pending;
+            first = first_there;
+            second = subst (λ o. SecondOut o None v.held) (sym single) refl;
+          }
 
       module _ (w : View P A R) (told : Committed c v a p None w) where
         abbrev new : P
@@ -59,10 +65,13 @@ module _ {P A R : Type 0} (c : Core P A R) (v : View P A R) (a : A) where
                 own = sym told.own;
                 more = ap (λ (x : View P A R). x.made) told_view;
               } in
-              subst (λ x. HasRun c v a x u) (sym e) (subst (HasRun c v a (c.answer p None v.number a)) (sym back) at_end)
+              subst (λ x. HasRun c v a x u) (sym e)
+              (subst (HasRun c v a (c.answer p None v.number a)) (sym back) at_end)
 
   -- an act of two parts
-  module _ (law : Lawful c) (fits : c.fits a) (k : ℕ) (p : P) (s : ℕ) (q : P) (ready : Ready c v a ((s, q) ∷ (k, p) ∷ [])) (first : k ≡ c.first a) (second : c.second p v.number a ≡ Some s) where
+  module _ (law : Lawful c) (fits : c.fits a) (k : ℕ) (p : P) (s : ℕ) (q : P)
+      (ready : Ready c v a ((s, q) ∷ (k, p) ∷ [])) (first : k ≡ c.first a)
+      (second : c.second p v.number a ≡ Some s) where
     first_in_both : In (c.first a, p) v.held
     first_in_both = subst (λ m. In (m, p) v.held) first (subst (In (k, p)) (sym ready.out) (inr (inl refl)))
 
@@ -76,10 +85,17 @@ module _ {P A R : Type 0} (c : Core P A R) (v : View P A R) (a : A) where
     lent_both = (state c v.opening v.seen, s, ready.whole, first_value, second, ready.named s q second_in_both)
 
     pub second_differs : s ≢ k
-    second_differs e = (law.second_in (state c v.opening v.seen) v.number a p s ready.whole fits first_value second).1 (e ∙ first)
+    second_differs e =
+        (law.second_in (state c v.opening v.seen) v.number a p s ready.whole fits first_value second).1 (e ∙ first)
 
     pub out_both : AllOut c v a p (Some q)
-    out_both = record { flies = ready.flies; pending = ready.pending; first = first_in_both; second = subst (λ o. SecondOut o (Some q) v.held) (sym second) (q, refl, second_in_both) }
+    out_both =
+        record {
+          flies = ready.flies;
+          pending = ready.pending;
+          first = first_in_both;
+          second = subst (λ o. SecondOut o (Some q) v.held) (sym second) (q, refl, second_in_both);
+        }
 
     -- a part that is given back stays out of the way of the other
     pub second_left_in : (x y : P) (held : List (ℕ × P)) → held ≡ (s, x) ∷ (k, y) ∷ [] → let_go k held ≡ (s, x) ∷ []
@@ -94,7 +110,8 @@ module _ {P A R : Type 0} (c : Core P A R) (v : View P A R) (a : A) where
     -- after running out of memory
     pub named_again : (u : View P A R) → u ≡ given v k → (z : P) → z ≡ q → In (s, z) u.held
     named_again u e z is =
-        subst (In (s, z)) (sym (ap (λ (x : View P A R). x.held) e ∙ second_left_in q p v.held ready.out)) (inl (λ i. (s, is i)))
+        subst (In (s, z)) (sym (ap (λ (x : View P A R). x.held) e ∙ second_left_in q p v.held ready.out))
+        (inl (λ i. (s, is i)))
 
     module _ (w : View P A R) (told : Committed c v a p (Some q) w) where
       abbrev new_one : P
@@ -107,7 +124,9 @@ module _ {P A R : Type 0} (c : Core P A R) (v : View P A R) (a : A) where
       both_held =
           ap (λ (x : View P A R). x.held) told.view
           ∙ (ap (map (left_by c v.number a p (Some q))) ready.out
-          ∙ (λ i. (s, cond (ne_eqb s (c.first a) (λ e. second_differs (e ∙ sym first)) i) new_one new_two) ∷ (k, cond (eq-eqb k (c.first a) first i) new_one (c.two p q v.number a)) ∷ []))
+          ∙ (λ i.
+          (s, cond (ne_eqb s (c.first a) (λ e. second_differs (e ∙ sym first)) i) new_one new_two)
+          ∷ (k, cond (eq-eqb k (c.first a) first i) new_one (c.two p q v.number a)) ∷ []))
 
       pub named_first : (x : P) → x ≡ new_one → In (k, x) w.held
       named_first x e = subst (In (k, x)) (sym both_held) (inr (inl (λ i. (k, e i))))
@@ -115,7 +134,9 @@ module _ {P A R : Type 0} (c : Core P A R) (v : View P A R) (a : A) where
       module _ (t : View P A R) (back : t ≡ given w k) where
         pub named_second : (y : P) → y ≡ new_two → In (s, y) t.held
         named_second y e =
-            subst (In (s, y)) (sym (ap (λ (x : View P A R). x.held) back ∙ second_left_in new_two new_one w.held both_held)) (inl (λ i. (s, e i)))
+            subst (In (s, y))
+            (sym (ap (λ (x : View P A R). x.held) back ∙ second_left_in new_two new_one w.held both_held))
+            (inl (λ i. (s, e i)))
 
         module _ (u : View P A R) (all_back : u ≡ given t s) where
           u_is : u ≡ given (given w k) s
@@ -136,4 +157,5 @@ module _ {P A R : Type 0} (c : Core P A R) (v : View P A R) (a : A) where
                 own = sym told.own;
                 more = ap (λ (x : View P A R). x.made) told.view;
               } in
-              subst (λ x. HasRun c v a x u) (sym e) (subst (HasRun c v a (c.answer p (Some q) v.number a)) (sym u_is) at_end)
+              subst (λ x. HasRun c v a x u) (sym e)
+              (subst (HasRun c v a (c.answer p (Some q) v.number a)) (sym u_is) at_end)

@@ -26,7 +26,12 @@ pub record Since {P A R : Type 0} (v w : View P A R) : Type 0 where
 
 module _ {P A R : Type 0} where
   pub since_trans : (u v w : View P A R) → Since u v → Since v w → Since u w
-  since_trans u v w a b = record { begins = prefix_trans u.seen v.seen w.seen a.begins b.begins; made = b.made ∙ a.made; same = b.same ∙ a.same }
+  since_trans u v w a b =
+      record {
+        begins = prefix_trans u.seen v.seen w.seen a.begins b.begins;
+        made = b.made ∙ a.made;
+        same = b.same ∙ a.same;
+      }
 
 pub on_err : {T E : Type 0} (r : Result T E) (P : Type 0) → P → OnErr r P
 on_err (Ok x) P h = tt
@@ -36,18 +41,23 @@ module _ {P A R : Type 0} (c : Core P A R) where
   pub since_begun : (v w : View P A R) (a : A) → w ≡ begun c v a w.seen → Looks c v w.seen → Since v w
   since_begun v w a e looks = record { begins = looks.on; made = ap (λ (x : View P A R). x.made) e; same = ap fixed e }
 
-  pub since_taken : (v w : View P A R) (k : ℕ) (p : P) (tries : List ℕ) → w ≡ with_busy tries (taken c v k p w.seen) → Looks c v w.seen → Since v w
-  since_taken v w k p tries e looks = record { begins = looks.on; made = ap (λ (x : View P A R). x.made) e; same = ap fixed e }
+  pub since_taken : (v w : View P A R) (k : ℕ) (p : P) (tries : List ℕ) → w ≡ with_busy tries (taken c v k p w.seen)
+      → Looks c v w.seen → Since v w
+  since_taken v w k p tries e looks =
+      record { begins = looks.on; made = ap (λ (x : View P A R). x.made) e; same = ap fixed e }
 
   -- an act that was made after that
   pub ran_since : (v u w : View P A R) (a : A) (r : R) → Since v u → HasRun c u a r w → HasRun c v a r w
   ran_since v u w a r since ran =
       let number : u.number ≡ v.number = ap (λ (x : View P A R). x.number) since.same in
       let opening : u.opening ≡ v.opening = ap (λ (x : View P A R). x.opening) since.same in
-      let more : w.made ≡ v.made ++ entry v.number a r ∷ [] = ran.more ∙ (λ i. since.made i ++ entry (number i) a r ∷ []) in
+      let more : w.made ≡ v.made ++ entry v.number a r ∷ [] =
+      ran.more ∙ (λ i. since.made i ++ entry (number i) a r ∷ []) in
       record {
         others = since.begins.0 ++ ran.others;
-        ends = ran.ends ∙ (λ i. (sym since.begins.1 i ++ ran.others) ++ entry (number i) a r ∷ []) ∙ ap (λ es. es ++ entry v.number a r ∷ []) (append_assoc v.seen since.begins.0 ran.others);
+        ends =
+            ran.ends ∙ (λ i. (sym since.begins.1 i ++ ran.others) ++ entry (number i) a r ∷ [])
+            ∙ ap (λ es. es ++ entry v.number a r ∷ []) (append_assoc v.seen since.begins.0 ran.others);
         legal = subst (λ xs. Legal c xs w.seen) opening ran.legal;
         own = ran.own ∙ ap (λ n. calls_of n w.seen) number;
         more = more;
@@ -65,15 +75,21 @@ module _ {P A R : Type 0} (c : Core P A R) where
       }
 
   -- the second part isn't held yet
-  pub second_free : Lawful c → (v u w : View P A R) (a : A) (k : ℕ) (p : P) (s : ℕ) (tries : List ℕ) → c.fits a → v.held ≡ [] → u ≡ begun c v a u.seen → w ≡ with_busy tries (taken c u k p w.seen) → Looks c u w.seen → slice_get (state c u.opening w.seen) k ≡ Some p → k ≡ c.first a → c.second p w.number a ≡ Some s → Holds w s → ⊥
+  pub second_free : Lawful c → (v u w : View P A R) (a : A) (k : ℕ) (p : P) (s : ℕ) (tries : List ℕ) → c.fits a
+      → v.held ≡ [] → u ≡ begun c v a u.seen → w ≡ with_busy tries (taken c u k p w.seen) → Looks c u w.seen
+      → slice_get (state c u.opening w.seen) k ≡ Some p → k ≡ c.first a → c.second p w.number a ≡ Some s → Holds w s → ⊥
   second_free law v u w a k p s tries fits idle e d looks value first second h =
-      let held : w.held ≡ (k, p) ∷ [] = ap (λ (x : View P A R). x.held) d ∙ ap (λ xs. (k, p) ∷ xs) (ap (λ (x : View P A R). x.held) e ∙ idle) in
-      let differs : s ≢ c.first a = (law.second_in (state c u.opening w.seen) w.number a p s looks.whole fits (subst (λ m. slice_get (state c u.opening w.seen) m ≡ Some p) first value) second).1 in
+      let held : w.held ≡ (k, p) ∷ [] =
+      ap (λ (x : View P A R). x.held) d ∙ ap (λ xs. (k, p) ∷ xs) (ap (λ (x : View P A R). x.held) e ∙ idle) in
+      let differs : s ≢ c.first a =
+      (law.second_in (state c u.opening w.seen) w.number a p s looks.whole fits
+      (subst (λ m. slice_get (state c u.opening w.seen) m ≡ Some p) first value) second).1 in
       let there : In (s, h.0) ((k, p) ∷ []) = subst (In (s, h.0)) held h.1 in
       ⊎_elim (λ g. differs (ap (λ (z : ℕ × P). z.0) g ∙ first)) (λ g. absurd g) there
 
   -- nothing was made where the turn of the first part was another pass's
-  module _ (v u w : View P A R) (a : A) (k : ℕ) (e : u ≡ begun c v a u.seen) (looks : Looks c v u.seen) (busy : w ≡ tried u k) where
+  module _ (v u w : View P A R) (a : A) (k : ℕ) (e : u ≡ begun c v a u.seen) (looks : Looks c v u.seen)
+      (busy : w ≡ tried u k) where
     pub same_busy : fixed w ≡ fixed v
     same_busy = ap fixed busy ∙ ap fixed e
 
@@ -88,11 +104,15 @@ module _ {P A R : Type 0} (c : Core P A R) where
             same = made;
           },
           refl,
-          record { part = inl first; last = ap (λ (x : View P A R). x.busy) busy ∙ ap (λ (x : View P A R). x.busy ++ k ∷ []) e },
+          record {
+            part = inl first;
+            last = ap (λ (x : View P A R). x.busy) busy ∙ ap (λ (x : View P A R). x.busy ++ k ∷ []) e;
+          },
         )
 
   -- nor where that of the second part was, and the first one went back as it was
-  module _ (v u w x y : View P A R) (a : A) (k : ℕ) (p : P) (s : ℕ) (e : u ≡ begun c v a u.seen) (begins : Looks c v u.seen)
+  module _ (v u w x y : View P A R) (a : A) (k : ℕ) (p : P) (s : ℕ) (e : u ≡ begun c v a u.seen)
+      (begins : Looks c v u.seen)
       (takes : w ≡ taken c u k p w.seen) (looks : Looks c u w.seen) (busy : x ≡ tried w s) (back : y ≡ given x k) where
     once : Since v w
     once = since_trans v u w (since_begun v u a e begins) (since_taken u w k p u.busy takes looks)
@@ -100,20 +120,25 @@ module _ {P A R : Type 0} (c : Core P A R) where
     pub idle_given : v.held ≡ [] → y.held ≡ []
     idle_given idle =
         ap (λ (z : View P A R). z.held) back
-        ∙ ap (let_go k) (ap (λ (z : View P A R). z.held) busy ∙ ap (λ (z : View P A R). z.held) takes ∙ ap (λ zs. (k, p) ∷ zs) (ap (λ (z : View P A R). z.held) e ∙ idle))
+        ∙ ap (let_go k)
+        (ap (λ (z : View P A R). z.held) busy ∙ ap (λ (z : View P A R). z.held) takes
+        ∙ ap (λ zs. (k, p) ∷ zs) (ap (λ (z : View P A R). z.held) e ∙ idle))
         ∙ dropped k (k, p) [] refl
 
     pub same_given : fixed y ≡ fixed v
     same_given = ap fixed back ∙ ap fixed busy ∙ once.same
 
-    pub came_given : (r : R) → k ≡ c.first a → slice_get (state c u.opening w.seen) k ≡ Some p → c.second p w.number a ≡ Some s → CameTo c v a (Busy s a) r y
+    pub came_given : (r : R) → k ≡ c.first a → slice_get (state c u.opening w.seen) k ≡ Some p
+        → c.second p w.number a ≡ Some s → CameTo c v a (Busy s a) r y
     came_given r first value second =
         let number : w.number ≡ v.number = ap (λ (z : View P A R). z.number) once.same in
         let opening : u.opening ≡ v.opening = ap (λ (z : View P A R). z.opening) e in
-        let seen : w.seen ≡ y.seen = ap (λ (z : View P A R). z.seen) (sym busy) ∙ ap (λ (z : View P A R). z.seen) (sym back) in
+        let seen : w.seen ≡ y.seen =
+        ap (λ (z : View P A R). z.seen) (sym busy) ∙ ap (λ (z : View P A R). z.seen) (sym back) in
         let made : y.made ≡ w.made = ap (λ (z : View P A R). z.made) back ∙ ap (λ (z : View P A R). z.made) busy in
         let kept : w.made ≡ u.made = ap (λ (z : View P A R). z.made) takes in
-        let there : slice_get (state c v.opening y.seen) (c.first a) ≡ Some p = sym (λ i. slice_get (state c (opening i) (seen i)) (first i)) ∙ value in (
+        let there : slice_get (state c v.opening y.seen) (c.first a) ≡ Some p =
+        sym (λ i. slice_get (state c (opening i) (seen i)) (first i)) ∙ value in (
           record {
             begins = subst (IsPrefix v.seen) seen once.begins;
             legal = subst (Legal c v.opening) seen (subst (λ xs. Legal c xs w.seen) opening looks.legal);
@@ -122,7 +147,9 @@ module _ {P A R : Type 0} (c : Core P A R) where
           },
           refl,
           record {
-            part = inr (ap (option_and_then (λ (q : P). c.second q v.number a)) there ∙ ap (λ n. c.second p n a) (sym number) ∙ second);
+            part =
+                inr (ap (option_and_then (λ (q : P). c.second q v.number a)) there
+                ∙ ap (λ n. c.second p n a) (sym number) ∙ second);
             last = ap (λ (z : View P A R). z.busy) back ∙ ap (λ (z : View P A R). z.busy) busy
                 ∙ ap (λ ks. ks ++ s ∷ []) (ap (λ (z : View P A R). z.busy) takes ∙ ap (λ (z : View P A R). z.busy) e);
           },

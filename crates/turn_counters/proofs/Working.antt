@@ -10,7 +10,8 @@ use Rattle.turn_counters.specs.Counters.{counters, more}
 use Rattle.turn_counters.specs.Worked.{MadeOne}
 
 -- an act on the first counter
-module _ (v0 v1 v2 : View ℕ Bump ℕ) (p : ℕ) (e1 : v1 ≡ begun counters v0 First v1.seen) (e2 : v2 ≡ with_busy v2.busy (taken counters v1 0 p v2.seen)) where
+module _ (v0 v1 v2 : View ℕ Bump ℕ) (p : ℕ) (e1 : v1 ≡ begun counters v0 First v1.seen)
+    (e2 : v2 ≡ with_busy v2.busy (taken counters v1 0 p v2.seen)) where
   abbrev alone : View ℕ Bump ℕ
   alone = with_busy v2.busy (taken counters (begun counters v0 First v1.seen) 0 p v2.seen)
 
@@ -18,7 +19,13 @@ module _ (v0 v1 v2 : View ℕ Bump ℕ) (p : ℕ) (e1 : v1 ≡ begun counters v0
   is_alone = e2 ∙ ap (λ v. with_busy v2.busy (taken counters v 0 p v2.seen)) e1
 
   pub first_out : AllOut counters v2 First p None
-  first_out = subst (λ v. AllOut counters v First p None) (sym is_alone) (record { flies = refl; pending = refl; first = inl refl; second = refl })
+  first_out =
+      subst (λ v. AllOut counters v First p None) (sym is_alone) (record {
+        flies = refl;
+        pending = refl;
+        first = inl refl;
+        second = refl;
+      })
 
   module _ (v3 : View ℕ Bump ℕ) (told : Committed counters v2 First p None v3) where
     is_done : v3 ≡ done counters alone First p None v3.seen
@@ -31,10 +38,20 @@ module _ (v0 v1 v2 : View ℕ Bump ℕ) (p : ℕ) (e1 : v1 ≡ begun counters v0
     first_made v4 e4 empty =
         let whole : v4 ≡ given (done counters alone First p None v3.seen) 0 = e4 ∙ ap (λ v. given v 0) is_done in
         subst (λ v. MadeOne First v0 v) (sym whole)
-        (record { keeps = record { number = refl; joined = refl; idle = ap (λ xs. let_go 0 (map (left_by counters v0.number First p None) xs)) empty }; reply = more p; made = refl })
+        (record {
+          keeps =
+              record {
+                number = refl;
+                joined = refl;
+                idle = ap (λ xs. let_go 0 (map (left_by counters v0.number First p None) xs)) empty;
+              };
+          reply = more p;
+          made = refl;
+        })
 
 -- an act on both counters
-module _ (v0 v1 v2 : View ℕ Bump ℕ) (p : ℕ) (e1 : v1 ≡ begun counters v0 Both v1.seen) (e2 : v2 ≡ with_busy v2.busy (taken counters v1 0 p v2.seen)) where
+module _ (v0 v1 v2 : View ℕ Bump ℕ) (p : ℕ) (e1 : v1 ≡ begun counters v0 Both v1.seen)
+    (e2 : v2 ≡ with_busy v2.busy (taken counters v1 0 p v2.seen)) where
   abbrev one_out : View ℕ Bump ℕ
   one_out = with_busy v2.busy (taken counters (begun counters v0 Both v1.seen) 0 p v2.seen)
 
@@ -59,7 +76,13 @@ module _ (v0 v1 v2 : View ℕ Bump ℕ) (p : ℕ) (e1 : v1 ≡ begun counters v0
     is_two = e3 ∙ ap (λ v. with_busy v3.busy (taken counters v 1 q v3.seen)) is_one
 
     pub both_out : AllOut counters v3 Both p (Some q)
-    both_out = subst (λ v. AllOut counters v Both p (Some q)) (sym is_two) (record { flies = refl; pending = refl; first = inr (inl refl); second = (q, refl, inl refl) })
+    both_out =
+        subst (λ v. AllOut counters v Both p (Some q)) (sym is_two) (record {
+          flies = refl;
+          pending = refl;
+          first = inr (inl refl);
+          second = (q, refl, inl refl);
+        })
 
     module _ (v4 : View ℕ Bump ℕ) (told : Committed counters v3 Both p (Some q) v4) where
       is_made : v4 ≡ done counters two_out Both p (Some q) v4.seen
@@ -77,6 +100,16 @@ module _ (v0 v1 v2 : View ℕ Bump ℕ) (p : ℕ) (e1 : v1 ≡ begun counters v0
 
         pub both_made : (v6 : View ℕ Bump ℕ) → v6 ≡ given v5 1 → v0.held ≡ [] → MadeOne Both v0 v6
         both_made v6 e6 empty =
-            let whole : v6 ≡ given (given (done counters two_out Both p (Some q) v4.seen) 0) 1 = e6 ∙ ap (λ v. given v 1) is_left in
+            let whole : v6 ≡ given (given (done counters two_out Both p (Some q) v4.seen) 0) 1 =
+            e6 ∙ ap (λ v. given v 1) is_left in
             subst (λ v. MadeOne Both v0 v) (sym whole)
-            (record { keeps = record { number = refl; joined = refl; idle = ap (λ xs. let_go 1 (let_go 0 (map (left_by counters v0.number Both p (Some q)) xs))) empty }; reply = more p; made = refl })
+            (record {
+              keeps =
+                  record {
+                    number = refl;
+                    joined = refl;
+                    idle = ap (λ xs. let_go 1 (let_go 0 (map (left_by counters v0.number Both p (Some q)) xs))) empty;
+                  };
+              reply = more p;
+              made = refl;
+            })

@@ -23,7 +23,9 @@ module _ {T : Type 0} where
   in_back x (z ∷ xs) ys h = inr (in_back x xs ys h)
 
   -- what a filter keeps stood in the list, and passes the test
-  keep_cases : (t : T → Bool) (x z : T) (xs : List T) (b : Bool) → t z ≡ b → In x (cond b (z ∷ filter t xs) (filter t xs)) → (In x (filter t xs) → In x xs × (t x ≡ true)) → In x (z ∷ xs) × (t x ≡ true)
+  keep_cases : (t : T → Bool) (x z : T) (xs : List T) (b : Bool) → t z ≡ b
+      → In x (cond b (z ∷ filter t xs) (filter t xs)) → (In x (filter t xs) → In x xs × (t x ≡ true))
+      → In x (z ∷ xs) × (t x ≡ true)
   keep_cases t x z xs true e (inl p) rec = (inl p, ap t p ∙ e)
   keep_cases t x z xs true e (inr h) rec = let r = rec h in (inr r.0, r.1)
   keep_cases t x z xs false e h rec = let r = rec h in (inr r.0, r.1)
@@ -32,16 +34,19 @@ module _ {T : Type 0} where
   kept_was t x [] h = absurd h
   kept_was t x (z ∷ xs) h = keep_cases t x z xs (t z) refl h (kept_was t x xs)
 
-  keeps_on : (t : T → Bool) (x z : T) (xs : List T) (b : Bool) → In x (filter t xs) → In x (cond b (z ∷ filter t xs) (filter t xs))
+  keeps_on : (t : T → Bool) (x z : T) (xs : List T) (b : Bool) → In x (filter t xs)
+      → In x (cond b (z ∷ filter t xs) (filter t xs))
   keeps_on t x z xs true h = inr h
   keeps_on t x z xs false h = h
 
   pub keeps : (t : T → Bool) (x : T) (xs : List T) → In x xs → t x ≡ true → In x (filter t xs)
   keeps t x [] h e = absurd h
-  keeps t x (z ∷ xs) (inl p) e = subst (λ b. In x (cond b (z ∷ filter t xs) (filter t xs))) (sym (sym (ap t p) ∙ e)) (inl p)
+  keeps t x (z ∷ xs) (inl p) e =
+      subst (λ b. In x (cond b (z ∷ filter t xs) (filter t xs))) (sym (sym (ap t p) ∙ e)) (inl p)
   keeps t x (z ∷ xs) (inr h) e = keeps_on t x z xs (t z) (keeps t x xs h e)
 
-  shorter_on : (t : T → Bool) (z : T) (xs : List T) (b : Bool) → length (filter t xs) ≤ length xs → length (cond b (z ∷ filter t xs) (filter t xs)) ≤ length (z ∷ xs)
+  shorter_on : (t : T → Bool) (z : T) (xs : List T) (b : Bool) → length (filter t xs) ≤ length xs
+      → length (cond b (z ∷ filter t xs) (filter t xs)) ≤ length (z ∷ xs)
   shorter_on t z xs true h = omega arith
   shorter_on t z xs false h = omega arith
 

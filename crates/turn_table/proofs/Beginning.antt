@@ -42,11 +42,17 @@ pair_second {T} {U} a b x y e = ap (λ (z : T × U). z.1) e
 
 module _ {P A R : Type 0} (c : Core P A R) where
   -- what the second part is drawn from
-  pub second_found : (j k : ℕ) (p : P) (flight : Option A) (number : ℕ) → In j (second_by c k p flight number) → (a : A) × (flight ≡ Some a) × (k ≡ c.first a) × (c.second p number a ≡ Some j)
+  pub second_found : (j k : ℕ) (p : P) (flight : Option A) (number : ℕ) → In j (second_by c k p flight number)
+      → (a : A) × (flight ≡ Some a) × (k ≡ c.first a) × (c.second p number a ≡ Some j)
   second_found j k p None number h = absurd h
   second_found j k p (Some a) number h = split_on k (c.first a)
-      (λ e. let g : In j (option_to_list (c.second p number a)) = subst (λ b. In j (cond b (option_to_list (c.second p number a)) [])) (eq-eqb k (c.first a) e) h in (a, refl, e, in_option j (c.second p number a) g))
-      (λ ne. absurd (let g : In j [] = subst (λ b. In j (cond b (option_to_list (c.second p number a)) [])) (ne_eqb k (c.first a) ne) h in g))
+      (λ e.
+      let g : In j (option_to_list (c.second p number a)) =
+      subst (λ b. In j (cond b (option_to_list (c.second p number a)) [])) (eq-eqb k (c.first a) e) h in
+      (a, refl, e, in_option j (c.second p number a) g))
+      (λ ne.
+      absurd (let g : In j [] =
+      subst (λ b. In j (cond b (option_to_list (c.second p number a)) [])) (ne_eqb k (c.first a) ne) h in g))
 
   short_on : (b : Bool) (o : Option ℕ) → length (cond b (option_to_list o) []) ≤ 1
   short_on true o = option_short o
@@ -57,9 +63,11 @@ module _ {P A R : Type 0} (c : Core P A R) where
   second_short k p (Some a) number = short_on (eqb k (c.first a)) (c.second p number a)
 
   -- a part that is not the first gives no second part
-  pub second_none : (k : ℕ) (p : P) (flight : Option A) (number : ℕ) → ((a : A) → flight ≡ Some a → k ≢ c.first a) → second_by c k p flight number ≡ []
+  pub second_none : (k : ℕ) (p : P) (flight : Option A) (number : ℕ) → ((a : A) → flight ≡ Some a → k ≢ c.first a)
+      → second_by c k p flight number ≡ []
   second_none k p None number n = refl
-  second_none k p (Some a) number n = ap (λ b. cond b (option_to_list (c.second p number a)) []) (ne_eqb k (c.first a) (n a refl))
+  second_none k p (Some a) number n =
+      ap (λ b. cond b (option_to_list (c.second p number a)) []) (ne_eqb k (c.first a) (n a refl))
 
   pub flight_cases : (flight : Option A) → (flight ≡ None) ⊎ ((a : A) × (flight ≡ Some a))
   flight_cases None = inl refl
@@ -70,7 +78,8 @@ module _ {P A R : Type 0} (c : Core P A R) where
   none_held v e k h = subst (In (k, h.0)) e h.1
 
   module _ (law : Lawful c) (opening : List P) where
-    module _ (s : State (Option P) (View P A R)) (n : Names A R) (id : ℕ) (v : View P A R) (rule : Rule c opening s n) (at : get_elem? s.views id ≡ some v) (live : v.live ≡ true) where
+    module _ (s : State (Option P) (View P A R)) (n : Names A R) (id : ℕ) (v : View P A R) (rule : Rule c opening s n)
+        (at : get_elem? s.views id ≡ some v) (live : v.live ≡ true) where
       pub fit : Fits c opening n id v
       fit = rule.fits id v at live
 
@@ -98,14 +107,17 @@ module _ {P A R : Type 0} (c : Core P A R) where
           (old.0, subst (λ (u : View P A R). Holds u k) same old.1.2)
 
     -- begin
-    pub begins : (a : A) → c.fits a → (id : ℕ) (me : Sat c) → me.0.live ≡ true → me.0.held ≡ [] → (slots word : ℕ) → Allows (Ruled c opening) slots id me word (λ n. n) (Begins c (Some a) (step slots word 0 0 none) me)
+    pub begins : (a : A) → c.fits a → (id : ℕ) (me : Sat c) → me.0.live ≡ true → me.0.held ≡ [] → (slots word : ℕ)
+        → Allows (Ruled c opening) slots id me word (λ n. n) (Begins c (Some a) (step slots word 0 0 none) me)
     begins a may id me live empty slots word s ruled there at bound =
         let n : Names A R = ruled.0 in
         let rule : Rule c opening s n = ruled.1 in
         let v : View P A R = me.0 in
         let w : View P A R = begun c v a n.log in
         let f : Fits c opening n id v = fit s n id v rule at live in
-        let first_there : c.first a < length opening = subst (λ m. c.first a < m) (count s n id v rule at live) (law.first_in (state c opening n.log) a (whole s n id v rule at live) may) in
+        let first_there : c.first a < length opening =
+        subst (λ m. c.first a < m) (count s n id v rule at live)
+        (law.first_in (state c opening n.log) a (whole s n id v rule at live) may) in
         let g : Fits c opening (renamed c opening n n.log n.holder) id w = record {
           same_opening = f.same_opening;
           seen_begins = prefix_refl n.log;
@@ -116,7 +128,9 @@ module _ {P A R : Type 0} (c : Core P A R) where
           named = f.named;
           allowed = λ k p h. absurd (none_held v empty k (p, h));
           few = omega arith;
-          there = λ k h. let e : k ≡ c.first a = only_one (c.first a) (c.first a ∷ []) k refl h in subst (λ m. m < length opening) (sym e) first_there;
+          there = λ k h.
+              let e : k ≡ c.first a = only_one (c.first a) (c.first a ∷ []) k refl h in
+              subst (λ m. m < length opening) (sym e) first_there;
           first_alone = λ b e pend i nh. let d : a ≡ b = cc in ap (λ (x : A). c.first x ∷ []) d;
           only_parts = λ b p e pend i k h. absurd (none_held v empty (c.first b) (p, i));
           all_held = λ e. absurd cc;
@@ -144,11 +158,23 @@ module _ {P A R : Type 0} (c : Core P A R) where
           fits = g;
           newest = inl refl;
         } in
-        let kept : Rule c opening (moved c opening s s.words s.homes id w) (renamed c opening n n.log n.holder) = stays c opening s n id v s.words s.homes w n.log n.holder rule at live owes in
+        let kept : Rule c opening (moved c opening s s.words s.homes id w) (renamed c opening n n.log n.holder) =
+        stays c opening s n id v s.words s.homes w n.log n.holder rule at live owes in
         let same : set s.words word (get_or s.words word 0) ≡ s.words = set-get_or s.words word 0 in (
           w,
           keeps,
           tt,
-          (renamed c opening n n.log n.holder, subst (λ (ws : List ℕ). Rule c opening (moved c opening s ws s.homes id w) (renamed c opening n n.log n.holder)) (sym same) kept),
-          (refl, refl, look s n id v rule at live, subst (λ (xs : List P). c.first a < length xs) (sym f.same_opening) first_there),
+          (
+            renamed c opening n n.log n.holder,
+            subst
+                (λ (ws : List ℕ).
+                Rule c opening (moved c opening s ws s.homes id w) (renamed c opening n n.log n.holder))
+                (sym same) kept,
+          ),
+          (
+            refl,
+            refl,
+            look s n id v rule at live,
+            subst (λ (xs : List P). c.first a < length xs) (sym f.same_opening) first_there,
+          ),
         )

@@ -26,7 +26,9 @@ use Rattle.turn_table.proofs.Beginning.{one_more, pair_second, whole, holds_here
 
 module _ {P A R : Type 0} (c : Core P A R) (law : Lawful c) (opening : List P) where
   -- a commit
-  module _ (s : State (Option P) (View P A R)) (n : Names A R) (id : ℕ) (v : View P A R) (rule : Rule c opening s n) (at : get_elem? s.views id ≡ some v) (live : v.live ≡ true) (a : A) (p : P) (o : Option P) (all_out : AllOut c v a p o) where
+  module _ (s : State (Option P) (View P A R)) (n : Names A R) (id : ℕ) (v : View P A R) (rule : Rule c opening s n)
+      (at : get_elem? s.views id ≡ some v) (live : v.live ≡ true) (a : A) (p : P) (o : Option P)
+      (all_out : AllOut c v a p o) where
     now_f : Fits c opening n id v
     now_f = rule.fits id v at live
 
@@ -46,17 +48,30 @@ module _ {P A R : Type 0} (c : Core P A R) (law : Lawful c) (opening : List P) w
     second_is = ap (option_and_then (λ (q : P). c.second q v.number a)) first_value
 
     -- the second part, if there is one, is out, and is another part than the first
-    second_facts : (sec : Option ℕ) → c.second p v.number a ≡ sec → SecondOut sec o v.held → ((sec ≡ None) × (o ≡ None)) ⊎ ((t : ℕ) × (q : P) × (sec ≡ Some t) × (o ≡ Some q) × In (t, q) v.held × (t ≢ c.first a))
+    second_facts : (sec : Option ℕ) → c.second p v.number a ≡ sec → SecondOut sec o v.held
+        → ((sec ≡ None) × (o ≡ None))
+        ⊎ ((t : ℕ) × (q : P) × (sec ≡ Some t) × (o ≡ Some q) × In (t, q) v.held × (t ≢ c.first a))
     second_facts None e h = inl (refl, h)
-    second_facts (Some t) e h = inr (t, h.0, refl, h.1, h.2, (law.second_in now v.number a p t (whole c law opening s n id v rule at live) may_make first_value e).1)
+    second_facts (Some t) e h =
+        inr (
+          t,
+          h.0,
+          refl,
+          h.1,
+          h.2,
+          (law.second_in now v.number a p t (whole c law opening s n id v rule at live) may_make first_value e).1,
+        )
 
-    facts : ((c.second p v.number a ≡ None) × (o ≡ None)) ⊎ ((t : ℕ) × (q : P) × (c.second p v.number a ≡ Some t) × (o ≡ Some q) × In (t, q) v.held × (t ≢ c.first a))
+    facts : ((c.second p v.number a ≡ None) × (o ≡ None))
+        ⊎ ((t : ℕ) × (q : P) × (c.second p v.number a ≡ Some t) × (o ≡ Some q) × In (t, q) v.held × (t ≢ c.first a))
     facts = second_facts (c.second p v.number a) refl all_out.second
 
     replies : reply c now v.number a ≡ Some (c.answer p o v.number a)
     replies = ⊎_elim
         (λ t. reply_alone c now v.number a p first_value t.0 ∙ ap (λ x. Some (c.answer p x v.number a)) (sym t.1))
-        (λ t. reply_together c now v.number a p t.1 t.0 first_value t.2 (now_f.named t.0 t.1 t.4) ∙ ap (λ x. Some (c.answer p x v.number a)) (sym t.3))
+        (λ t.
+        reply_together c now v.number a p t.1 t.0 first_value t.2 (now_f.named t.0 t.1 t.4)
+        ∙ ap (λ x. Some (c.answer p x v.number a)) (sym t.3))
         facts
 
     abbrev log' : List (Entry A R)
@@ -71,13 +86,17 @@ module _ {P A R : Type 0} (c : Core P A R) (law : Lawful c) (opening : List P) w
         (λ e. ne (ap n.holder e ∙ now_f.holds_own (c.first a) p all_out.first))
         (λ e. ⊎_elim
         (λ t. let d : None ≡ Some k = sym t.0 ∙ (sym second_is ∙ e) in absurd cc)
-        (λ t. let d : Some t.0 ≡ Some k = sym t.2 ∙ (sym second_is ∙ e) in let z : t.0 ≡ k = cc in ne (ap n.holder (sym z) ∙ now_f.holds_own t.0 t.1 t.4))
+        (λ t.
+        let d : Some t.0 ≡ Some k = sym t.2 ∙ (sym second_is ∙ e) in let z : t.0 ≡ k = cc in
+        ne (ap n.holder (sym z) ∙ now_f.holds_own t.0 t.1 t.4))
         facts))
 
     -- each part that the view holds has the value that the act leaves
-    held_value : (k : ℕ) (q : P) → In (k, q) v.held → slice_get (state c opening log') k ≡ Some (left_by c v.number a p o (k, q)).1
+    held_value : (k : ℕ) (q : P) → In (k, q) v.held
+        → slice_get (state c opening log') k ≡ Some (left_by c v.number a p o (k, q)).1
     held_value k q h =
-        let among : (k ≡ c.first a) ⊎ (c.second p v.number a ≡ Some k) = now_f.only_parts a p all_out.flies all_out.pending all_out.first k (now_f.allowed k q h) in
+        let among : (k ≡ c.first a) ⊎ (c.second p v.number a ≡ Some k) =
+        now_f.only_parts a p all_out.flies all_out.pending all_out.first k (now_f.allowed k q h) in
         ap (λ xs. slice_get xs k) after_is ∙ ⊎_elim
         (λ t.
         let kf : k ≡ c.first a = ⊎_elim (λ e. e) (λ e. absurd (let d : None ≡ Some k = sym t.0 ∙ e in cc)) among in
@@ -86,7 +105,8 @@ module _ {P A R : Type 0} (c : Core P A R) (law : Lawful c) (opening : List P) w
         ∙ (ap (slice_get (set now (c.first a) (c.one p None v.number a))) kf
         ∙ (get_set_same now (c.first a) (c.one p None v.number a) there
         ∙ (ap (λ x. Some (c.one p x v.number a)) (sym t.1)
-        ∙ ap (λ b. Some (cond b (c.one p o v.number a) (second_left c v.number a p o q))) (sym (eq-eqb k (c.first a) kf))))))
+        ∙ ap (λ b. Some (cond b (c.one p o v.number a) (second_left c v.number a p o q)))
+        (sym (eq-eqb k (c.first a) kf))))))
         (λ t.
         let there : c.first a < length now = slice_get_length now (c.first a) p first_value in
         let second_value : slice_get now t.0 ≡ Some t.1 = now_f.named t.0 t.1 t.4 in
@@ -101,25 +121,31 @@ module _ {P A R : Type 0} (c : Core P A R) (law : Lawful c) (opening : List P) w
         ∙ (get_set_else (set now (c.first a) x) t.0 (c.first a) y (λ e. t.5 (sym e))
         ∙ (get_set_same now (c.first a) x there
         ∙ (ap (λ z. Some (c.one p z v.number a)) (sym t.3)
-        ∙ ap (λ b. Some (cond b (c.one p o v.number a) (second_left c v.number a p o q))) (sym (eq-eqb k (c.first a) kf))))))
+        ∙ ap (λ b. Some (cond b (c.one p o v.number a) (second_left c v.number a p o q)))
+        (sym (eq-eqb k (c.first a) kf))))))
         (λ ne.
         let ks : k ≡ t.0 = ⊎_elim (λ e. absurd (ne e)) (λ e. let d : Some t.0 ≡ Some k = sym t.2 ∙ e in cc) among in
         ap (slice_get (set (set now (c.first a) x) t.0 y)) ks
         ∙ (get_set_same (set now (c.first a) x) t.0 y (omega arith)
         ∙ (ap (λ z. Some (second_left c v.number a p z q)) (sym t.3)
-        ∙ ap (λ b. Some (cond b (c.one p o v.number a) (second_left c v.number a p o q))) (sym (ne_eqb k (c.first a) ne))))))
+        ∙ ap (λ b. Some (cond b (c.one p o v.number a) (second_left c v.number a p o q)))
+        (sym (ne_eqb k (c.first a) ne))))))
         facts
 
     abbrev w : View P A R
     w = done c v a p o log'
 
     -- a part that is held afterwards was held before
-    held_before : (k : ℕ) (q : P) → In (k, q) w.held → (u : P) × In (k, u) v.held × (q ≡ (left_by c v.number a p o (k, u)).1)
+    held_before : (k : ℕ) (q : P) → In (k, q) w.held
+        → (u : P) × In (k, u) v.held × (q ≡ (left_by c v.number a p o (k, u)).1)
     held_before k q h =
         let r = in_map (left_by c v.number a p o) (k, q) v.held h in
         let e : k ≡ r.0.0 = pair_first k r.0.0 q (left_by c v.number a p o r.0).1 r.2 in
-        let d : q ≡ (left_by c v.number a p o r.0).1 = pair_second k r.0.0 q (left_by c v.number a p o r.0).1 r.2 in
-        (r.0.1, subst (λ m. In (m, r.0.1) v.held) (sym e) r.1, d ∙ ap (λ m. (left_by c v.number a p o (m, r.0.1)).1) (sym e))
+        let d : q ≡ (left_by c v.number a p o r.0).1 = pair_second k r.0.0 q (left_by c v.number a p o r.0).1 r.2 in (
+          r.0.1,
+          subst (λ m. In (m, r.0.1) v.held) (sym e) r.1,
+          d ∙ ap (λ m. (left_by c v.number a p o (m, r.0.1)).1) (sym e),
+        )
 
     -- a session of another number than the view's has no new entry
     none_else : (m : ℕ) → m ≢ v.number → calls_of m log' ≡ calls_of m n.log
@@ -132,11 +158,15 @@ module _ {P A R : Type 0} (c : Core P A R) (law : Lawful c) (opening : List P) w
     now_legal = grows_legally c opening n.log last_entry rule.legal may_make replies
 
     not_joined : (j : Joined A R) → In j v.joined → j.number ≢ v.number
-    not_joined j h e = now_f.differ.0 (subst (λ m. In m (map (λ (z : Joined A R). z.number) v.joined)) e (map_in (λ (z : Joined A R). z.number) j v.joined h))
+    not_joined j h e =
+        now_f.differ.0 (subst (λ m. In m (map (λ (z : Joined A R). z.number) v.joined)) e
+        (map_in (λ (z : Joined A R). z.number) j v.joined h))
 
     -- no other pass has an entry more
     drawn_only : v.number ≡ 0 → (m : ℕ) → v.splits < m → calls_of m log' ≡ []
-    drawn_only e m far = let d : v.splits ≡ n.drawn = now_f.counts_drawn e in none_else m (λ x. omega arith) ∙ rule.undrawn m (omega arith)
+    drawn_only e m far =
+        let d : v.splits ≡ n.drawn = now_f.counts_drawn e in
+        none_else m (λ x. omega arith) ∙ rule.undrawn m (omega arith)
 
     done_fits : Fits c opening (renamed c opening n log' n.holder) id w
     done_fits = record {
@@ -153,10 +183,19 @@ module _ {P A R : Type 0} (c : Core P A R) (law : Lawful c) (opening : List P) w
       first_alone = λ b e pend. absurd cc;
       only_parts = λ b q e pend. absurd cc;
       all_held = λ e k h. ⊎_elim
-          (λ d. let g : Holds w (c.first a) = ((left_by c v.number a p o (c.first a, p)).1, map_in (left_by c v.number a p o) (c.first a, p) v.held all_out.first) in subst (Holds w) (sym d) g)
+          (λ d.
+          let g : Holds w (c.first a) = (
+            (left_by c v.number a p o (c.first a, p)).1,
+            map_in (left_by c v.number a p o) (c.first a, p) v.held all_out.first,
+          ) in
+          subst (Holds w) (sym d) g)
           (λ d. ⊎_elim
           (λ t. absurd (let z : None ≡ Some k = sym t.0 ∙ d in cc))
-          (λ t. let z : t.0 ≡ k = let y : Some t.0 ≡ Some k = sym t.2 ∙ d in cc in let g : Holds w t.0 = ((left_by c v.number a p o (t.0, t.1)).1, map_in (left_by c v.number a p o) (t.0, t.1) v.held t.4) in subst (Holds w) z g)
+          (λ t.
+          let z : t.0 ≡ k = let y : Some t.0 ≡ Some k = sym t.2 ∙ d in cc in
+          let g : Holds w t.0 =
+          ((left_by c v.number a p o (t.0, t.1)).1, map_in (left_by c v.number a p o) (t.0, t.1) v.held t.4) in
+          subst (Holds w) z g)
           facts)
           (now_f.only_parts a p all_out.flies all_out.pending all_out.first k h);
       has_numbers = now_f.has_numbers;
@@ -177,7 +216,8 @@ module _ {P A R : Type 0} (c : Core P A R) (law : Lawful c) (opening : List P) w
         ∙ (ap (λ m. (m + 1) % 2 ^ 64) rule.counted ∙ (one_more (length n.log) ∙ ap (λ m. m % 2 ^ 64) (sym l)))
 
     other_word : (k : ℕ) → k ≢ length opening → slice_index words' k ≡ slice_index s.words k
-    other_word k ne = get_or-set_other s.words (length opening) k ((slice_index s.words (length opening) + 1) % 2 ^ 64) 0 ne
+    other_word k ne =
+        get_or-set_other s.words (length opening) k ((slice_index s.words (length opening) + 1) % 2 ^ 64) 0 ne
 
     done_owes : Owes c opening s n id v words' s.homes w log' n.holder
     done_owes = record {
@@ -192,18 +232,41 @@ module _ {P A R : Type 0} (c : Core P A R) (law : Lawful c) (opening : List P) w
       frame = others_stay;
       others_keep = λ k j ne h. h;
       others_had = λ k j r ne h. (h, other_word k (λ e. omega arith));
-      free = λ k r h. let old = rule.free k r h in (other_word k (λ e. omega arith) ∙ old.0, λ q g. old.1 q (sym (others_stay k (λ e. let z : None ≡ Some id = sym h ∙ e in cc)) ∙ g));
-      mine = λ k r h. let old = holds_here c law opening s n id v rule at live k r h in (other_word k (λ e. omega arith) ∙ old.0, ((left_by c v.number a p o (k, old.1.0)).1, map_in (left_by c v.number a p o) (k, old.1.0) v.held old.1.1));
+      free = λ k r h.
+          let old = rule.free k r h in (
+            other_word k (λ e. omega arith) ∙ old.0,
+            λ q g. old.1 q (sym (others_stay k (λ e. let z : None ≡ Some id = sym h ∙ e in cc)) ∙ g),
+          );
+      mine = λ k r h.
+          let old = holds_here c law opening s n id v rule at live k r h in (
+            other_word k (λ e. omega arith) ∙ old.0,
+            ((left_by c v.number a p o (k, old.1.0)).1, map_in (left_by c v.number a p o) (k, old.1.0) v.held old.1.1),
+          );
       out = rule.out;
       fits = done_fits;
       newest = inl refl;
     }
 
-    was_held : (k : ℕ) (q : P) → In (k, q) v.held → slice_get (state c v.opening (v.seen ++ now_f.seen_begins.0)) k ≡ Some q
+    was_held : (k : ℕ) (q : P) → In (k, q) v.held
+        → slice_get (state c v.opening (v.seen ++ now_f.seen_begins.0)) k ≡ Some q
     was_held k q h = (λ i. slice_get (state c (now_f.same_opening i) (now_f.seen_begins.1 i)) k) ∙ now_f.named k q h
 
     done_told : (cs : List (ℕ × Option P)) → CommitsAct c (v, cs) a p o (w, cs)
-    done_told cs = record { view = refl; slots = refl; between = now_f.seen_begins.0; last = ap (λ es. es ++ last_entry ∷ []) (sym now_f.seen_begins.1); legal = subst (λ (xs : List P). Legal c xs log') (sym now_f.same_opening) now_legal; own = made_all; joined = done_fits.joined_calls; no_others = drawn_only; before = was_held; held = subst (λ (xs : List P). (k : ℕ) (q : P) → In (k, q) w.held → slice_get (state c xs log') k ≡ Some q) (sym now_f.same_opening) done_fits.named }
+    done_told cs =
+        record {
+          view = refl;
+          slots = refl;
+          between = now_f.seen_begins.0;
+          last = ap (λ es. es ++ last_entry ∷ []) (sym now_f.seen_begins.1);
+          legal = subst (λ (xs : List P). Legal c xs log') (sym now_f.same_opening) now_legal;
+          own = made_all;
+          joined = done_fits.joined_calls;
+          no_others = drawn_only;
+          before = was_held;
+          held =
+              subst (λ (xs : List P). (k : ℕ) (q : P) → In (k, q) w.held → slice_get (state c xs log') k ≡ Some q)
+              (sym now_f.same_opening) done_fits.named;
+        }
 
     -- no other act is all out, and none with other values
     module _ (a' : A) (p' : P) (o' : Option P) (others : AllOut c v a' p' o') where
@@ -223,7 +286,10 @@ module _ {P A R : Type 0} (c : Core P A R) (law : Lawful c) (opening : List P) w
           x.1 ∙ (d ∙ sym y.1)
 
       same_second : o ≡ o'
-      same_second = second_same (c.second p v.number a) all_out.second (subst (λ (sec : Option ℕ). SecondOut sec o' v.held) (λ i. c.second (sym same_first i) v.number (sym same_act i)) others.second)
+      same_second =
+          second_same (c.second p v.number a) all_out.second
+          (subst (λ (sec : Option ℕ). SecondOut sec o' v.held)
+          (λ i. c.second (sym same_first i) v.number (sym same_act i)) others.second)
 
       other_told : (cs : List (ℕ × Option P)) → CommitsAct c (v, cs) a' p' o' (w, cs)
       other_told cs =
@@ -231,12 +297,22 @@ module _ {P A R : Type 0} (c : Core P A R) (law : Lawful c) (opening : List P) w
           (subst (λ (x : P). CommitsAct c (v, cs) a x o' (w, cs)) same_first
           (subst (λ (x : Option P). CommitsAct c (v, cs) a p x (w, cs)) same_second (done_told cs)))
 
-  pub commits : (id : ℕ) (me : Sat c) → me.0.live ≡ true → (a : A) (p : P) (o : Option P) → AllOut c me.0 a p o → (slots : ℕ) → slots ≡ length opening → Allows (Ruled c opening) slots id me (length opening) (λ n. (n + 1) % 2 ^ 64) (Commits c (step slots (length opening) 1 0 none) me)
+  pub commits : (id : ℕ) (me : Sat c) → me.0.live ≡ true → (a : A) (p : P) (o : Option P) → AllOut c me.0 a p o
+      → (slots : ℕ) → slots ≡ length opening
+      → Allows (Ruled c opening) slots id me (length opening) (λ n. (n + 1) % 2 ^ 64)
+      (Commits c (step slots (length opening) 1 0 none) me)
   commits id me live a p o all_out slots is s ruled there at bound =
       let n : Names A R = ruled.0 in
       let rule : Rule c opening s n = ruled.1 in
       let v : View P A R = me.0 in
       let log : List (Entry A R) = n.log ++ entry_by c v a p o ∷ [] in
       let w : View P A R = done c v a p o log in
-      let kept = stays c opening s n id v (set s.words (length opening) ((slice_index s.words (length opening) + 1) % 2 ^ 64)) s.homes w log n.holder rule at live (done_owes s n id v rule at live a p o all_out) in
-      (w, keeps, tt, (renamed c opening n log n.holder, kept), λ a' p' o' others. other_told s n id v rule at live a p o all_out a' p' o' others me.1)
+      let kept =
+      stays c opening s n id v (set s.words (length opening) ((slice_index s.words (length opening) + 1) % 2 ^ 64))
+      s.homes w log n.holder rule at live (done_owes s n id v rule at live a p o all_out) in (
+        w,
+        keeps,
+        tt,
+        (renamed c opening n log n.holder, kept),
+        λ a' p' o' others. other_told s n id v rule at live a p o all_out a' p' o' others me.1,
+      )

@@ -20,7 +20,8 @@ use Rattle.turn_table.proofs.Passing.{Closes, closes, split_lt}
 pub zero_words : (n k : ℕ) → get_or {A = ℕ} (replicate n 0) k 0 ≡ 0
 zero_words n k =
     let z : ℕ = 0 in
-    split_lt k n (λ h. get_or-replicate n k z z h) (λ h. get_or_past (replicate n z) k z (let e : length (replicate n z) ≡ n = length-replicate n z in omega arith))
+    split_lt k n (λ h. get_or-replicate n k z z h)
+    (λ h. get_or_past (replicate n z) k z (let e : length (replicate n z) ≡ n = length-replicate n z in omega arith))
 
 -- a flag that is taken away, and the others
 pub flag_gone : (fs : List Bool) (k : ℕ) → get_or (set fs k false) k false ≡ false
@@ -28,18 +29,24 @@ flag_gone [] k = refl
 flag_gone (b ∷ bs) zero = refl
 flag_gone (b ∷ bs) (suc k) = flag_gone bs k
 
-pub take_more : {U : Type 0} (xs : List U) (k : ℕ) (x : U) → get_elem? xs k ≡ some x → take (suc k) xs ≡ take k xs ++ x ∷ []
+pub take_more : {U : Type 0} (xs : List U) (k : ℕ) (x : U) → get_elem? xs k ≡ some x
+    → take (suc k) xs ≡ take k xs ++ x ∷ []
 take_more [] k x e = absurd (some-ne-none x (sym e))
 take_more (y ∷ ys) zero x e = ap (λ z. z ∷ []) (some-injective y x e)
 take_more (y ∷ ys) (suc k) x e = ap (λ zs. y ∷ zs) (take_more ys k x e)
 
 module _ {T : Type 0} where
   -- one part more is taken out
-  pub room_grows : (room : List T) (items : List (Option T)) (k : ℕ) (x : T) → map Some room ≡ take k items → get_elem? items k ≡ some (Some x) → map Some (room ++ x ∷ []) ≡ take (k + 1) items
-  room_grows room items k x e h = map-append Some room (x ∷ []) ∙ (ap (λ zs. zs ++ Some x ∷ []) e ∙ (sym (take_more items k (Some x) h) ∙ ap (λ n. take n items) (sym (add-one k))))
+  pub room_grows : (room : List T) (items : List (Option T)) (k : ℕ) (x : T) → map Some room ≡ take k items
+      → get_elem? items k ≡ some (Some x) → map Some (room ++ x ∷ []) ≡ take (k + 1) items
+  room_grows room items k x e h =
+      map-append Some room (x ∷ [])
+      ∙ (ap (λ zs. zs ++ Some x ∷ []) e
+      ∙ (sym (take_more items k (Some x) h) ∙ ap (λ n. take n items) (sym (add-one k))))
 
   -- lists of the same length with the same parts
-  same_all : (ys xs : List T) → length ys ≡ length xs → ((k : ℕ) (p : T) → slice_get xs k ≡ Some p → get_elem? (map Some ys) k ≡ some (Some p)) → ys ≡ xs
+  same_all : (ys xs : List T) → length ys ≡ length xs
+      → ((k : ℕ) (p : T) → slice_get xs k ≡ Some p → get_elem? (map Some ys) k ≡ some (Some p)) → ys ≡ xs
   same_all [] [] n h = refl
   same_all [] (x ∷ xs) n h = absurd (omega arith)
   same_all (y ∷ ys) [] n h = absurd (omega arith)
@@ -49,7 +56,9 @@ module _ {T : Type 0} where
       let es : ys ≡ xs = same_all ys xs (omega arith) (λ k p g. h (suc k) p g) in
       λ i. d i ∷ es i
 
-module _ {P A R : Type 0} (c : Core P A R) (law : Lawful c) (opening : List P) (id : ℕ) (v : View P A R) (words : List ℕ) (slots : List (Option P)) (live : v.live ≡ true) (first : v.number ≡ 0) (empty : v.held ≡ []) (all_joined : AllJoined v) (last : Final (Seen (Ruled c opening) id v) words slots) where
+module _ {P A R : Type 0} (c : Core P A R) (law : Lawful c) (opening : List P) (id : ℕ) (v : View P A R)
+    (words : List ℕ) (slots : List (Option P)) (live : v.live ≡ true) (first : v.number ≡ 0) (empty : v.held ≡ [])
+    (all_joined : AllJoined v) (last : Final (Seen (Ruled c opening) id v) words slots) where
   pub closed : Closes c law opening v slots
   closed = closes c law opening id v words slots live first empty all_joined last
 
@@ -66,7 +75,8 @@ module _ {P A R : Type 0} (c : Core P A R) (law : Lawful c) (opening : List P) (
   pub parts_back : (ys : List P) → map Some ys ≡ slots → ys ≡ state c v.opening v.seen
   parts_back ys e =
       let n : length ys ≡ length (state c opening v.seen) = sym (length-map ys Some) ∙ (ap length e ∙ sym long_state) in
-      same_all ys (state c opening v.seen) n (λ k p g. ap (λ zs. get_elem? zs k) e ∙ closed.parts k p g) ∙ ap (λ xs. state c xs v.seen) (sym closed.same_opening)
+      same_all ys (state c opening v.seen) n (λ k p g. ap (λ zs. get_elem? zs k) e ∙ closed.parts k p g)
+      ∙ ap (λ xs. state c xs v.seen) (sym closed.same_opening)
 
   pub legal_back : Legal c v.opening v.seen
   legal_back = subst (λ (xs : List P). Legal c xs v.seen) (sym closed.same_opening) closed.legal

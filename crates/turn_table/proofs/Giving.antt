@@ -21,7 +21,8 @@ use Rattle.turn_table.proofs.Beginning.{only_one, holds_here}
 
 module _ {P A R : Type 0} (c : Core P A R) (law : Lawful c) (opening : List P) where
   -- give
-  module _ (s : State (Option P) (View P A R)) (n : Names A R) (id : ℕ) (v : View P A R) (rule : Rule c opening s n) (at : get_elem? s.views id ≡ some v) (live : v.live ≡ true) (k : ℕ) (p : P) (held_here : In (k, p) v.held) where
+  module _ (s : State (Option P) (View P A R)) (n : Names A R) (id : ℕ) (v : View P A R) (rule : Rule c opening s n)
+      (at : get_elem? s.views id ≡ some v) (live : v.live ≡ true) (k : ℕ) (p : P) (held_here : In (k, p) v.held) where
     give_f : Fits c opening n id v
     give_f = rule.fits id v at live
 
@@ -40,10 +41,12 @@ module _ {P A R : Type 0} (c : Core P A R) (law : Lawful c) (opening : List P) w
     still_may : (j : ℕ) → In j (given v k).may → In j v.may × (j ≢ k)
     still_may j h = let r = kept_was (λ m. not (eqb m k)) j v.may h in (r.0, other_number j k r.1)
 
-    give_first_alone : (a : A) → v.flight ≡ Some a → v.committed ≡ false → In (c.first a) (given v k).may → (Holds (given v k) (c.first a) → ⊥) → ⊥
+    give_first_alone : (a : A) → v.flight ≡ Some a → v.committed ≡ false → In (c.first a) (given v k).may
+        → (Holds (given v k) (c.first a) → ⊥) → ⊥
     give_first_alone a e pend i nh =
         let m = still_may (c.first a) i in
-        let alone : v.may ≡ c.first a ∷ [] = give_f.first_alone a e pend m.0 (λ h. nh (h.0, stays_held (c.first a) h.0 m.1 h.1)) in
+        let alone : v.may ≡ c.first a ∷ [] =
+        give_f.first_alone a e pend m.0 (λ h. nh (h.0, stays_held (c.first a) h.0 m.1 h.1)) in
         m.1 (sym (only_one (c.first a) v.may k alone (give_f.allowed k p held_here)))
 
     give_fits : Fits c opening (renamed c opening n n.log (at_one n.holder k None)) id (given v k)
@@ -55,7 +58,8 @@ module _ {P A R : Type 0} (c : Core P A R) (law : Lawful c) (opening : List P) w
       may_fly = give_f.may_fly;
       holds_own = λ j q h. let r = still j q h in at_one_else n.holder k None j r.1 ∙ give_f.holds_own j q r.0;
       named = λ j q h. give_f.named j q (still j q h).0;
-      allowed = λ j q h. let r = still j q h in stays_in (λ m. not (eqb m k)) j v.may (give_f.allowed j q r.0) (is_other j k r.1);
+      allowed = λ j q h.
+          let r = still j q h in stays_in (λ m. not (eqb m k)) j v.may (give_f.allowed j q r.0) (is_other j k r.1);
       few = let a = filter_shorter (λ m. not (eqb m k)) v.may in let b = give_f.few in omega arith;
       there = λ j h. give_f.there j (still_may j h).0;
       first_alone = λ a e pend i nh. absurd (give_first_alone a e pend i nh);
@@ -68,12 +72,15 @@ module _ {P A R : Type 0} (c : Core P A R) (law : Lawful c) (opening : List P) w
       counts_drawn = give_f.counts_drawn;
     }
 
-    give_home : (q : P) → slice_get (state c opening n.log) k ≡ Some q → get_elem? (set s.homes k (some (Some p))) k ≡ some (some (Some q))
+    give_home : (q : P) → slice_get (state c opening n.log) k ≡ Some q
+        → get_elem? (set s.homes k (some (Some p))) k ≡ some (some (Some q))
     give_home q e =
         let d : Some p ≡ Some q = sym (give_f.named k p held_here) ∙ e in
-        set_here s.homes k (some (Some p)) (let t = give_there in let y = rule.slots_there in omega arith) ∙ ap (λ (x : Option P). some (some x)) d
+        set_here s.homes k (some (Some p)) (let t = give_there in let y = rule.slots_there in omega arith)
+        ∙ ap (λ (x : Option P). some (some x)) d
 
-    give_owes : Owes c opening s n id v (set s.words k 0) (set s.homes k (some (Some p))) (given v k) n.log (at_one n.holder k None)
+    give_owes : Owes c opening s n id v (set s.words k 0) (set s.homes k (some (Some p))) (given v k) n.log
+        (at_one n.holder k None)
     give_owes = record {
       alive = live;
       same_number = refl;
@@ -92,13 +99,20 @@ module _ {P A R : Type 0} (c : Core P A R) (law : Lawful c) (opening : List P) w
           (λ d. (sym (at_one_else n.holder k None m d) ∙ h, get_or-set_other s.words k m 0 0 d));
       free = λ m r h. split_on m k
           (λ e. (
-            ap (λ i. get_or (set s.words k 0) i 0) e ∙ get_or-set_same s.words k 0 0 (let t = give_there in let y = rule.words_there in omega arith),
-            λ q g. ap (get_elem? (set s.homes k (some (Some p)))) e ∙ give_home q (ap (slice_get (state c opening n.log)) (sym e) ∙ g),
+            ap (λ i. get_or (set s.words k 0) i 0) e
+                ∙ get_or-set_same s.words k 0 0 (let t = give_there in let y = rule.words_there in omega arith),
+            λ q g.
+                ap (get_elem? (set s.homes k (some (Some p)))) e
+                ∙ give_home q (ap (slice_get (state c opening n.log)) (sym e) ∙ g),
           ))
-          (λ d. let old = rule.free m r (sym (at_one_else n.holder k None m d) ∙ h) in (get_or-set_other s.words k m 0 0 d ∙ old.0, λ q g. set_else s.homes k m (some (Some p)) d ∙ old.1 q g));
+          (λ d.
+          let old = rule.free m r (sym (at_one_else n.holder k None m d) ∙ h) in
+          (get_or-set_other s.words k m 0 0 d ∙ old.0, λ q g. set_else s.homes k m (some (Some p)) d ∙ old.1 q g));
       mine = λ m r h. split_on m k
           (λ e. absurd (let a : None ≡ Some id = sym (at_one_same n.holder k None m e) ∙ h in cc))
-          (λ d. let old = holds_here c law opening s n id v rule at live m r (sym (at_one_else n.holder k None m d) ∙ h) in (get_or-set_other s.words k m 0 0 d ∙ old.0, (old.1.0, stays_held m old.1.0 d old.1.1)));
+          (λ d.
+          let old = holds_here c law opening s n id v rule at live m r (sym (at_one_else n.holder k None m d) ∙ h) in
+          (get_or-set_other s.words k m 0 0 d ∙ old.0, (old.1.0, stays_held m old.1.0 d old.1.1)));
       out = λ m j r h. split_on m k
           (λ e. absurd (let a : None ≡ Some j = sym (at_one_same n.holder k None m e) ∙ h in cc))
           (λ d. set_else s.homes k m (some (Some p)) d ∙ rule.out m j r (sym (at_one_else n.holder k None m d) ∙ h));
@@ -106,9 +120,14 @@ module _ {P A R : Type 0} (c : Core P A R) (law : Lawful c) (opening : List P) w
       newest = inr (refl, refl);
     }
 
-  pub gives_turn : (id : ℕ) (v : View P A R) (rest : List (ℕ × Option P)) → v.live ≡ true → (k : ℕ) (p : P) → In (k, p) v.held → (slots : ℕ) → slots ≡ length opening → Allows (Ruled c opening) slots id (v, (k, Some p) ∷ rest) k (λ _. 0) (λ _. Gives c (step slots k 0 0 none) (v, (k, Some p) ∷ rest) 0)
+  pub gives_turn : (id : ℕ) (v : View P A R) (rest : List (ℕ × Option P)) → v.live ≡ true → (k : ℕ) (p : P)
+      → In (k, p) v.held → (slots : ℕ) → slots ≡ length opening
+      → Allows (Ruled c opening) slots id (v, (k, Some p) ∷ rest) k (λ _. 0)
+      (λ _. Gives c (step slots k 0 0 none) (v, (k, Some p) ∷ rest) 0)
   gives_turn id v rest live k p h slots is s ruled there at bound =
       let n : Names A R = ruled.0 in
       let rule : Rule c opening s n = ruled.1 in
-      let kept = stays c opening s n id v (set s.words k 0) (set s.homes k (some (Some p))) (given v k) n.log (at_one n.holder k None) rule at live (give_owes s n id v rule at live k p h) in
+      let kept =
+      stays c opening s n id v (set s.words k 0) (set s.homes k (some (Some p))) (given v k) n.log
+      (at_one n.holder k None) rule at live (give_owes s n id v rule at live k p h) in
       (given v k, gives, tt, (renamed c opening n n.log (at_one n.holder k None), kept), (refl, refl))

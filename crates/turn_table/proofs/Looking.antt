@@ -16,7 +16,8 @@ use Rattle.turn_table.proofs.Owing.{renamed, moved, Owes, stays}
 use Rattle.turn_table.proofs.Beginning.{fit, look, holds_here}
 
 module _ {P A R : Type 0} (c : Core P A R) (law : Lawful c) (opening : List P) where
-  pub sees : (id : ℕ) (me : Sat c) → me.0.live ≡ true → (slots word : ℕ) → Allows (Ruled c opening) slots id me word (λ n. n) (Sees c (step slots word 0 0 none) me)
+  pub sees : (id : ℕ) (me : Sat c) → me.0.live ≡ true → (slots word : ℕ)
+      → Allows (Ruled c opening) slots id me word (λ n. n) (Sees c (step slots word 0 0 none) me)
   sees id me live slots word s ruled there at bound =
       let n : Names A R = ruled.0 in
       let rule : Rule c opening s n = ruled.1 in
@@ -61,19 +62,27 @@ module _ {P A R : Type 0} (c : Core P A R) (law : Lawful c) (opening : List P) w
         fits = g;
         newest = inl refl;
       } in
-      let kept : Rule c opening (moved c opening s s.words s.homes id w) (renamed c opening n n.log n.holder) = stays c opening s n id v s.words s.homes w n.log n.holder rule at live owes in
+      let kept : Rule c opening (moved c opening s s.words s.homes id w) (renamed c opening n n.log n.holder) =
+      stays c opening s n id v s.words s.homes w n.log n.holder rule at live owes in
       let same : set s.words word (get_or s.words word 0) ≡ s.words = set-get_or s.words word 0 in
       let told : LooksOn c me (w, me.1) = record {
         view = refl;
         slots = refl;
         looks = look c law opening s n id v rule at live;
         shorter = f.shorter_begins;
-        held = subst (λ (xs : List P). (k : ℕ) (q : P) → In (k, q) v.held → slice_get (state c xs n.log) k ≡ Some q) (sym f.same_opening) f.named;
+        held =
+            subst (λ (xs : List P). (k : ℕ) (q : P) → In (k, q) v.held → slice_get (state c xs n.log) k ≡ Some q)
+            (sym f.same_opening) f.named;
       } in (
         w,
         keeps,
         tt,
-        (renamed c opening n n.log n.holder, subst (λ (ws : List ℕ). Rule c opening (moved c opening s ws s.homes id w) (renamed c opening n n.log n.holder)) (sym same) kept),
+        (
+          renamed c opening n n.log n.holder,
+          subst
+              (λ (ws : List ℕ). Rule c opening (moved c opening s ws s.homes id w) (renamed c opening n n.log n.holder))
+              (sym same) kept,
+        ),
         told,
       )
 
@@ -82,4 +91,9 @@ module _ {P A R : Type 0} (c : Core P A R) (m : Sat c) (m' : Sat c) where
   pub knows_seen : LooksOn c m m' → Knows c m'.0
   knows_seen told =
       let l : Looks c m.0 m'.0.seen = told.looks in
-      subst (λ v. Knows c v) (sym told.view) (record { legal = l.legal; own = l.own; joined = l.joined; no_others = l.no_others })
+      subst (λ v. Knows c v) (sym told.view) (record {
+        legal = l.legal;
+        own = l.own;
+        joined = l.joined;
+        no_others = l.no_others;
+      })

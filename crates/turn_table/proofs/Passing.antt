@@ -24,7 +24,8 @@ use Rattle.std.proofs.lemmas.List.{map-append, length-map}
 pub split_lt : (m n : ℕ) {X : Type 0} → (m < n → X) → (n ≤ m → X) → X
 split_lt m n below else = ⊎_elim (λ e. below (ltb-true m n e)) (λ e. else (ltb-false m n e)) (cases_Bool (ltb m n))
 
-at_end : {X : Type 0} (l : List X) (a b : X) (j : ℕ) → get_elem? (l ++ a ∷ []) j ≡ some b → (get_elem? l j ≡ some b) ⊎ ((j ≡ length l) × (a ≡ b))
+at_end : {X : Type 0} (l : List X) (a b : X) (j : ℕ) → get_elem? (l ++ a ∷ []) j ≡ some b
+    → (get_elem? l j ≡ some b) ⊎ ((j ≡ length l) × (a ≡ b))
 at_end [] a b zero e = inr (refl, some-injective a b e)
 at_end [] a b (suc j) e = inl e
 at_end (x ∷ xs) a b zero e = inl e
@@ -32,18 +33,22 @@ at_end (x ∷ xs) a b (suc j) e = ⊎_elim inl (λ t. inr (ap suc t.0, t.1)) (at
 
 distinct_append : (xs ys : List ℕ) → Distinct xs → Distinct ys → ((m : ℕ) → In m xs → In m ys → ⊥) → Distinct (xs ++ ys)
 distinct_append [] ys d e n = e
-distinct_append (x ∷ xs) ys d e n = (λ h. ⊎_elim d.0 (n x (inl refl)) (in_append x xs ys h), distinct_append xs ys d.1 e (λ m i. n m (inr i)))
+distinct_append (x ∷ xs) ys d e n =
+    (λ h. ⊎_elim d.0 (n x (inl refl)) (in_append x xs ys h), distinct_append xs ys d.1 e (λ m i. n m (inr i)))
 
 module _ {P A R : Type 0} (c : Core P A R) (law : Lawful c) (opening : List P) where
   -- two live views at different places have no number in common
-  numbers_apart : (s : State (Option P) (View P A R)) (n : Names A R) → Rule c opening s n → (i j : ℕ) (u v : View P A R) → get_elem? s.views i ≡ some u → get_elem? s.views j ≡ some v → u.live ≡ true → v.live ≡ true → (m : ℕ) → In m (numbers_of u) → In m (numbers_of v) → i ≡ j
+  numbers_apart : (s : State (Option P) (View P A R)) (n : Names A R) → Rule c opening s n
+      → (i j : ℕ) (u v : View P A R) → get_elem? s.views i ≡ some u → get_elem? s.views j ≡ some v → u.live ≡ true
+      → v.live ≡ true → (m : ℕ) → In m (numbers_of u) → In m (numbers_of v) → i ≡ j
   numbers_apart s n rule i j u v at_u at_v live_u live_v m hu hv =
       let a : n.owner m ≡ Some i = (rule.fits i u at_u live_u).has_numbers m hu in
       let b : n.owner m ≡ Some j = (rule.fits j v at_v live_v).has_numbers m hv in
       let d : Some i ≡ Some j = sym a ∙ b in cc
 
   -- split
-  module _ (s : State (Option P) (View P A R)) (n : Names A R) (id : ℕ) (v : View P A R) (rule : Rule c opening s n) (at : get_elem? s.views id ≡ some v) (live : v.live ≡ true) (first : v.number ≡ 0) where
+  module _ (s : State (Option P) (View P A R)) (n : Names A R) (id : ℕ) (v : View P A R) (rule : Rule c opening s n)
+      (at : get_elem? s.views id ≡ some v) (live : v.live ≡ true) (first : v.number ≡ 0) where
     f : Fits c opening n id v
     f = rule.fits id v at live
 
@@ -51,7 +56,13 @@ module _ {P A R : Type 0} (c : Core P A R) (law : Lawful c) (opening : List P) w
     drawn_is = f.counts_drawn first
 
     abbrev after : Names A R
-    after = record { log = n.log; holder = n.holder; owner = at_one n.owner (n.drawn + 1) (Some (length s.views)); drawn = n.drawn + 1 }
+    after =
+        record {
+          log = n.log;
+          holder = n.holder;
+          owner = at_one n.owner (n.drawn + 1) (Some (length s.views));
+          drawn = n.drawn + 1;
+        }
 
     abbrev cut : State (Option P) (View P A R)
     cut = record { words = s.words; homes = s.homes; views = set s.views id (divided v) ++ split_from v ∷ [] }
@@ -133,16 +144,22 @@ module _ {P A R : Type 0} (c : Core P A R) (law : Lawful c) (opening : List P) w
     id_there = at_length s.views id v at
 
     own_at : get_elem? (set s.views id (divided v) ++ split_from v ∷ []) id ≡ some (divided v)
-    own_at = at_longer (set s.views id (divided v)) (split_from v ∷ []) id (divided v) (set_here s.views id (divided v) id_there)
+    own_at =
+        at_longer (set s.views id (divided v)) (split_from v ∷ []) id (divided v)
+        (set_here s.views id (divided v) id_there)
 
-    else_at : (j : ℕ) (u : View P A R) → j ≢ id → get_elem? s.views j ≡ some u → get_elem? (set s.views id (divided v) ++ split_from v ∷ []) j ≡ some u
-    else_at j u ne there = at_longer (set s.views id (divided v)) (split_from v ∷ []) j u (set_else s.views id j (divided v) ne ∙ there)
+    else_at : (j : ℕ) (u : View P A R) → j ≢ id → get_elem? s.views j ≡ some u
+        → get_elem? (set s.views id (divided v) ++ split_from v ∷ []) j ≡ some u
+    else_at j u ne there =
+        at_longer (set s.views id (divided v)) (split_from v ∷ []) j u (set_else s.views id j (divided v) ne ∙ there)
 
     here : (j : ℕ) (u : View P A R) → j ≡ id → get_elem? s.views j ≡ some u → u ≡ v
     here j u e there = some-injective u v (sym there ∙ (ap (get_elem? s.views) e ∙ at))
 
     -- what a view of the table after the split is
-    cases : (j : ℕ) (u : View P A R) → get_elem? (set s.views id (divided v) ++ split_from v ∷ []) j ≡ some u → ((j ≡ id) × (divided v ≡ u)) ⊎ (((j ≢ id) × (get_elem? s.views j ≡ some u)) ⊎ ((j ≡ length s.views) × (split_from v ≡ u)))
+    cases : (j : ℕ) (u : View P A R) → get_elem? (set s.views id (divided v) ++ split_from v ∷ []) j ≡ some u
+        → ((j ≡ id) × (divided v ≡ u))
+        ⊎ (((j ≢ id) × (get_elem? s.views j ≡ some u)) ⊎ ((j ≡ length s.views) × (split_from v ≡ u)))
     cases j u there = ⊎_elim
         (λ e. ⊎_elim inl (λ t. inr (inl t)) (at_set s.views id j (divided v) u e))
         (λ t. inr (inr (t.0 ∙ length-set s.views id (divided v), t.1)))
@@ -159,33 +176,54 @@ module _ {P A R : Type 0} (c : Core P A R) (law : Lawful c) (opening : List P) w
       held = λ k j r h. let old = rule.held k j r h in (
         old.0,
         split_on j id
-            (λ e. let same : old.1.0 ≡ v = here j old.1.0 e old.1.1 in (divided v, ap (get_elem? (set s.views id (divided v) ++ split_from v ∷ [])) e ∙ own_at, subst (λ (x : View P A R). Holds x k) same old.1.2))
+            (λ e.
+            let same : old.1.0 ≡ v = here j old.1.0 e old.1.1 in (
+              divided v,
+              ap (get_elem? (set s.views id (divided v) ++ split_from v ∷ [])) e ∙ own_at,
+              subst (λ (x : View P A R). Holds x k) same old.1.2,
+            ))
             (λ ne. (old.1.0, else_at j old.1.0 ne old.1.1, old.1.2)),
       );
       out = rule.out;
       fits = λ j u there alive. ⊎_elim
-          (λ t. subst (λ (x : View P A R). Fits c opening after j x) t.1 (subst (λ i. Fits c opening after i (divided v)) (sym t.0) own_fits))
+          (λ t.
+          subst (λ (x : View P A R). Fits c opening after j x) t.1
+          (subst (λ i. Fits c opening after i (divided v)) (sym t.0) own_fits))
           (⊎_elim
-          (λ t. old_fits j u (rule.fits j u t.1 alive) (λ e. t.0 (numbers_apart s n rule j id u v t.1 at alive live 0 (inl (sym e)) (inl (sym first)))))
-          (λ t. subst (λ (x : View P A R). Fits c opening after j x) t.1 (subst (λ i. Fits c opening after i (split_from v)) (sym t.0) new_fits)))
+          (λ t.
+          old_fits j u (rule.fits j u t.1 alive)
+          (λ e. t.0 (numbers_apart s n rule j id u v t.1 at alive live 0 (inl (sym e)) (inl (sym first)))))
+          (λ t.
+          subst (λ (x : View P A R). Fits c opening after j x) t.1
+          (subst (λ i. Fits c opening after i (split_from v)) (sym t.0) new_fits)))
           (cases j u there);
       spent_holds_none = λ j u there dead. ⊎_elim
-          (λ t. absurd (let a : v.live ≡ u.live = ap (λ (x : View P A R). x.live) t.1 in let e : true ≡ false = sym live ∙ (a ∙ dead) in cc))
+          (λ t.
+          absurd (let a : v.live ≡ u.live =
+          ap (λ (x : View P A R). x.live) t.1 in let e : true ≡ false = sym live ∙ (a ∙ dead) in cc))
           (⊎_elim
           (λ t. rule.spent_holds_none j u t.1 dead)
-          (λ t. absurd (let a : true ≡ u.live = ap (λ (x : View P A R). x.live) t.1 in let e : true ≡ false = a ∙ dead in cc)))
+          (λ t.
+          absurd
+          (let a : true ≡ u.live = ap (λ (x : View P A R). x.live) t.1 in let e : true ≡ false = a ∙ dead in cc)))
           (cases j u there);
       newest = let old = rule.newest in split_on old.0 id
-          (λ e. let same : old.1 ≡ v = here old.0 old.1 e old.2 in (id, divided v, own_at, live, ap (λ (x : View P A R). x.seen) (sym same) ∙ old.4))
+          (λ e.
+          let same : old.1 ≡ v = here old.0 old.1 e old.2 in
+          (id, divided v, own_at, live, ap (λ (x : View P A R). x.seen) (sym same) ∙ old.4))
           (λ ne. (old.0, old.1, else_at old.0 old.1 ne old.2, old.3, old.4));
       undrawn = λ m far. rule.undrawn m (omega arith);
     }
 
-  pub splits : (id : ℕ) (v : View P A R) → v.live ≡ true → v.number ≡ 0 → Splits (Ruled c opening) id v (divided v) (split_from v)
-  splits id v live first s ruled there = (after s ruled.0 id v ruled.1 there live first, split_kept s ruled.0 id v ruled.1 there live first)
+  pub splits : (id : ℕ) (v : View P A R) → v.live ≡ true → v.number ≡ 0
+      → Splits (Ruled c opening) id v (divided v) (split_from v)
+  splits id v live first s ruled there =
+      (after s ruled.0 id v ruled.1 there live first, split_kept s ruled.0 id v ruled.1 there live first)
 
   -- join
-  module _ (s : State (Option P) (View P A R)) (n : Names A R) (id : ℕ) (v : View P A R) (other : ℕ) (w : View P A R) (rule : Rule c opening s n) (at : get_elem? s.views id ≡ some v) (ne : other ≢ id) (at_w : get_elem? s.views other ≡ some w)
+  module _ (s : State (Option P) (View P A R)) (n : Names A R) (id : ℕ) (v : View P A R) (other : ℕ) (w : View P A R)
+      (rule : Rule c opening s n) (at : get_elem? s.views id ≡ some v) (ne : other ≢ id)
+      (at_w : get_elem? s.views other ≡ some w)
       (live : v.live ≡ true) (live_w : w.live ≡ true) (empty : v.held ≡ []) (empty_w : w.held ≡ []) where
     f1 : Fits c opening n id v
     f1 = rule.fits id v at live
@@ -248,11 +286,17 @@ module _ {P A R : Type 0} (c : Core P A R) (law : Lawful c) (opening : List P) w
           (λ i. new_owner m (f2.has_numbers m i))
           (number_cases m h);
       were_drawn = λ m h. ⊎_elim (f1.were_drawn m) (f2.were_drawn m) (number_cases m h);
-      differ = subst Distinct (sym numbers_both) (distinct_append (numbers_of v) (numbers_of w) f1.differ f2.differ (λ m i j. ne (numbers_apart s n rule other id w v at_w at live_w live m j i)));
+      differ =
+          subst Distinct (sym numbers_both)
+          (distinct_append (numbers_of v) (numbers_of w) f1.differ f2.differ
+          (λ m i j. ne (numbers_apart s n rule other id w v at_w at live_w live m j i)));
       joined_calls = λ j h. ⊎_elim
           (f1.joined_calls j)
           (⊎_elim
-          (λ e. let d : j.number ≡ w.number = ap (λ (x : Joined A R). x.number) e in let g : j.calls ≡ w.made = ap (λ (x : Joined A R). x.calls) e in ap (λ m. calls_of m n.log) d ∙ (f2.own_calls ∙ sym g))
+          (λ e.
+          let d : j.number ≡ w.number = ap (λ (x : Joined A R). x.number) e in
+          let g : j.calls ≡ w.made = ap (λ (x : Joined A R). x.calls) e in
+          ap (λ m. calls_of m n.log) d ∙ (f2.own_calls ∙ sym g))
           (f2.joined_calls j))
           (in_append j v.joined (as_joined w ∷ w.joined) h);
       counts_drawn = f1.counts_drawn;
@@ -280,18 +324,24 @@ module _ {P A R : Type 0} (c : Core P A R) (law : Lawful c) (opening : List P) w
       counts_drawn = g.counts_drawn;
     }
 
-    join_cases : (j : ℕ) (u : View P A R) → get_elem? (set (set s.views id both) other spent) j ≡ some u → ((j ≡ other) × (spent ≡ u)) ⊎ (((j ≡ id) × (both ≡ u)) ⊎ ((j ≢ other) × (j ≢ id) × (get_elem? s.views j ≡ some u)))
+    join_cases : (j : ℕ) (u : View P A R) → get_elem? (set (set s.views id both) other spent) j ≡ some u
+        → ((j ≡ other) × (spent ≡ u))
+        ⊎ (((j ≡ id) × (both ≡ u)) ⊎ ((j ≢ other) × (j ≢ id) × (get_elem? s.views j ≡ some u)))
     join_cases j u there = ⊎_elim inl
         (λ t. ⊎_elim (λ r. inr (inl r)) (λ r. inr (inr (t.0, r.0, r.1))) (at_set s.views id j both u t.1))
         (at_set (set s.views id both) other j spent u there)
 
     both_at : get_elem? (set (set s.views id both) other spent) id ≡ some both
-    both_at = set_else (set s.views id both) other id spent (λ e. ne (sym e)) ∙ set_here s.views id both (at_length s.views id v at)
+    both_at =
+        set_else (set s.views id both) other id spent (λ e. ne (sym e))
+        ∙ set_here s.views id both (at_length s.views id v at)
 
-    third_at : (j : ℕ) (u : View P A R) → j ≢ other → j ≢ id → get_elem? s.views j ≡ some u → get_elem? (set (set s.views id both) other spent) j ≡ some u
+    third_at : (j : ℕ) (u : View P A R) → j ≢ other → j ≢ id → get_elem? s.views j ≡ some u
+        → get_elem? (set (set s.views id both) other spent) j ≡ some u
     third_at j u d e there = set_else (set s.views id both) other j spent d ∙ (set_else s.views id j both e ∙ there)
 
-    at_one_place : (j i : ℕ) (u x : View P A R) → j ≡ i → get_elem? s.views j ≡ some u → get_elem? s.views i ≡ some x → u ≡ x
+    at_one_place : (j i : ℕ) (u x : View P A R) → j ≡ i → get_elem? s.views j ≡ some u → get_elem? s.views i ≡ some x
+        → u ≡ x
     at_one_place j i u x e there here = some-injective u x (sym there ∙ (ap (get_elem? s.views) e ∙ here))
 
     longer_first : v.seen ≡ n.log → both.seen ≡ n.log
@@ -303,7 +353,9 @@ module _ {P A R : Type 0} (c : Core P A R) (law : Lawful c) (opening : List P) w
     longer_second : w.seen ≡ n.log → both.seen ≡ n.log
     longer_second e = split_lt (length v.seen) (length w.seen)
         (λ lt. ap (λ b. cond b w.seen v.seen) (lt-ltb (length v.seen) (length w.seen) lt) ∙ e)
-        (λ le. ap (λ b. cond b w.seen v.seen) (le-ltb (length v.seen) (length w.seen) le) ∙ prefix_whole v.seen n.log f1.seen_begins (let l : length w.seen ≡ length n.log = ap length e in omega arith))
+        (λ le.
+        ap (λ b. cond b w.seen v.seen) (le-ltb (length v.seen) (length w.seen) le)
+        ∙ prefix_whole v.seen n.log f1.seen_begins (let l : length w.seen ≡ length n.log = ap length e in omega arith))
 
     join_kept : Rule c opening met joint
     join_kept = record {
@@ -316,39 +368,57 @@ module _ {P A R : Type 0} (c : Core P A R) (law : Lawful c) (opening : List P) w
       held = λ k j r h. let old = rule.held k j r h in (
         old.0,
         split_on j other
-            (λ e. absurd (none_held c w empty_w k (subst (λ (x : View P A R). Holds x k) (at_one_place j other old.1.0 w e old.1.1 at_w) old.1.2)))
+            (λ e.
+            absurd (none_held c w empty_w k
+            (subst (λ (x : View P A R). Holds x k) (at_one_place j other old.1.0 w e old.1.1 at_w) old.1.2)))
             (λ d. split_on j id
-            (λ e. absurd (none_held c v empty k (subst (λ (x : View P A R). Holds x k) (at_one_place j id old.1.0 v e old.1.1 at) old.1.2)))
+            (λ e.
+            absurd (none_held c v empty k
+            (subst (λ (x : View P A R). Holds x k) (at_one_place j id old.1.0 v e old.1.1 at) old.1.2)))
             (λ e. (old.1.0, third_at j old.1.0 d e old.1.1, old.1.2))),
       );
       out = rule.out;
       fits = λ j u there alive. ⊎_elim
-          (λ t. absurd (let a : false ≡ u.live = ap (λ (x : View P A R). x.live) t.1 in let e : false ≡ true = a ∙ alive in cc))
+          (λ t.
+          absurd
+          (let a : false ≡ u.live = ap (λ (x : View P A R). x.live) t.1 in let e : false ≡ true = a ∙ alive in cc))
           (⊎_elim
-          (λ t. subst (λ (x : View P A R). Fits c opening joint j x) t.1 (subst (λ i. Fits c opening joint i both) (sym t.0) both_fits))
+          (λ t.
+          subst (λ (x : View P A R). Fits c opening joint j x) t.1
+          (subst (λ i. Fits c opening joint i both) (sym t.0) both_fits))
           (λ t. else_fits j u t.0 (rule.fits j u t.2 alive)))
           (join_cases j u there);
       spent_holds_none = λ j u there dead. ⊎_elim
           (λ t. ap (λ (x : View P A R). x.held) (sym t.1))
           (⊎_elim
-          (λ t. absurd (let a : v.live ≡ u.live = ap (λ (x : View P A R). x.live) t.1 in let e : true ≡ false = sym live ∙ (a ∙ dead) in cc))
+          (λ t.
+          absurd (let a : v.live ≡ u.live =
+          ap (λ (x : View P A R). x.live) t.1 in let e : true ≡ false = sym live ∙ (a ∙ dead) in cc))
           (λ t. rule.spent_holds_none j u t.2 dead))
           (join_cases j u there);
       newest = let old = rule.newest in split_on old.0 other
-          (λ e. let same : old.1 ≡ w = at_one_place old.0 other old.1 w e old.2 at_w in (id, both, both_at, live, longer_second (ap (λ (x : View P A R). x.seen) (sym same) ∙ old.4)))
+          (λ e.
+          let same : old.1 ≡ w = at_one_place old.0 other old.1 w e old.2 at_w in
+          (id, both, both_at, live, longer_second (ap (λ (x : View P A R). x.seen) (sym same) ∙ old.4)))
           (λ d. split_on old.0 id
-          (λ e. let same : old.1 ≡ v = at_one_place old.0 id old.1 v e old.2 at in (id, both, both_at, live, longer_first (ap (λ (x : View P A R). x.seen) (sym same) ∙ old.4)))
+          (λ e.
+          let same : old.1 ≡ v = at_one_place old.0 id old.1 v e old.2 at in
+          (id, both, both_at, live, longer_first (ap (λ (x : View P A R). x.seen) (sym same) ∙ old.4)))
           (λ e. (old.0, old.1, third_at old.0 old.1 d e old.2, old.3, old.4)));
       undrawn = rule.undrawn;
     }
 
-  pub joins : (id : ℕ) (v : View P A R) (other : ℕ) (w : View P A R) → v.live ≡ true → w.live ≡ true → v.held ≡ [] → w.held ≡ [] → Joins (Ruled c opening) id v other w (merged v w) spent
+  pub joins : (id : ℕ) (v : View P A R) (other : ℕ) (w : View P A R) → v.live ≡ true → w.live ≡ true → v.held ≡ []
+      → w.held ≡ [] → Joins (Ruled c opening) id v other w (merged v w) spent
   joins id v other w live live_w empty empty_w s ruled there ne at_w =
-      let here : get_elem? s.views other ≡ some w = sym (set_else s.views id other (merged v w) ne) ∙ at_w in
-      (joint s ruled.0 id v other w ruled.1 there ne here live live_w empty empty_w, join_kept s ruled.0 id v other w ruled.1 there ne here live live_w empty empty_w)
+      let here : get_elem? s.views other ≡ some w = sym (set_else s.views id other (merged v w) ne) ∙ at_w in (
+        joint s ruled.0 id v other w ruled.1 there ne here live live_w empty empty_w,
+        join_kept s ruled.0 id v other w ruled.1 there ne here live live_w empty empty_w,
+      )
 
   -- the table when it opens
-  homes_of : (xs : List P) (k : ℕ) (p : P) → slice_get xs k ≡ Some p → get_elem? (map some (map Some xs)) k ≡ some (some (Some p))
+  homes_of : (xs : List P) (k : ℕ) (p : P) → slice_get xs k ≡ Some p
+      → get_elem? (map some (map Some xs)) k ≡ some (some (Some p))
   homes_of [] k p e = absurd cc
   homes_of (x ∷ xs) zero p e = ap (λ (y : Option P). some (some y)) e
   homes_of (x ∷ xs) (suc k) p e = homes_of xs k p e
@@ -357,7 +427,9 @@ module _ {P A R : Type 0} (c : Core P A R) (law : Lawful c) (opening : List P) w
   only_view v u zero e = (refl, some-injective v u e)
   only_view v u (suc j) e = absurd (some-ne-none u (sym e))
 
-  pub opens : (words : List ℕ) (slots : List (Option P)) → c.whole opening → length words ≡ length opening + 1 → ((k : ℕ) → slice_index words k ≡ 0) → slots ≡ map Some opening → Ruled c opening (table_opening words slots (new_view opening))
+  pub opens : (words : List ℕ) (slots : List (Option P)) → c.whole opening → length words ≡ length opening + 1
+      → ((k : ℕ) → slice_index words k ≡ 0) → slots ≡ map Some opening
+      → Ruled c opening (table_opening words slots (new_view opening))
   opens words slots whole long zeros is =
       let n : Names A R = record { log = []; holder = λ k. None; owner = λ m. Some 0; drawn = 0 } in
       let first : Fits c opening n 0 (new_view opening) = record {
@@ -383,15 +455,22 @@ module _ {P A R : Type 0} (c : Core P A R) (law : Lawful c) (opening : List P) w
         n,
         record {
           words_there = long;
-          slots_there = ap (λ (xs : List (Option P)). length (map some xs)) is ∙ (length-map (map Some opening) some ∙ length-map opening Some);
+          slots_there =
+              ap (λ (xs : List (Option P)). length (map some xs)) is
+              ∙ (length-map (map Some opening) some ∙ length-map opening Some);
           opens_whole = whole;
           counted = zeros (length opening);
           legal = tt;
-          free = λ k r e. (zeros k, λ p h. ap (λ (xs : List (Option P)). get_elem? (map some xs) k) is ∙ homes_of opening k p h);
+          free = λ k r e.
+              (zeros k, λ p h. ap (λ (xs : List (Option P)). get_elem? (map some xs) k) is ∙ homes_of opening k p h);
           held = λ k id r e. absurd cc;
           out = λ k id r e. absurd cc;
-          fits = λ j u there alive. let t = only_view (new_view opening) u j there in subst (λ (x : View P A R). Fits c opening n j x) t.1 (subst (λ i. Fits c opening n i (new_view opening)) (sym t.0) first);
-          spent_holds_none = λ j u there dead. ap (λ (x : View P A R). x.held) (sym (only_view (new_view opening) u j there).1);
+          fits = λ j u there alive.
+              let t = only_view (new_view opening) u j there in
+              subst (λ (x : View P A R). Fits c opening n j x) t.1
+              (subst (λ i. Fits c opening n i (new_view opening)) (sym t.0) first);
+          spent_holds_none = λ j u there dead.
+              ap (λ (x : View P A R). x.held) (sym (only_view (new_view opening) u j there).1);
           newest = (0, new_view opening, refl, refl, refl);
           undrawn = λ m far. refl;
         },
@@ -407,7 +486,9 @@ module _ {P A R : Type 0} (c : Core P A R) (law : Lawful c) (opening : List P) w
     pub joined : (j : Joined A R) → In j v.joined → calls_of j.number v.seen ≡ j.calls
     pub others : (m : ℕ) → v.splits < m → calls_of m v.seen ≡ []
 
-  pub closes : (id : ℕ) (v : View P A R) (words : List ℕ) (slots : List (Option P)) → v.live ≡ true → v.number ≡ 0 → v.held ≡ [] → ((m : ℕ) → 0 < m → m ≤ v.splits → In m (map joined_number v.joined)) → Final (Seen (Ruled c opening) id v) words slots → Closes v slots
+  pub closes : (id : ℕ) (v : View P A R) (words : List ℕ) (slots : List (Option P)) → v.live ≡ true → v.number ≡ 0
+      → v.held ≡ [] → ((m : ℕ) → 0 < m → m ≤ v.splits → In m (map joined_number v.joined))
+      → Final (Seen (Ruled c opening) id v) words slots → Closes v slots
   closes id v words slots live first empty all_joined last =
       let s : State (Option P) (View P A R) = last.0 in
       let n : Names A R = last.1.0.0 in
@@ -420,7 +501,9 @@ module _ {P A R : Type 0} (c : Core P A R) (law : Lawful c) (opening : List P) w
       let h : u.number ≤ n.drawn = (rule.fits j u there alive).were_drawn u.number (inl refl) in
       split_on u.number 0
       (λ e. numbers_apart s n rule j id u v there at alive live 0 (inl (sym e)) (inl (sym first)))
-      (λ ne. numbers_apart s n rule j id u v there at alive live u.number (inl refl) (inr (all_joined u.number (omega arith) (omega arith)))) in
+      (λ ne.
+      numbers_apart s n rule j id u v there at alive live u.number (inl refl)
+      (inr (all_joined u.number (omega arith) (omega arith)))) in
       let seen_all : v.seen ≡ n.log =
       let old = rule.newest in
       let here : old.0 ≡ id = alone old.0 old.1 old.2 old.3 in
@@ -428,7 +511,10 @@ module _ {P A R : Type 0} (c : Core P A R) (law : Lawful c) (opening : List P) w
       ap (λ (x : View P A R). x.seen) (sym same) ∙ old.4 in
       let nobody : (k : ℕ) → k < length opening → n.holder k ≡ None = λ k r. ⊎_elim (λ e. e)
       (λ t. absurd (let old = (rule.held k t.0 r t.1).1 in ⊎_elim
-      (λ alive. let here : t.0 ≡ id = alone t.0 old.0 old.1 alive in let same : old.0 ≡ v = some-injective old.0 v (sym old.1 ∙ (ap (get_elem? s.views) here ∙ at)) in none_held c v empty k (subst (λ (x : View P A R). Holds x k) same old.2))
+      (λ alive.
+      let here : t.0 ≡ id = alone t.0 old.0 old.1 alive in
+      let same : old.0 ≡ v = some-injective old.0 v (sym old.1 ∙ (ap (get_elem? s.views) here ∙ at)) in
+      none_held c v empty k (subst (λ (x : View P A R). Holds x k) same old.2))
       (λ dead. none_held c old.0 (rule.spent_holds_none t.0 old.0 old.1 dead) k old.2)
       (cases_Bool old.0.live)))
       (some_or_none (n.holder k)) in
@@ -437,8 +523,11 @@ module _ {P A R : Type 0} (c : Core P A R) (law : Lawful c) (opening : List P) w
         legal = subst (Legal c opening) (sym seen_all) rule.legal;
         long = sym last.3 ∙ rule.slots_there;
         parts = λ k p e.
-            let d : slice_get (state c opening n.log) k ≡ Some p = ap (λ es. slice_get (state c opening es) k) (sym seen_all) ∙ e in
-            let r : k < length opening = let h = slice_get_length (state c opening n.log) k p d in let l : length (state c opening n.log) ≡ length opening = length_state c opening n.log in omega arith in
+            let d : slice_get (state c opening n.log) k ≡ Some p =
+            ap (λ es. slice_get (state c opening es) k) (sym seen_all) ∙ e in
+            let r : k < length opening =
+            let h = slice_get_length (state c opening n.log) k p d in
+            let l : length (state c opening n.log) ≡ length opening = length_state c opening n.log in omega arith in
             last.4 k (Some p) ((rule.free k r (nobody k r)).1 p d);
         own = ap (calls_of 0) seen_all ∙ (ap (λ m. calls_of m n.log) (sym first) ∙ g.own_calls);
         joined = λ j h. ap (calls_of j.number) seen_all ∙ g.joined_calls j h;

@@ -12,10 +12,16 @@ made_none a v empty = record { keeps = record { number = refl; joined = refl; id
 
 pub made_more : (a : Bump) (n : ℕ) (v w u : View ℕ Bump ℕ) → MadeMany a n v w → MadeOne a w u → MadeMany a (n + 1) v u
 made_more a n v w u many one = record {
-  keeps = record { number = one.keeps.number ∙ many.keeps.number; joined = one.keeps.joined ∙ many.keeps.joined; idle = one.keeps.idle };
+  keeps =
+      record {
+        number = one.keeps.number ∙ many.keeps.number;
+        joined = one.keeps.joined ∙ many.keeps.joined;
+        idle = one.keeps.idle;
+      };
   made = λ f.
       let e : weigh f u.made ≡ weigh f (w.made ++ entry w.number a one.reply ∷ []) = ap (weigh f) one.made in
-      let g : weigh f (w.made ++ entry w.number a one.reply ∷ []) ≡ weigh f w.made + (f a + 0) = weigh_append f w.made (entry w.number a one.reply ∷ []) in
+      let g : weigh f (w.made ++ entry w.number a one.reply ∷ []) ≡ weigh f w.made + (f a + 0) =
+      weigh_append f w.made (entry w.number a one.reply ∷ []) in
       let h : weigh f w.made ≡ weigh f v.made + n * f a = many.made f in
       omega arith;
 }

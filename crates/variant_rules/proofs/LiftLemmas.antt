@@ -43,7 +43,8 @@ no-bit set t out = none (bit_at set t) (bit_at-lt set t) out
 
 lifted-at : (P : Placement) (set t : ℕ) → t < 64 → man_at (lifted P set) t ≡ lift_man (bit_at set t) (man_at P t)
 unfolding lifted
-lifted-at P set t lt = get_or-map-range_with_len (λ u. lift_man (bit_at set u) (man_at P u)) 0 64 t t None lt (zero-add t)
+lifted-at P set t lt =
+    get_or-map-range_with_len (λ u. lift_man (bit_at set u) (man_at P u)) 0 64 t t None lt (zero-add t)
 
 lifted-in : (P : Placement) (set t : ℕ) → t < 64 → Has set t → man_at (lifted P set) t ≡ None
 lifted-in P set t lt h = lifted-at P set t lt ∙ ap (λ n. lift_man n (man_at P t)) h
@@ -65,36 +66,49 @@ lifted-occupied P occupied set fits all = record {
   each = λ t lt. elim (has_or_not set t) [
     | inl here ↦
         let less : bit_at (bit_and occupied (bit_not w64 set)) t ≡ 0 =
-        omega (arith, here, bit_at_and occupied (bit_not w64 set) t, bit_at_not w64 set t fits lt, bit_at-lt occupied t) in
+        omega
+        (arith, here, bit_at_and occupied (bit_not w64 set) t, bit_at_not w64 set t fits lt, bit_at-lt occupied t) in
         less ∙ ap (λ (o : Option Man). bit_if (is_some o)) (sym (lifted-in P set t lt here))
     | inr out ↦
         let same : bit_at (bit_and occupied (bit_not w64 set)) t ≡ bit_at occupied t =
-        omega (arith, no-bit set t out, bit_at_and occupied (bit_not w64 set) t, bit_at_not w64 set t fits lt, bit_at-lt occupied t) in
+        omega (
+          arith,
+          no-bit set t out,
+          bit_at_and occupied (bit_not w64 set) t,
+          bit_at_not w64 set t fits lt,
+          bit_at-lt occupied t,
+        ) in
         same ∙ all.each t lt ∙ ap (λ (o : Option Man). bit_if (is_some o)) (sym (lifted-out P set t lt out))
   ];
 }
 
 -- an own man is in no set of the enemy's
-pub own-unplaced : (c : Colour) (k : Kind) (man : Option Man) → IsHeldBy c man → is_placed (man_place (opposite c) k) man ≡ false
+pub own-unplaced : (c : Colour) (k : Kind) (man : Option Man) → IsHeldBy c man
+    → is_placed (man_place (opposite c) k) man ≡ false
 own-unplaced c k man own =
     sym (held-placed (opposite c) k man)
-    ∙ false_from_ne_true (is_held_as (opposite c) k man) (λ e. held-both c man own (held_of (opposite c) k man ((Decides-held_as (opposite c) k man).0 e)))
+    ∙ false_from_ne_true (is_held_as (opposite c) k man)
+    (λ e. held-both c man own (held_of (opposite c) k man ((Decides-held_as (opposite c) k man).0 e)))
   where
     held_of : (d : Colour) (k : Kind) (man : Option Man) → IsHeldAs d k man → IsHeldBy d man
     held_of d k None h = h
     held_of d k (Some m) h = h.0
 
-lifted-set : (f : Option Man → Bool) (P : Placement) (set men : ℕ) → f None ≡ false → ((t : ℕ) → t < 64 → Has set t → f (man_at P t) ≡ false) →
+lifted-set : (f : Option Man → Bool) (P : Placement) (set men : ℕ) → f None ≡ false
+    → ((t : ℕ) → t < 64 → Has set t → f (man_at P t) ≡ false) →
     IsSetOf f P men → IsSetOf f (lifted P set) men
 lifted-set f P set men none own all = record {
   each = λ t lt. elim (has_or_not set t) [
-    | inl here ↦ all.each t lt ∙ ap bit_if (own t lt here ∙ sym none) ∙ ap (λ (o : Option Man). bit_if (f o)) (sym (lifted-in P set t lt here))
+    | inl here ↦
+        all.each t lt ∙ ap bit_if (own t lt here ∙ sym none)
+        ∙ ap (λ (o : Option Man). bit_if (f o)) (sym (lifted-in P set t lt here))
     | inr out ↦ all.each t lt ∙ ap (λ (o : Option Man). bit_if (f o)) (sym (lifted-out P set t lt out))
   ];
 }
 
 -- the enemies are all left where own men are lifted
-pub lifted-enemies : (P : Placement) (c : Colour) (set : ℕ) (side : Side) → ((t : ℕ) → t < 64 → Has set t → IsHeldBy c (man_at P t)) →
+pub lifted-enemies : (P : Placement) (c : Colour) (set : ℕ) (side : Side)
+    → ((t : ℕ) → t < 64 → Has set t → IsHeldBy c (man_at P t)) →
     AreMenOf P (opposite c) side → AreMenOf (lifted P set) (opposite c) side
 lifted-enemies P c set side own all = record {
   pawns = lifted-set (is_placed (man_place (opposite c) Pawn)) P set side.pawns refl (none Pawn) all.pawns;
@@ -119,41 +133,54 @@ lifted-eases P c s a set size la here own = record {
   men = λ x lx far held.
       let Q : Placement = slice_set P a None in
       elim (cases_eq x a) [
-        | inl same ↦ absurd (none-held (opposite c) (man_at Q x) (ap (man_at Q) same ∙ at-written P a None size la) held)
+        | inl same ↦
+            absurd (none-held (opposite c) (man_at Q x) (ap (man_at Q) same ∙ at-written P a None size la) held)
         | inr other ↦
             let there : IsHeldBy (opposite c) (man_at P x) =
             subst (λ (man : Option Man). IsHeldBy (opposite c) man) (at-unwritten P a x None other) held in
-            lifted-out P set x lx (λ h. held-both c (man_at P x) (own x lx h) there) ∙ sym (at-unwritten P a x None other)
+            lifted-out P set x lx (λ h. held-both c (man_at P x) (own x lx h) there)
+            ∙ sym (at-unwritten P a x None other)
       ];
 }
 
--- a man without whom s is attacked is among those that are first on its lines and that an enemy sees who sees s through them
-pub pinned-is : (P : Placement) (c : Colour) (s lines own occupied snipers seen : ℕ) (side : Side) → length P ≡ 64 → s < 64 → lines < 2 ^ 64 →
-    own < 2 ^ 64 → ¬ IsAttacked P (opposite c) s → IsStruckSet P c Queen s lines → IsSetOf (is_held_by c) P own → IsOccupied P occupied →
+-- a man without whom s is attacked is among those that are first on its lines and that an enemy sees who sees s through
+-- them
+pub pinned-is : (P : Placement) (c : Colour) (s lines own occupied snipers seen : ℕ) (side : Side) → length P ≡ 64
+    → s < 64 → lines < 2 ^ 64 →
+    own < 2 ^ 64 → ¬ IsAttacked P (opposite c) s → IsStruckSet P c Queen s lines → IsSetOf (is_held_by c) P own
+    → IsOccupied P occupied →
     AreMenOf P (opposite c) side →
-    ((Q : Placement) → AreMenOf Q (opposite c) side → IsOccupied Q (bit_and occupied (bit_not w64 (bit_and lines own))) →
-    IsStrikerSet Q (opposite c) s snipers) → AreSeenFrom P c snipers seen → ArePinned P c s (bit_and (bit_and lines own) seen)
+    ((Q : Placement) → AreMenOf Q (opposite c) side
+    → IsOccupied Q (bit_and occupied (bit_not w64 (bit_and lines own))) →
+    IsStrikerSet Q (opposite c) s snipers) → AreSeenFrom P c snipers seen
+    → ArePinned P c s (bit_and (bit_and lines own) seen)
 unfolding IsAttacked
-pinned-is P c s lines own occupied snipers seen side size ls fits_l fits_o safe struck held all men strike sees = record {
-  each = λ a la here bare.
-      let shields : ℕ = bit_and lines own in
-      let fits : shields < 2 ^ 64 = and_lt 64 lines own fits_l fits_o in
-      let owns : (t : ℕ) → t < 64 → Has shields t → IsHeldBy c (man_at P t) =
-      λ t lt h. (Has-held P c own t held lt).0 (Has-and lines own t h).1 in
-      let from = bare-from P c s a size la bare in
-      let x : ℕ = from.0 in
-      let first : Has lines a = elim (has_or_not lines a) [
-        | inl in_lines ↦ in_lines
-        | inr out ↦ absurd (bare-near P c s a x ls safe from.1 (λ strikes. out ((struck.each a la).1 strikes)))
-      ] in
-      let shield : Has shields a = Has-and_both lines own a first ((Has-held P c own a held la).1 here) in
-      let set = strike (lifted P shields) (lifted-enemies P c shields side owns men) (lifted-occupied P occupied shields fits all) in
-      let through : StrikesFrom (lifted P shields) (opposite c) x s =
-      eased-from (slice_set P a None) (lifted P shields) (opposite c) x s from.1.square ls (lifted-eases P c s a shields size la shield owns)
-      (bare-strikes P c s a x size la from.1) in
-      let sniper : Has snipers x = (set.each x from.1.square).1 through in
-      elim (has_or_not seen a) [
-        | inl there ↦ Has-and_both shields seen a shield there
-        | inr out ↦ absurd (bare-far P c s a x ls safe from.1 (λ strikes. out (sees.each x a from.1.square la sniper strikes)))
-      ];
-}
+pinned-is P c s lines own occupied snipers seen side size ls fits_l fits_o safe struck held all men strike sees =
+    record {
+      each = λ a la here bare.
+          let shields : ℕ = bit_and lines own in
+          let fits : shields < 2 ^ 64 = and_lt 64 lines own fits_l fits_o in
+          let owns : (t : ℕ) → t < 64 → Has shields t → IsHeldBy c (man_at P t) =
+          λ t lt h. (Has-held P c own t held lt).0 (Has-and lines own t h).1 in
+          let from = bare-from P c s a size la bare in
+          let x : ℕ = from.0 in
+          let first : Has lines a = elim (has_or_not lines a) [
+            | inl in_lines ↦ in_lines
+            | inr out ↦ absurd (bare-near P c s a x ls safe from.1 (λ strikes. out ((struck.each a la).1 strikes)))
+          ] in
+          let shield : Has shields a = Has-and_both lines own a first ((Has-held P c own a held la).1 here) in
+          let set =
+          strike (lifted P shields) (lifted-enemies P c shields side owns men)
+          (lifted-occupied P occupied shields fits all) in
+          let through : StrikesFrom (lifted P shields) (opposite c) x s =
+          eased-from (slice_set P a None) (lifted P shields) (opposite c) x s from.1.square ls
+          (lifted-eases P c s a shields size la shield owns)
+          (bare-strikes P c s a x size la from.1) in
+          let sniper : Has snipers x = (set.each x from.1.square).1 through in
+          elim (has_or_not seen a) [
+            | inl there ↦ Has-and_both shields seen a shield there
+            | inr out ↦
+                absurd
+                (bare-far P c s a x ls safe from.1 (λ strikes. out (sees.each x a from.1.square la sniper strikes)))
+          ];
+    }

@@ -72,7 +72,8 @@ not_here s x k some le e = absurd (omega (arith, some, distance-self s (along s 
 zero-min : (k f : ℕ) → f ≡ 0 → min k f ≡ 0
 zero-min k f e = omega arith
 
-pub queen-along : (c : Colour) (s x k : ℕ) → IsStep c Queen s x → 0 < k → k ≤ distance s x → IsStep c Queen s (along s x k)
+pub queen-along : (c : Colour) (s x k : ℕ) → IsStep c Queen s x → 0 < k → k ≤ distance s x
+    → IsStep c Queen s (along s x k)
 unfolding IsStep
 queen-along c s x k step some le = elim step [
   | inl straight ↦ inl (
@@ -93,7 +94,8 @@ pub record Fills (P Q : Placement) (c : Colour) (s a : ℕ) : Type 0 where
   pub same : (t : ℕ) → t < 64 → t ≢ a → man_at Q t ≡ None → man_at P t ≡ None
   pub left : (man_at Q a ≡ None → man_at P a ≡ None) ⊎ (¬ Strikes P c Queen s a)
 
-still-clear : (P Q : Placement) (c : Colour) (s x a : ℕ) → s < 64 → x < 64 → Fills P Q c s a → IsStep c Queen s x → Clear Q s x →
+still-clear : (P Q : Placement) (c : Colour) (s x a : ℕ) → s < 64 → x < 64 → Fills P Q c s a → IsStep c Queen s x
+    → Clear Q s x →
     Clear P s x
 still-clear P Q c s x a ls lx fills step clear = record {
   empty = λ k some less.
@@ -113,15 +115,18 @@ still-clear P Q c s x a ls lx fills step clear = record {
                     let v : ℕ = along s x j in
                     let near : distance s v ≡ j = distance-along s x j (omega (arith, jk, less)) in
                     let apart : v ≢ a = λ f. absurd (omega (arith, jk, near, far, ap (distance s) (f ∙ sym same))) in
-                    ap (man_at P) e ∙ fills.same v (along-lt s x j ls lx) apart (clear.empty j more (omega (arith, jk, less)));
+                    ap (man_at P) e
+                    ∙ fills.same v (along-lt s x j ls lx) apart (clear.empty j more (omega (arith, jk, less)));
               } in
-              let strikes : Strikes P c Queen s u = record { step = queen-along c s x k step some le; open_way = way } in
+              let strikes : Strikes P c Queen s u =
+              record { step = queen-along c s x k step some le; open_way = way } in
               absurd (unexposed (subst (λ (t : ℕ). Strikes P c Queen s t) same strikes))
         ]
       ];
 }
 
-line-of : (c d : Colour) (k : Kind) (s x : ℕ) → (k ≡ Bishop) ⊎ ((k ≡ Rook) ⊎ (k ≡ Queen)) → IsStep d k s x → IsStep c Queen s x
+line-of : (c d : Colour) (k : Kind) (s x : ℕ) → (k ≡ Bishop) ⊎ ((k ≡ Rook) ⊎ (k ≡ Queen)) → IsStep d k s x
+    → IsStep c Queen s x
 unfolding IsStep
 line-of c d Pawn s x h step = absurd (not_line h)
   where
@@ -161,7 +166,8 @@ by-line : (P Q : Placement) (c by : Colour) (k : Kind) (s x a : ℕ) → s < 64 
 by-line P Q c by k s x a ls lx fills line other h =
     let back : Strikes Q (opposite by) k s x = Strikes-back Q by k x s h in
     let clear : Clear P s x =
-    still-clear P Q c s x a ls lx fills (line-of c (opposite by) k s x line back.step) (clear-of k Q s x other back.open_way) in
+    still-clear P Q c s x a ls lx fills (line-of c (opposite by) k s x line back.step)
+    (clear-of k Q s x other back.open_way) in
     let there : Strikes P (opposite by) k s x = record { step = back.step; open_way = open-of k P s x clear } in
     subst (λ (d : Colour). Strikes P d k x s) (opposite-opposite by) (Strikes-back P (opposite by) k s x there)
 

@@ -32,7 +32,11 @@ passed-adds P c a s t = (
   λ h. elim h [
     | inl old ↦ elim old [
       | inl push ↦ inl push
-      | inr takes ↦ inr (record { step = takes.step; enemy = elim (takes.enemy) [ inl held ↦ inl held | inr e ↦ absurd (let f : None ≡ Some t = e in cc) ] })
+      | inr takes ↦
+          inr (record {
+            step = takes.step;
+            enemy = elim (takes.enemy) [ inl held ↦ inl held | inr e ↦ absurd (let f : None ≡ Some t = e in cc) ];
+          })
     ]
     | inr new ↦ inr (record { step = new.1.step; enemy = inr (ap Some (sym new.0)) })
   ],

@@ -28,14 +28,17 @@ held-placed c k (Some m) =
     (λ e. same_place m.colour c m.kind k e) (λ h i. man_place (h.0 i) (h.1 i)) (Decides-eqb here (man_place c k)))
 
 -- the set of a colour's kings has each of them
-pub king-bit : (P : Placement) (c : Colour) (kings s : ℕ) → AreKingsOf P c kings → s < 64 → IsHeldAs c King (man_at P s) → Has kings s
+pub king-bit : (P : Placement) (c : Colour) (kings s : ℕ) → AreKingsOf P c kings → s < 64 → IsHeldAs c King (man_at P s)
+    → Has kings s
 king-bit P c kings s all ls held =
     all.each s ls
     ∙ bit_if-of_true (is_placed (man_place c King) (man_at P s))
     (sym (held-placed c King (man_at P s)) ∙ (Decides-held_as c King (man_at P s)).1 held)
 
 -- of all squares outside the set of the occupied ones none is occupied
-pub free-bit : (P : Placement) (occupied s : ℕ) → occupied < 2 ^ 64 → IsOccupied P occupied → s < 64 → ¬ Has (bit_not w64 occupied) s →
+pub free-bit : (P : Placement) (occupied s : ℕ) → occupied < 2 ^ 64 → IsOccupied P occupied → s < 64
+    → ¬ Has (bit_not w64 occupied) s →
     man_at P s ≢ None
 free-bit P occupied s fits all ls out free =
-    out (omega (arith, bit_at_not w64 occupied s fits ls, all.each s ls ∙ ap (λ (o : Option Man). bit_if (is_some o)) free))
+    out
+    (omega (arith, bit_at_not w64 occupied s fits ls, all.each s ls ∙ ap (λ (o : Option Man). bit_if (is_some o)) free))

@@ -43,7 +43,8 @@ not-becoming (Some King) h = absurd h
 not-some : (promo : Option Kind) → promo ≡ None → (promo ≢ Some Pawn) × (promo ≢ Some King)
 not-some promo h = (λ e. cc, λ e. cc)
 
-becomes : (c : Colour) (k : Kind) (b : ℕ) (promo : Option Kind) → HasPromotion c k b promo → (promo ≢ Some Pawn) × (promo ≢ Some King)
+becomes : (c : Colour) (k : Kind) (b : ℕ) (promo : Option Kind) → HasPromotion c k b promo
+    → (promo ≢ Some Pawn) × (promo ≢ Some King)
 becomes c Pawn b promo (inl h) = not-becoming promo h.1
 becomes c Pawn b promo (inr h) = not-some promo h.1
 becomes c Knight b promo h = not-some promo h
@@ -52,13 +53,15 @@ becomes c Rook b promo h = not-some promo h
 becomes c Queen b promo h = not-some promo h
 becomes c King b promo h = not-some promo h
 
-goes-becomes : (p : Position) (a b : ℕ) (promo : Option Kind) (man : Option Man) → GoesAs p a b promo man → (promo ≢ Some Pawn) × (promo ≢ Some King)
+goes-becomes : (p : Position) (a b : ℕ) (promo : Option Kind) (man : Option Man) → GoesAs p a b promo man
+    → (promo ≢ Some Pawn) × (promo ≢ Some King)
 goes-becomes p a b promo None h = absurd h
 goes-becomes p a b promo (Some m) h = becomes p.to_move m.kind b promo h.2
 
 -- five promotions are all that there are
 pub five-none : (p : Position) (a b : ℕ) → ¬ Allowed p (Plain a b None) → ¬ Allowed p (Plain a b (Some Queen)) →
-    ¬ Allowed p (Plain a b (Some Rook)) → ¬ Allowed p (Plain a b (Some Bishop)) → ¬ Allowed p (Plain a b (Some Knight)) →
+    ¬ Allowed p (Plain a b (Some Rook)) → ¬ Allowed p (Plain a b (Some Bishop))
+    → ¬ Allowed p (Plain a b (Some Knight)) →
     (promo : Option Kind) → ¬ Allowed p (Plain a b promo)
 five-none p a b n q r s t None h = n h
 five-none p a b n q r s t (Some Pawn) h = (goes-becomes p a b (Some Pawn) (man_at p.men a) h.move.goes).0 refl
@@ -72,13 +75,15 @@ five-none p a b n q r s t (Some King) h = (goes-becomes p a b (Some King) (man_a
 pub record NoneBelow (p : Position) (a n : ℕ) : Type 0 where
   pub none : (b : ℕ) → b < n → (promo : Option Kind) → ¬ Allowed p (Plain a b promo)
 
-pub none-start : (p : Position) (k : Kind) (a set n : ℕ) → AreGoals p k a set → n ≤ 64 → ((j : ℕ) → 0 ≤ j → j < n → ¬ Has set j) → NoneBelow p a n
+pub none-start : (p : Position) (k : Kind) (a set n : ℕ) → AreGoals p k a set → n ≤ 64
+    → ((j : ℕ) → 0 ≤ j → j < n → ¬ Has set j) → NoneBelow p a n
 none-start p k a set n all le out = record {
   none = λ b less promo h. all.others b (omega (arith, less, le)) (out b (omega arith) less) promo h;
 }
 
 pub none-step : (p : Position) (k : Kind) (a set m n : ℕ) → AreGoals p k a set → n ≤ 64 → NoneBelow p a m →
-    ((promo : Option Kind) → ¬ Allowed p (Plain a m promo)) → ((j : ℕ) → m + 1 ≤ j → j < n → ¬ Has set j) → NoneBelow p a n
+    ((promo : Option Kind) → ¬ Allowed p (Plain a m promo)) → ((j : ℕ) → m + 1 ≤ j → j < n → ¬ Has set j)
+    → NoneBelow p a n
 none-step p k a set m n all le old here out = record {
   none = λ b less promo h. elim (cases_order b m) [
     | inl same ↦ here promo (subst (λ (x : ℕ). Allowed p (Plain a x promo)) same h)
@@ -98,7 +103,8 @@ pub none-from-other : (p : Position) (a : ℕ) → ¬ IsHeldBy p.to_move (man_at
 none-from-other p a other = record { none = λ b promo h. no_own p a b promo (man_at p.men a) other h.move.goes }
 
 -- nothing on the board is allowed
-pub none-on-board : (p : Position) → ((a : ℕ) → a < 64 → NoneFrom p a) → ¬ Allowed p (Castle false) → ¬ Allowed p (Castle true) → ¬ CanMove p
+pub none-on-board : (p : Position) → ((a : ℕ) → a < 64 → NoneFrom p a) → ¬ Allowed p (Castle false)
+    → ¬ Allowed p (Castle true) → ¬ CanMove p
 unfolding CanMove
 none-on-board p from short long h = none h.0 h.1 h.2
   where
@@ -116,7 +122,8 @@ pub none-drops : (p : Position) → ((k : Kind) (to : ℕ) → k ≢ King → to
 unfolding CanDropAny
 none-drops p none h = none h.0 h.1 (king_not_held (hand_of_side p p.to_move) h.0 h.2.move.held) h.2.move.square h.2
 
-pub five-kinds : (p : Position) → ((to : ℕ) → to < 64 → ¬ Allowed p (Drop Pawn to)) → ((to : ℕ) → to < 64 → ¬ Allowed p (Drop Knight to)) →
+pub five-kinds : (p : Position) → ((to : ℕ) → to < 64 → ¬ Allowed p (Drop Pawn to))
+    → ((to : ℕ) → to < 64 → ¬ Allowed p (Drop Knight to)) →
     ((to : ℕ) → to < 64 → ¬ Allowed p (Drop Bishop to)) → ((to : ℕ) → to < 64 → ¬ Allowed p (Drop Rook to)) →
     ((to : ℕ) → to < 64 → ¬ Allowed p (Drop Queen to)) → ¬ CanDropAny p
 five-kinds p q r s t u = none-drops p none

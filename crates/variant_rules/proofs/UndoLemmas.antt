@@ -20,10 +20,12 @@ use Rattle.variant_rules.specs.Undos.{changed_squares, DifferOn, StoodIn, IsUndo
 use Rattle.chess_model.proofs.ChessLaws.{opposite-opposite}
 
 pub differ-after : (v : Variant) (P : Placement) (c : Colour) (m : Move) →
-    DifferOn P (place_after v P c m) (changed_squares v P c m).one (changed_squares v P c m).two (changed_squares v P c m).three (changed_squares v P c m).four
+    DifferOn P (place_after v P c m) (changed_squares v P c m).one (changed_squares v P c m).two
+    (changed_squares v P c m).three (changed_squares v P c m).four
 differ-after v P c (Plain a b promo) = record {
   others = λ s na nb nc nd.
-      get_or-set_other (slice_set (slice_set P (taking_square P a b) None) a None) b s (landed (man_at P a) promo) None nc
+      get_or-set_other (slice_set (slice_set P (taking_square P a b) None) a None) b s (landed (man_at P a) promo) None
+      nc
       ∙ get_or-set_other (slice_set P (taking_square P a b) None) a s None None nb
       ∙ get_or-set_other P (taking_square P a b) s None None na;
 }
@@ -42,7 +44,8 @@ differ-after v P c (Castle long) =
 differ-after v P c (Drop k to) = record { others = λ s na nb nc nd. get_or-set_other P to s (unpromoted c k) None na }
 
 -- one square set to what the first placement has there: it doesn't differ on that square any more
-set_back : (P X : Placement) (a s : ℕ) → s < length X → man_at X s ≡ man_at P s ⊎ (s ≡ a) → man_at (slice_set X a (man_at P a)) s ≡ man_at P s
+set_back : (P X : Placement) (a s : ℕ) → s < length X → man_at X s ≡ man_at P s ⊎ (s ≡ a)
+    → man_at (slice_set X a (man_at P a)) s ≡ man_at P s
 set_back P X a s less h = elim (cases_order s a) [
   | inl same ↦ ap (man_at (slice_set X a (man_at P a))) same
       ∙ get_or-set_same X a (man_at P a) None (omega (arith, same, less)) ∙ ap (man_at P) (sym same)
@@ -51,7 +54,8 @@ set_back P X a s less h = elim (cases_order s a) [
       get_or-set_other X a s (man_at P a) None apart ∙ elim h [ inl e ↦ e | inr e ↦ absurd (apart e) ]
 ]
 
-module _ (P Q : Placement) (a b c d : ℕ) (size : length P ≡ 64) (kept : length Q ≡ 64) (differ : DifferOn P Q a b c d) where
+module _ (P Q : Placement) (a b c d : ℕ) (size : length P ≡ 64) (kept : length Q ≡ 64)
+    (differ : DifferOn P Q a b c d) where
   one : Placement
   one = slice_set Q a (man_at P a)
 
@@ -113,7 +117,8 @@ module _ (P Q : Placement) (a b c d : ℕ) (size : length P ≡ 64) (kept : leng
   ]
 
 -- lists of 64 that agree at each square are one
-pub same_placement : (P Q : Placement) → length P ≡ 64 → length Q ≡ 64 → ((s : ℕ) → s < 64 → man_at P s ≡ man_at Q s) → P ≡ Q
+pub same_placement : (P Q : Placement) → length P ≡ 64 → length Q ≡ 64 → ((s : ℕ) → s < 64 → man_at P s ≡ man_at Q s)
+    → P ≡ Q
 same_placement P Q size kept each = same_lists P Q (size ∙ sym kept) (λ k d lk.
     let l : k < 64 = omega (arith, lk, size) in
     let lq : k < length Q = omega (arith, lk, size, kept) in
@@ -123,7 +128,8 @@ pub set_four_back : (P Q : Placement) (a b c d : ℕ) → length P ≡ 64 → le
     slice_set (slice_set (slice_set (slice_set Q a (man_at P a)) b (man_at P b)) c (man_at P c)) d (man_at P d) ≡ P
 unfolding four three two one
 set_four_back P Q a b c d size kept differ =
-    same_placement (four P Q a b c d size kept differ) P (size_four P Q a b c d size kept differ) size (each_back P Q a b c d size kept differ)
+    same_placement (four P Q a b c d size kept differ) P (size_four P Q a b c d size kept differ) size
+    (each_back P Q a b c d size kept differ)
 
 -- what was kept, from its parts
 pub undo_made : (p : Position) (m : Move) (u : Undo) (squares : Squares) → length p.men ≡ 64 →
@@ -135,16 +141,22 @@ pub undo_made : (p : Position) (m : Move) (u : Undo) (squares : Squares) → len
     IsUndoOf u p (next p m)
 undo_made p m u squares size few which on1 on2 on3 on4 s1 s2 s3 s4 passed rights quiet white black =
     let differ = differ-after p.variant p.men p.to_move m in
-    let one : u.first.on ≡ (changed_squares p.variant p.men p.to_move m).one = on1 ∙ ap (λ (q : Squares). q.one) which in
-    let two : u.second.on ≡ (changed_squares p.variant p.men p.to_move m).two = on2 ∙ ap (λ (q : Squares). q.two) which in
-    let three : u.third.on ≡ (changed_squares p.variant p.men p.to_move m).three = on3 ∙ ap (λ (q : Squares). q.three) which in
-    let four : u.fourth.on ≡ (changed_squares p.variant p.men p.to_move m).four = on4 ∙ ap (λ (q : Squares). q.four) which in
+    let one : u.first.on ≡ (changed_squares p.variant p.men p.to_move m).one =
+    on1 ∙ ap (λ (q : Squares). q.one) which in
+    let two : u.second.on ≡ (changed_squares p.variant p.men p.to_move m).two =
+    on2 ∙ ap (λ (q : Squares). q.two) which in
+    let three : u.third.on ≡ (changed_squares p.variant p.men p.to_move m).three =
+    on3 ∙ ap (λ (q : Squares). q.three) which in
+    let four : u.fourth.on ≡ (changed_squares p.variant p.men p.to_move m).four =
+    on4 ∙ ap (λ (q : Squares). q.four) which in
     record {
       size = size;
       kept_size = length-place_after p.variant p.men p.to_move m ∙ size;
       few = few;
       others = record {
-        others = λ s na nb nc nd. differ.others s (λ e. na (e ∙ sym one)) (λ e. nb (e ∙ sym two)) (λ e. nc (e ∙ sym three)) (λ e. nd (e ∙ sym four));
+        others = λ s na nb nc nd.
+            differ.others s (λ e. na (e ∙ sym one)) (λ e. nb (e ∙ sym two)) (λ e. nc (e ∙ sym three))
+            (λ e. nd (e ∙ sym four));
       };
       first = s1;
       second = s2;
@@ -161,15 +173,23 @@ undo_made p m u squares size few which on1 on2 on3 on4 s1 s2 s3 s4 passed rights
 
 -- the men after the taking back
 pub men_back : (u : Undo) (p q : Position) → IsUndoOf u p q →
-    slice_set (slice_set (slice_set (slice_set q.men u.first.on u.first.man) u.second.on u.second.man) u.third.on u.third.man) u.fourth.on u.fourth.man
+    slice_set
+    (slice_set (slice_set (slice_set q.men u.first.on u.first.man) u.second.on u.second.man) u.third.on u.third.man)
+    u.fourth.on u.fourth.man
     ≡ p.men
 men_back u p q h =
-    (λ i. slice_set (slice_set (slice_set (slice_set q.men u.first.on (h.first i)) u.second.on (h.second i)) u.third.on (h.third i)) u.fourth.on (h.fourth i))
+    (λ i.
+    slice_set
+    (slice_set (slice_set (slice_set q.men u.first.on (h.first i)) u.second.on (h.second i)) u.third.on (h.third i))
+    u.fourth.on (h.fourth i))
     ∙ set_four_back p.men q.men u.first.on u.second.on u.third.on u.fourth.on h.size h.kept_size h.others
 
 -- the position after the taking back
 pub position_back : (u : Undo) (p q new : Position) → IsUndoOf u p q → new.variant ≡ q.variant →
-    new.men ≡ slice_set (slice_set (slice_set (slice_set q.men u.first.on u.first.man) u.second.on u.second.man) u.third.on u.third.man) u.fourth.on u.fourth.man →
+    new.men
+    ≡ slice_set
+    (slice_set (slice_set (slice_set q.men u.first.on u.first.man) u.second.on u.second.man) u.third.on u.third.man)
+    u.fourth.on u.fourth.man →
     new.to_move ≡ opposite q.to_move → new.en_passant ≡ u.en_passant → new.rights ≡ u.rights → new.quiet ≡ u.quiet →
     new.white ≡ u.white → new.black ≡ u.black → new ≡ p
 position_back u p q new h v men side passed rights quiet white black =

@@ -17,13 +17,15 @@ use Rattle.variant_rules.proofs.PartLemmas.{if_allowed-none, drops-start}
 
 -- the drops below n, kind by kind
 
-on-is : (p : Position) (k : Kind) (n : ℕ) → filter (is_allowed p) (map (Drop k) (range_with_len 0 n)) ≡ drops_below p k n
+on-is : (p : Position) (k : Kind) (n : ℕ)
+    → filter (is_allowed p) (map (Drop k) (range_with_len 0 n)) ≡ drops_below p k n
 unfolding drops_below
 on-is p k n = ap (filter (is_allowed p)) (sym (flat_map_single (Drop k) (range_with_len 0 n)))
 
 drops-to : (p : Position) (n : ℕ) →
     filter (is_allowed p) (flat_map (λ k. map (Drop k) (range_with_len 0 n)) dropped_kinds) ≡
-    drops_below p Pawn n ++ (drops_below p Knight n ++ (drops_below p Bishop n ++ (drops_below p Rook n ++ drops_below p Queen n)))
+    drops_below p Pawn n
+    ++ (drops_below p Knight n ++ (drops_below p Bishop n ++ (drops_below p Rook n ++ drops_below p Queen n)))
 drops-to p n =
     let f = is_allowed p in
     let d : Kind → List Move = λ k. map (Drop k) (range_with_len 0 n) in
@@ -33,7 +35,8 @@ drops-to p n =
     (λ i. on-is p Knight n i ++ filter-append f (d Bishop) (d Rook ++ (d Queen ++ [])) i)
     ∙ ap (λ x. drops_below p Knight n ++ x) (
     (λ i. on-is p Bishop n i ++ filter-append f (d Rook) (d Queen ++ []) i)
-    ∙ ap (λ x. drops_below p Bishop n ++ x) (λ i. on-is p Rook n i ++ (ap (filter f) (append-nil (d Queen)) ∙ on-is p Queen n) i)
+    ∙ ap (λ x. drops_below p Bishop n ++ x)
+    (λ i. on-is p Rook n i ++ (ap (filter f) (append-nil (d Queen)) ∙ on-is p Queen n) i)
     )
     )
 
@@ -46,12 +49,14 @@ all-is = refl
 
 drops-all : (p : Position) (n : ℕ) →
     filter (is_allowed p) (all_drops n) ≡
-    drops_below p Pawn n ++ (drops_below p Knight n ++ (drops_below p Bishop n ++ (drops_below p Rook n ++ drops_below p Queen n)))
+    drops_below p Pawn n
+    ++ (drops_below p Knight n ++ (drops_below p Bishop n ++ (drops_below p Rook n ++ drops_below p Queen n)))
 unfolding all_drops
 drops-all p n = drops-to p n
 
 listed-is : (p : Position) →
-    drops_below p Pawn 64 ++ (drops_below p Knight 64 ++ (drops_below p Bishop 64 ++ (drops_below p Rook 64 ++ drops_below p Queen 64))) ≡
+    drops_below p Pawn 64
+    ++ (drops_below p Knight 64 ++ (drops_below p Bishop 64 ++ (drops_below p Rook 64 ++ drops_below p Queen 64))) ≡
     drops_listed p
 unfolding drops_listed
 listed-is p = refl
@@ -59,29 +64,37 @@ listed-is p = refl
 drops-whole : (p : Position) → filter (is_allowed p) drop_moves ≡ drops_listed p
 drops-whole p = ap (filter (is_allowed p)) all-is ∙ drops-all p 64 ∙ listed-is p
 
-castles : (p : Position) → filter (is_allowed p) (Castle false ∷ Castle true ∷ []) ≡ if_allowed p (Castle false) ++ if_allowed p (Castle true)
+castles : (p : Position)
+    → filter (is_allowed p) (Castle false ∷ Castle true ∷ [])
+    ≡ if_allowed p (Castle false) ++ if_allowed p (Castle true)
 unfolding if_allowed
 castles p = filter-append (is_allowed p) (Castle false ∷ []) (Castle true ∷ [])
 
 board-whole : (p : Position) →
-    filter (is_allowed p) board_moves ≡ plain_moves_below p 64 ++ (if_allowed p (Castle false) ++ if_allowed p (Castle true))
+    filter (is_allowed p) board_moves
+    ≡ plain_moves_below p 64 ++ (if_allowed p (Castle false) ++ if_allowed p (Castle true))
 unfolding board_moves plain_moves_below
 board-whole p =
     filter-append (is_allowed p) (flat_map moves_from squares) (Castle false ∷ Castle true ∷ [])
     ∙ ap (λ x. filter (is_allowed p) (flat_map moves_from squares) ++ x) (castles p)
 
 pub whole_list : (p : Position) →
-    ((plain_moves_below p 64 ++ if_allowed p (Castle false)) ++ if_allowed p (Castle true)) ++ drops_listed p ≡ allowed_moves p
+    ((plain_moves_below p 64 ++ if_allowed p (Castle false)) ++ if_allowed p (Castle true)) ++ drops_listed p
+    ≡ allowed_moves p
 unfolding allowed_moves
 whole_list p =
     sym (filter-append (is_allowed p) board_moves drop_moves
     ∙ (λ i. board-whole p i ++ drops-whole p i)
-    ∙ ap (λ x. x ++ drops_listed p) (sym (append_assoc (plain_moves_below p 64) (if_allowed p (Castle false)) (if_allowed p (Castle true)))))
+    ∙ ap (λ x. x ++ drops_listed p)
+    (sym (append_assoc (plain_moves_below p 64) (if_allowed p (Castle false)) (if_allowed p (Castle true)))))
 
-pub listed : (p : Position) (o0 o1 o2 o3 o4 : List Move) → o0 ≡ [] → o1 ≡ o0 ++ plain_moves_below p 64 → o2 ≡ o1 ++ if_allowed p (Castle false) →
+pub listed : (p : Position) (o0 o1 o2 o3 o4 : List Move) → o0 ≡ [] → o1 ≡ o0 ++ plain_moves_below p 64
+    → o2 ≡ o1 ++ if_allowed p (Castle false) →
     o3 ≡ o2 ++ if_allowed p (Castle true) → o4 ≡ o3 ++ drops_listed p → o4 ≡ allowed_moves p
 listed p o0 o1 o2 o3 o4 e0 e1 e2 e3 e4 =
-    e4 ∙ ap (λ x. x ++ drops_listed p) (e3 ∙ ap (λ x. x ++ if_allowed p (Castle true)) (e2 ∙ ap (λ x. x ++ if_allowed p (Castle false))
+    e4
+    ∙ ap (λ x. x ++ drops_listed p)
+    (e3 ∙ ap (λ x. x ++ if_allowed p (Castle true)) (e2 ∙ ap (λ x. x ++ if_allowed p (Castle false))
     (e1 ∙ ap (λ x. x ++ plain_moves_below p 64) e0))) ∙ whole_list p
 
 -- no drops are listed where no kind is in hand, or the variant has none
@@ -100,14 +113,18 @@ no-drops p none =
 
 -- what was appended four and five times
 
-pub four-times : (o o1 o2 o3 o4 q r s t w : List Move) → o1 ≡ o ++ q → o2 ≡ o1 ++ r → o3 ≡ o2 ++ s → o4 ≡ o3 ++ t → w ≡ q ++ (r ++ (s ++ t)) →
+pub four-times : (o o1 o2 o3 o4 q r s t w : List Move) → o1 ≡ o ++ q → o2 ≡ o1 ++ r → o3 ≡ o2 ++ s → o4 ≡ o3 ++ t
+    → w ≡ q ++ (r ++ (s ++ t)) →
     o4 ≡ o ++ w
 four-times o o1 o2 o3 o4 q r s t w e1 e2 e3 e4 e =
     e4 ∙ ap (λ x. x ++ t) (e3 ∙ ap (λ x. x ++ s) (e2 ∙ ap (λ x. x ++ r) e1))
-    ∙ append_assoc ((o ++ q) ++ r) s t ∙ append_assoc (o ++ q) r (s ++ t) ∙ append_assoc o q (r ++ (s ++ t)) ∙ ap (λ x. o ++ x) (sym e)
+    ∙ append_assoc ((o ++ q) ++ r) s t ∙ append_assoc (o ++ q) r (s ++ t) ∙ append_assoc o q (r ++ (s ++ t))
+    ∙ ap (λ x. o ++ x) (sym e)
 
-pub five-times : (p : Position) (o o1 o2 o3 o4 o5 : List Move) → o1 ≡ o ++ drops_below p Pawn 64 → o2 ≡ o1 ++ drops_below p Knight 64 →
-    o3 ≡ o2 ++ drops_below p Bishop 64 → o4 ≡ o3 ++ drops_below p Rook 64 → o5 ≡ o4 ++ drops_below p Queen 64 → o5 ≡ o ++ drops_listed p
+pub five-times : (p : Position) (o o1 o2 o3 o4 o5 : List Move) → o1 ≡ o ++ drops_below p Pawn 64
+    → o2 ≡ o1 ++ drops_below p Knight 64 →
+    o3 ≡ o2 ++ drops_below p Bishop 64 → o4 ≡ o3 ++ drops_below p Rook 64 → o5 ≡ o4 ++ drops_below p Queen 64
+    → o5 ≡ o ++ drops_listed p
 unfolding drops_listed
 five-times p o o1 o2 o3 o4 o5 e1 e2 e3 e4 e5 =
     let q = drops_below p Pawn 64 in
@@ -117,4 +134,6 @@ five-times p o o1 o2 o3 o4 o5 e1 e2 e3 e4 e5 =
     let u = drops_below p Queen 64 in
     e5 ∙ ap (λ x. x ++ u) (four-times o o1 o2 o3 o4 q r s t (q ++ (r ++ (s ++ t))) e1 e2 e3 e4 refl)
     ∙ append_assoc o (q ++ (r ++ (s ++ t))) u
-    ∙ ap (λ x. o ++ x) (append_assoc q (r ++ (s ++ t)) u ∙ ap (λ x. q ++ x) (append_assoc r (s ++ t) u ∙ ap (λ x. r ++ x) (append_assoc s t u)))
+    ∙ ap (λ x. o ++ x)
+    (append_assoc q (r ++ (s ++ t)) u
+    ∙ ap (λ x. q ++ x) (append_assoc r (s ++ t) u ∙ ap (λ x. r ++ x) (append_assoc s t u)))

@@ -16,7 +16,8 @@ pub record LooksLike (p : Position) (look : PositionView) : Type 0 where
   pub men : look.men ≡ p.men
   pub to_move : look.to_move ≡ p.to_move
   pub push : look.push ≡ option_map file_of p.en_passant
-  pub rights : look.rights ≡ p.rights.white_short ∷ p.rights.white_long ∷ p.rights.black_short ∷ p.rights.black_long ∷ []
+  pub rights : look.rights
+      ≡ p.rights.white_short ∷ p.rights.white_long ∷ p.rights.black_short ∷ p.rights.black_long ∷ []
   pub quiet : look.quiet ≡ p.quiet
 
 -- the position with that hand of a colour

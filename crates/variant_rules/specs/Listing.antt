@@ -52,7 +52,8 @@ pub record IsUnguarded (p : Position) (a : ℕ) : Type 0 where
   pub safe : (b : ℕ) (promo : Option Kind) → IsMove p (Plain a b promo) → is_en_passant p.men a b ≡ false
       → IsSafeAfter p (Plain a b promo)
 
--- which half-moves have to be tried for the safety of the own king: those from a set of squares and, in check, drops; and
+-- which half-moves have to be tried for the safety of the own king: those from a set of squares and, in check, drops;
+-- and
 -- which can't leave it safe: those of other men, and drops, outside a set of squares
 pub record IsGuard (p : Position) (guard : Guard) : Type 0 where
   pub safe : guard.in_check ≡ false → IsKingSafe p.men p.to_move
@@ -60,9 +61,11 @@ pub record IsGuard (p : Position) (guard : Guard) : Type 0 where
   pub from : (a : ℕ) → a < 64 → ¬ Has guard.from a → IsUnguarded p a
   pub drops : guard.in_check ≡ false → (k : Kind) (to : ℕ) → IsMove p (Drop k to) → IsSafeAfter p (Drop k to)
   pub answers : (a b : ℕ) (promo : Option Kind) → ¬ Has guard.answers b → IsMove p (Plain a b promo) →
-      ¬ IsHeldAs p.to_move King (man_at p.men a) → ¬ IsHeldBy p.to_move (man_at p.men b) → is_en_passant p.men a b ≡ false →
+      ¬ IsHeldAs p.to_move King (man_at p.men a) → ¬ IsHeldBy p.to_move (man_at p.men b)
+      → is_en_passant p.men a b ≡ false →
       ¬ IsSafeAfter p (Plain a b promo)
-  pub shields : (k : Kind) (to : ℕ) → to < 64 → ¬ Has guard.answers to → man_at p.men to ≡ None → ¬ IsSafeAfter p (Drop k to)
+  pub shields : (k : Kind) (to : ℕ) → to < 64 → ¬ Has guard.answers to → man_at p.men to ≡ None
+      → ¬ IsSafeAfter p (Drop k to)
 
 -- the set has the squares that a man of that colour and kind on a reaches; e is the en passant square
 pub record AreTargets (P : Placement) (e : Option ℕ) (c : Colour) (k : Kind) (a set : ℕ) : Type 0 where

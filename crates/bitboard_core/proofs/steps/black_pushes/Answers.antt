@@ -12,7 +12,9 @@ use Rattle.bitboard_core.proofs.steps.black_pushes.Goals as goal
 pub returns : goal.returns
 returns c P all =
     let occupied = c.args.occupied in
-    subst (λ (a : ℕ). IsPushSet P Black a (bit_and (bit_and c.south.result (get_or BLACK_AHEAD c.number.result 0)) (bit_not w64 occupied)))
+    subst (λ (a : ℕ).
+    IsPushSet P Black a
+    (bit_and (bit_and c.south.result (get_or BLACK_AHEAD c.number.result 0)) (bit_not w64 occupied)))
     c.number.ensures.value
     (black_push_set P c.number.result occupied c.south.result c.number.ensures.within c.ranges.occupied.fits all
     (subst (λ (a : ℕ). IsRaySet Stays Falls a occupied c.south.result) (sym c.number.ensures.value) c.south.ensures))

@@ -16,6 +16,8 @@ returns-in-White c P =
 
 pub returns-in-Black : goal.returns-in-Black
 returns-in-Black c P =
-    subst (λ (x : Colour). IsStruckSet P x Pawn c.args.s (get_or BLACK_STRIKES c.number-in-Black.result 0)) (sym c.in-Black.is)
-    (subst (λ (a : ℕ). IsStruckSet P Black Pawn a (get_or BLACK_STRIKES c.number-in-Black.result 0)) c.number-in-Black.ensures.value
+    subst (λ (x : Colour). IsStruckSet P x Pawn c.args.s (get_or BLACK_STRIKES c.number-in-Black.result 0))
+    (sym c.in-Black.is)
+    (subst (λ (a : ℕ). IsStruckSet P Black Pawn a (get_or BLACK_STRIKES c.number-in-Black.result 0))
+    c.number-in-Black.ensures.value
     (black_pawn_set P c.number-in-Black.result c.number-in-Black.ensures.within))

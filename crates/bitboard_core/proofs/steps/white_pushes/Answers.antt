@@ -12,7 +12,9 @@ use Rattle.bitboard_core.proofs.steps.white_pushes.Goals as goal
 pub returns : goal.returns
 returns c P all =
     let occupied = c.args.occupied in
-    subst (λ (a : ℕ). IsPushSet P White a (bit_and (bit_and c.north.result (get_or WHITE_AHEAD c.number.result 0)) (bit_not w64 occupied)))
+    subst (λ (a : ℕ).
+    IsPushSet P White a
+    (bit_and (bit_and c.north.result (get_or WHITE_AHEAD c.number.result 0)) (bit_not w64 occupied)))
     c.number.ensures.value
     (white_push_set P c.number.result occupied c.north.result c.number.ensures.within c.ranges.occupied.fits all
     (subst (λ (a : ℕ). IsRaySet Stays Rises a occupied c.north.result) (sym c.number.ensures.value) c.north.ensures))

@@ -11,5 +11,6 @@ returns-then-count-eq1 c other =
 
 pub returns-else-count-eq1 : goal.returns-else-count-eq1
 returns-else-count-eq1 c other =
-    count_of-down c.args.counts.now c.args.who (c.count_of-count.result - 1) (omega (arith, c.count_of-count.ensures, c.requires, c.if-count-eq1.false)) other
+    count_of-down c.args.counts.now c.args.who (c.count_of-count.result - 1)
+    (omega (arith, c.count_of-count.ensures, c.requires, c.if-count-eq1.false)) other
     ∙ ap (λ counts. count_of counts other + cond (c.args.who == other) 1 0) (sym c.change.ensures)

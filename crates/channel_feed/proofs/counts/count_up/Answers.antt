@@ -5,7 +5,8 @@ use Rattle.channel_feed.proofs.counts.count_up.Goals as goal
 
 pub returns-in_default-clause-ok : goal.returns-in_default-clause-ok
 returns-in_default-clause-ok c other =
-    ap (λ counts. count_of counts other) c.in_ok-push.ensures.ok ∙ count_of-pushed c.args.counts.now c.args.who (sym c.in_default.ensures) other
+    ap (λ counts. count_of counts other) c.in_ok-push.ensures.ok
+    ∙ count_of-pushed c.args.counts.now c.args.who (sym c.in_default.ensures) other
 
 pub returns-clause-ok : goal.returns-clause-ok
 returns-clause-ok c other =

@@ -11,7 +11,8 @@ pub returns-then-left-eq0 : goal.returns-then-left-eq0
 returns-then-left-eq0 c =
     let less : c.loop-file.file < length c.args.files = search rules in
     let free : get_or c.args.files c.loop-file.file None ≡ None =
-    free_at c.loop-file.set c.args.files c.loop-file.file c.loop-file.invariant.same (c.is_none.ensures ∙ ap not c.if-is_none.true) in
+    free_at c.loop-file.set c.args.files c.loop-file.file c.loop-file.invariant.same
+    (c.is_none.ensures ∙ ap not c.if-is_none.true) in
     ap (λ (t : Files). slice_set t c.loop-file.file (Some c.args.kind)) c.loop-file.invariant.same
     ∙ at_free c.loop-file.file c.args.kind c.args.files less free
     ∙ ap (λ (n : ℕ). on_free_from c.loop-file.file c.args.kind n c.args.files) (sym c.if-left-eq0.true)
@@ -23,7 +24,8 @@ loop-file-preserved c =
     elim c.if-is_none.branch [
       | then-is_none+else-left-eq0 w ↦
           let free : get_or c.args.files c.loop-file.file None ≡ None =
-          free_at c.loop-file.set c.args.files c.loop-file.file c.loop-file.invariant.same (c.is_none.ensures ∙ ap not w.if-is_none.true) in
+          free_at c.loop-file.set c.args.files c.loop-file.file c.loop-file.invariant.same
+          (c.is_none.ensures ∙ ap not w.if-is_none.true) in
           let one : suc c.if-is_none.left ≡ c.loop-file.left = omega (arith, w.left-is, w.if-left-eq0.false) in
           record {
             same = c.loop-file.invariant.same;
@@ -33,7 +35,8 @@ loop-file-preserved c =
           }
       | else-is_none w ↦
           let held : get_or c.args.files c.loop-file.file None ≢ None =
-          held_at c.loop-file.set c.args.files c.loop-file.file c.loop-file.invariant.same (c.is_none.ensures ∙ ap not w.if-is_none.false) in
+          held_at c.loop-file.set c.args.files c.loop-file.file c.loop-file.invariant.same
+          (c.is_none.ensures ∙ ap not w.if-is_none.false) in
           record {
             same = c.loop-file.invariant.same;
             rest = ap (λ (n : ℕ). on_free_from (c.loop-file.file + 1) c.args.kind n c.args.files) w.left-is
@@ -46,5 +49,6 @@ pub returns : goal.returns
 returns c =
     let size : length c.args.files ≡ 8 = search rules in
     c.loop-file.invariant.same
-    ∙ sym (past_all c.loop-file.file c.args.kind c.loop-file.left c.args.files (omega (arith, size, c.loop-file-test.false)))
+    ∙ sym
+    (past_all c.loop-file.file c.args.kind c.loop-file.left c.args.files (omega (arith, size, c.loop-file-test.false)))
     ∙ c.loop-file.invariant.rest

@@ -4,7 +4,8 @@ use Rattle.chess_model.proofs.variant_words.fischer_words.Goals as goal
 
 pub unwrap-requires : goal.unwrap-requires
 unwrap-requires c =
-    c.of.ensures.readable.1 (one_text c.digit-units.result (omega (arith, c.digit-units.ensures)) (omega (arith, c.digit-units.ensures)))
+    c.of.ensures.readable.1
+    (one_text c.digit-units.result (omega (arith, c.digit-units.ensures)) (omega (arith, c.digit-units.ensures)))
 
 pub returns-then-number-lt10 : goal.returns-then-number-lt10
 returns-then-number-lt10 c =
@@ -14,14 +15,18 @@ returns-then-number-lt10 c =
 pub unwrap-requires-then-number-lt100 : goal.unwrap-requires-then-number-lt100
 unwrap-requires-then-number-lt100 c =
     c.of-then-number-lt100.ensures.readable.1
-    (two_text c.digit-tens.result c.digit-units.result (omega (arith, c.digit-tens.ensures)) (omega (arith, c.digit-tens.ensures))
+    (two_text c.digit-tens.result c.digit-units.result (omega (arith, c.digit-tens.ensures))
+    (omega (arith, c.digit-tens.ensures))
     (omega (arith, c.digit-units.ensures)) (omega (arith, c.digit-units.ensures)))
 
 pub returns-then-number-lt100 : goal.returns-then-number-lt100
 returns-then-number-lt100 c =
-    let digits = two_digits c.args.number c.digit-tens.result c.digit-units.result (omega (arith, c.if-number-lt10.false)) c.if-number-lt100.true
+    let digits =
+    two_digits c.args.number c.digit-tens.result c.digit-units.result (omega (arith, c.if-number-lt10.false))
+    c.if-number-lt100.true
     c.digit-tens.ensures c.digit-units.ensures in
-    value_of c.of-then-number-lt100.result c.unwrap-then-number-lt100.result _ c.unwrap-then-number-lt100.ensures c.of-then-number-lt100.ensures.value
+    value_of c.of-then-number-lt100.result c.unwrap-then-number-lt100.result _ c.unwrap-then-number-lt100.ensures
+    c.of-then-number-lt100.ensures.value
     ∙ ap words_with digits
 
 pub unwrap-requires-2 : goal.unwrap-requires-2
@@ -35,5 +40,6 @@ unwrap-requires-2 c =
 pub returns : goal.returns
 returns c =
     let digits = three_digits c.args.number c.digit-hundreds.result c.digit-tens.result c.digit-units.result
-    (omega (arith, c.if-number-lt100.false)) c.requires c.digit-hundreds.ensures c.digit-tens.ensures c.digit-units.ensures in
+    (omega (arith, c.if-number-lt100.false)) c.requires c.digit-hundreds.ensures c.digit-tens.ensures
+    c.digit-units.ensures in
     value_of c.of-2.result c.unwrap-2.result _ c.unwrap-2.ensures c.of-2.ensures.value ∙ ap words_with digits

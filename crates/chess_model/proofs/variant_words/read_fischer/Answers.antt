@@ -10,7 +10,8 @@ use Rattle.chess_model.proofs.variant_words.read_fischer.Goals as goal
 pub returns-in_default-from_utf8-clause-none : goal.returns-in_default-from_utf8-clause-none
 returns-in_default-from_utf8-clause-none c = λ n less e.
     c.in_default-from_utf8.ensures.cases.0
-    (subst IsUtf8 (sym (behind c.args.word.now (decimal n) e)) (IsUtf8-from_ascii _ (IsAscii-decimal n (omega (arith, less)))))
+    (subst IsUtf8 (sym (behind c.args.word.now (decimal n) e))
+    (IsUtf8-from_ascii _ (IsAscii-decimal n (omega (arith, less)))))
 
 -- the decimal of a number parses
 pub returns-in_default-parse-clause-none : goal.returns-in_default-parse-clause-none

@@ -9,7 +9,9 @@ pub returns-clause-bad_line : goal.returns-clause-bad_line
 returns-clause-bad_line c = TellsBadLine-stopped
 
 pub returns-clause-read_fault : goal.returns-clause-read_fault
-returns-clause-read_fault c = λ depth left after written now h. WritesNothing-before depth left after written now false h
+returns-clause-read_fault c = λ depth left after written now h.
+    WritesNothing-before depth left after written now false h
 
 pub returns-clause-spent : goal.returns-clause-spent
-returns-clause-spent c = λ depth left after written now h. WritesNothing-before depth left after written now false h.answers
+returns-clause-spent c = λ depth left after written now h.
+    WritesNothing-before depth left after written now false h.answers

@@ -8,7 +8,8 @@ returns-in-Some-Bughouse-clause-named c =
 
 pub returns-in-Some-Fischer-clause-named : goal.returns-in-Some-Fischer-clause-named
 returns-in-Some-Fischer-clause-named c =
-    named_array c.args.depth c.args.line.now c.in-Some-Fischer.number (rw c.in-Some-Fischer.field-0-is at c.in-Some-Fischer.ensures.numbered)
+    named_array c.args.depth c.args.line.now c.in-Some-Fischer.number
+    (rw c.in-Some-Fischer.field-0-is at c.in-Some-Fischer.ensures.numbered)
     (rw c.in-Some-Fischer.field-0-is at c.in-Some-Fischer.ensures.named)
 
 pub returns-in-None-clause-named : goal.returns-in-None-clause-named

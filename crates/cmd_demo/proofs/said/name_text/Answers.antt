@@ -7,9 +7,13 @@ use Rattle.cmd_demo.proofs.said.name_text.Goals as goal
 
 pub returns-in-Some-clause-line : goal.returns-in-Some-clause-line
 returns-in-Some-clause-line c =
-    let line = name_line c.args.front.now c.letters.result.now c.args.back.now c.requires.front c.requires.back (subst IsHandle (sym c.letters.ensures.letters) c.letters.ensures.handle) in
+    let line =
+    name_line c.args.front.now c.letters.result.now c.args.back.now c.requires.front c.requires.back
+    (subst IsHandle (sym c.letters.ensures.letters) c.letters.ensures.handle) in
     IfOk-weaker c.joined-in-Some.result _ _ (λ text is. subst IsLine (sym is) line) c.joined-in-Some.ensures
 
 pub returns-in-None-clause-line : goal.returns-in-None-clause-line
 returns-in-None-clause-line c =
-    IfOk-weaker c.joined.result _ _ (λ text is. subst IsLine (sym is) (no_name_line c.args.front.now c.args.back.now c.requires.front c.requires.back)) c.joined.ensures
+    IfOk-weaker c.joined.result _ _
+    (λ text is. subst IsLine (sym is) (no_name_line c.args.front.now c.args.back.now c.requires.front c.requires.back))
+    c.joined.ensures

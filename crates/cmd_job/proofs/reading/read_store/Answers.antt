@@ -7,4 +7,6 @@ pub returns-in_default-clause-usage : goal.returns-in_default-clause-usage
 returns-in_default-clause-usage c = λ store h. c.in_default.ensures.none h.0 h.1
 
 pub returns-in_default-value-clause-usage : goal.returns-in_default-value-clause-usage
-returns-in_default-value-clause-usage c = no_store (map string_bytes c.args.words.now) c.in-Some.values c.args.command c.in-Some.ensures.some (sym c.in_default-value.ensures)
+returns-in_default-value-clause-usage c =
+    no_store (map string_bytes c.args.words.now) c.in-Some.values c.args.command c.in-Some.ensures.some
+    (sym c.in_default-value.ensures)

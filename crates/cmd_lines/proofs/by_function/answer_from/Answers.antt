@@ -8,4 +8,5 @@ answer_lines-requires g c = IsPlayed-none (begun_at g.A.LineAnswerer.command c.a
 
 pub returns-clause-ends : goal.returns-clause-ends
 returns-clause-ends g c =
-    LineCommandEnds-played (begun_at g.A.LineAnswerer.command c.args.answerer) _ _ _ _ _ c.answer_lines.result c.answer_lines.ensures.ends
+    LineCommandEnds-played (begun_at g.A.LineAnswerer.command c.args.answerer) _ _ _ _ _ c.answer_lines.result
+    c.answer_lines.ensures.ends

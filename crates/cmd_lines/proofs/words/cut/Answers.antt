@@ -5,14 +5,20 @@ use Rattle.cmd_lines.proofs.words.cut.Goals as goal
 
 pub returns-in-Some-clause-word : goal.returns-in-Some-clause-word
 returns-in-Some-clause-word c =
-    ap (λ k. take k c.args.bytes.now) (place-found is_blank c.args.bytes.now c.in-Some.place (sym c.first_blank.ensures.place ∙ c.in-Some.is))
+    ap (λ k. take k c.args.bytes.now)
+    (place-found is_blank c.args.bytes.now c.in-Some.place (sym c.first_blank.ensures.place ∙ c.in-Some.is))
 
 pub returns-in-Some-clause-rest : goal.returns-in-Some-clause-rest
 returns-in-Some-clause-rest c =
-    after_is is_blank c.args.bytes.now c.in-Some.place (place-found is_blank c.args.bytes.now c.in-Some.place (sym c.first_blank.ensures.place ∙ c.in-Some.is))
+    after_is is_blank c.args.bytes.now c.in-Some.place
+    (place-found is_blank c.args.bytes.now c.in-Some.place (sym c.first_blank.ensures.place ∙ c.in-Some.is))
 
 pub returns-in-None-clause-word : goal.returns-in-None-clause-word
-returns-in-None-clause-word c = before_none is_blank c.args.bytes.now (place-missing is_blank c.args.bytes.now (sym c.first_blank.ensures.place ∙ c.in-None.is))
+returns-in-None-clause-word c =
+    before_none is_blank c.args.bytes.now
+    (place-missing is_blank c.args.bytes.now (sym c.first_blank.ensures.place ∙ c.in-None.is))
 
 pub returns-in-None-clause-rest : goal.returns-in-None-clause-rest
-returns-in-None-clause-rest c = after_none is_blank c.args.bytes.now (place-missing is_blank c.args.bytes.now (sym c.first_blank.ensures.place ∙ c.in-None.is))
+returns-in-None-clause-rest c =
+    after_none is_blank c.args.bytes.now
+    (place-missing is_blank c.args.bytes.now (sym c.first_blank.ensures.place ∙ c.in-None.is))

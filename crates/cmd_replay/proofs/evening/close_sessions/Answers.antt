@@ -18,8 +18,10 @@ loop-place-preserved c =
           record {
             left =
                 subst (AfterLeaving progress all c.args.moment (place + 1) c.args.server.now) (sym w.server-is)
-                (one_leaves progress all now memory w.leave_server.new.session c.args.moment place c.args.server.now c.loop-place.server w.leave_server.new.server c.is_here.result c.is_here.ensures w.if-is_here.true
-                c.loop-place-test.true c.loop-place.invariant.left c.loop-place.invariant.sessions took w.in_ok-leave_server.ensures);
+                (one_leaves progress all now memory w.leave_server.new.session c.args.moment place c.args.server.now
+                c.loop-place.server w.leave_server.new.server c.is_here.result c.is_here.ensures w.if-is_here.true
+                c.loop-place-test.true c.loop-place.invariant.left c.loop-place.invariant.sessions took
+                w.in_ok-leave_server.ensures);
             sessions =
                 subst (λ (m : List MemoryState). AreLeft all m (place + 1)) (sym w.sessions-is)
                 (left_one all now place w.leave_server.new.session c.loop-place.invariant.sessions);
@@ -28,8 +30,11 @@ loop-place-preserved c =
           record {
             left =
                 subst (AfterLeaving progress all c.args.moment (place + 1) c.args.server.now) (sym w.server-is)
-                (one_stays progress all c.args.moment place c.args.server.now c.loop-place.server c.is_here.result c.is_here.ensures w.if-is_here.false c.loop-place.invariant.left);
-            sessions = subst (λ (m : List MemoryState). AreLeft all m (place + 1)) (sym w.sessions-is) (left_none all now place c.loop-place.invariant.sessions);
+                (one_stays progress all c.args.moment place c.args.server.now c.loop-place.server c.is_here.result
+                c.is_here.ensures w.if-is_here.false c.loop-place.invariant.left);
+            sessions =
+                subst (λ (m : List MemoryState). AreLeft all m (place + 1)) (sym w.sessions-is)
+                (left_none all now place c.loop-place.invariant.sessions);
           }
     ]
 
@@ -38,4 +43,6 @@ returns-clause-left c =
     let end = c.loop-place.auto.place-end in
     let out = c.loop-place-test.false in
     let whole : c.loop-place.place ≡ 64 = omega (arith, end, out) in
-    subst (λ (count : ℕ). AfterLeaving c.args.order.now c.args.sessions.now c.args.moment count c.args.server.now c.loop-place.server) whole c.loop-place.invariant.left
+    subst (λ (count : ℕ).
+    AfterLeaving c.args.order.now c.args.sessions.now c.args.moment count c.args.server.now c.loop-place.server)
+    whole c.loop-place.invariant.left

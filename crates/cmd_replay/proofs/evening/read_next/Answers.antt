@@ -8,4 +8,6 @@ pub returns-then-not-may_come-clause-none : goal.returns-then-not-may_come-claus
 returns-then-not-may_come-clause-none c =
     let written : c.args.line.now ≡ script_text c.in-Some.next = rw c.in-Some.is at c.in_ok-next.ensures.spelled in
     let spelled : IsScriptLine c.in-Some.next = rw c.in-Some.is at c.in_ok-next.ensures.in_range in
-    out_of_order c.args.order.now c.args.line.now c.in-Some.next written spelled (λ seated lines after comes. true≢false (sym ((c.may_come.ensures seated lines after).1 comes) ∙ c.if-not-may_come.true))
+    out_of_order c.args.order.now c.args.line.now c.in-Some.next written spelled
+    (λ seated lines after comes.
+    true≢false (sym ((c.may_come.ensures seated lines after).1 comes) ∙ c.if-not-may_come.true))

@@ -14,8 +14,10 @@ loop-place-preserved c =
     record {
       due =
           ap (λ (m : MemoryState). seated_from (place + 1) rest (slice_set sessions place m)) c.seated.ensures
-          ∙ ap (λ (x : List ℕ). seated_from (place + 1) rest (slice_set sessions place (seated x))) c.index-names-place.is
-          ∙ sym (ap (λ (l : List (List ℕ)). seated_from place l sessions) (drop_more names place name c.loop-place-test.true))
+          ∙ ap (λ (x : List ℕ). seated_from (place + 1) rest (slice_set sessions place (seated x)))
+          c.index-names-place.is
+          ∙ sym
+          (ap (λ (l : List (List ℕ)). seated_from place l sessions) (drop_more names place name c.loop-place-test.true))
           ∙ c.loop-place.invariant.due;
       count = length-set sessions place c.seated.result ∙ c.loop-place.invariant.count;
     }
@@ -23,5 +25,6 @@ loop-place-preserved c =
 pub returns : goal.returns
 returns c =
     let out = c.loop-place-test.false in
-    sym (ap (λ (l : List (List ℕ)). seated_from c.loop-place.place l c.loop-place.sessions) (drop_all c.loop-place.place c.args.names.now (omega (arith, out))))
+    sym (ap (λ (l : List (List ℕ)). seated_from c.loop-place.place l c.loop-place.sessions)
+    (drop_all c.loop-place.place c.args.names.now (omega (arith, out))))
     ∙ c.loop-place.invariant.due

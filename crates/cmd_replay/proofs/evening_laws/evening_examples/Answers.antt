@@ -10,7 +10,11 @@ three = decimal_digit 3 (omega arith)
 
 pub returns : goal.returns
 returns c = record {
-  news = ap (λ (d : List ℕ). (d ++ codes "|" ++ [] ++ codes "\n") ++ ((d ++ codes "|" ++ codes "abc" ++ codes "\n") ++ ((d ++ codes "|" ++ codes "fics% " ++ codes "\n") ++ []))) two;
+  news =
+      ap (λ (d : List ℕ).
+      (d ++ codes "|" ++ [] ++ codes "\n")
+      ++ ((d ++ codes "|" ++ codes "abc" ++ codes "\n") ++ ((d ++ codes "|" ++ codes "fics% " ++ codes "\n") ++ [])))
+      two;
   line = ap (λ (d : List ℕ). (d ++ codes "|" ++ codes "abc" ++ codes "\n") ++ []) three;
   nothing = refl;
 }

@@ -7,6 +7,7 @@ returns c =
     let two = made_then _ _ _ _ _ c.in_ok-fetch.ensures.made c.in_ok-fetch-2.ensures.made in
     let three = made_then _ _ _ _ _ two c.in_ok-fetch-3.ensures.made in
     record {
-      opening = c.fetch-4.ensures.opening ∙ c.fetch-3.ensures.opening ∙ c.fetch-2.ensures.opening ∙ c.fetch.ensures.opening;
+      opening =
+          c.fetch-4.ensures.opening ∙ c.fetch-3.ensures.opening ∙ c.fetch-2.ensures.opening ∙ c.fetch.ensures.opening;
       made = made_last c.fetch-4.result _ _ _ _ _ three c.fetch-4.ensures.made;
     }

@@ -14,9 +14,15 @@ returns c =
     let started = made_then _ _ _ _ _ linked c.in_ok-start.ensures.made in
     let made = made_last c.fetch_four.result _ _ _ _ _ started c.fetch_four.ensures.made in
     let names : all ≡ one ∷ two ∷ three ∷ four ∷ [] =
-    four_names all one two three four c.requires.four c.index-names-0.is c.index-names-1.is c.index-names-2.is c.index-names-3.is in
+    four_names all one two three four c.requires.four c.index-names-0.is c.index-names-1.is c.index-names-2.is
+    c.index-names-3.is in
     record {
-      opening = c.fetch_four.ensures.opening ∙ c.start.ensures.opening ∙ c.link_four.ensures.opening ∙ c.enter_four.ensures.opening;
+      opening =
+          c.fetch_four.ensures.opening ∙ c.start.ensures.opening ∙ c.link_four.ensures.opening
+          ∙ c.enter_four.ensures.opening;
       made =
-          subst (λ (l : List (List ℕ)). OnOk c.fetch_four.result (HasMade (seating_acts l c.args.terms) c.args.server.now.log c.fetch_four.new.server.log)) (sym names) made;
+          subst (λ (l : List (List ℕ)).
+          OnOk c.fetch_four.result
+          (HasMade (seating_acts l c.args.terms) c.args.server.now.log c.fetch_four.new.server.log))
+          (sym names) made;
     }

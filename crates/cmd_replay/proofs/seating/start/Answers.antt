@@ -9,7 +9,9 @@ use Rattle.cmd_replay.proofs.seating.start.Goals as goal
 pub returns : goal.returns
 returns c =
     let challenge =
-    subst (λ (key : List ℕ). HasMade ((1, timed 0 (Lobby (lobby_act.Match key c.args.terms))) ∷ []) c.args.server.now.log c.make.new.server.log) c.key-to.ensures
+    subst (λ (key : List ℕ).
+    HasMade ((1, timed 0 (Lobby (lobby_act.Match key c.args.terms))) ∷ []) c.args.server.now.log c.make.new.server.log)
+    c.key-to.ensures
     c.in_ok-make.ensures.made in
     record {
       opening = c.make-2.ensures.opening ∙ c.make.ensures.opening;

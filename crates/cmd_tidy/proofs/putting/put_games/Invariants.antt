@@ -9,7 +9,8 @@ use Rattle.cmd_tidy.proofs.putting.put_games.Given as goal
 -- what is due for the games so far was put
 abbrev pub invariant-loop : goal.invariant-loop
 invariant-loop l =
-    (taken base : List ℕ) (games : List PgnGame) → HasGiven taken games l.fn.reader → base ++ l.fn.out.items ≡ exports games → HasPut taken (base ++ l.out.items) l.reader
+    (taken base : List ℕ) (games : List PgnGame) → HasGiven taken games l.fn.reader
+    → base ++ l.fn.out.items ≡ exports games → HasPut taken (base ++ l.out.items) l.reader
 
 abbrev pub decreases-loop : goal.decreases-loop
 decreases-loop l = most_left l.reader

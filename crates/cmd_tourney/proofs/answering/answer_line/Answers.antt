@@ -9,7 +9,8 @@ returns-in_default c =
 
 pub returns : goal.returns
 returns c =
-    let e = answer_line-some c.args.tourney.now c.args.line.now c.in-Some.line (sym c.read_line.ensures ∙ c.in-Some.is) in
+    let e =
+    answer_line-some c.args.tourney.now c.args.line.now c.in-Some.line (sym c.read_line.ensures ∙ c.in-Some.is) in
     let after = c.in_ok-do_line.ensures.after in
     let text = c.in_ok-do_line.ensures.text in
     rw e (refl, after, text)

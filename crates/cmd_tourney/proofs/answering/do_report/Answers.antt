@@ -24,14 +24,18 @@ pub returns-in-Ok-clause-text : goal.returns-in-Ok-clause-text
 returns-in-Ok-clause-text c =
     let t = c.args.tourney.now in
     let answer =
-    sym c.in-Ok.is ∙ c.report.ensures.answer ∙ ap (λ k. answer_of (reporting t k c.key-2.result c.args.score)) c.key.ensures
+    sym c.in-Ok.is ∙ c.report.ensures.answer
+    ∙ ap (λ k. answer_of (reporting t k c.key-2.result c.args.score)) c.key.ensures
     ∙ ap (λ k. answer_of (reporting t (key_of c.args.white) k c.args.score)) c.key-2.ensures in
-    subst (λ (l : List ℕ). OnOk c.put_done.result (c.put_done.new.out.items ≡ c.args.out.now.items ++ l)) (ap (answer_text done_text) answer) c.put_done.ensures
+    subst (λ (l : List ℕ). OnOk c.put_done.result (c.put_done.new.out.items ≡ c.args.out.now.items ++ l))
+    (ap (answer_text done_text) answer) c.put_done.ensures
 
 pub returns-in-Err-clause-text : goal.returns-in-Err-clause-text
 returns-in-Err-clause-text c =
     let t = c.args.tourney.now in
     let answer =
-    sym c.in-Err.is ∙ c.report.ensures.answer ∙ ap (λ k. answer_of (reporting t k c.key-2.result c.args.score)) c.key.ensures
+    sym c.in-Err.is ∙ c.report.ensures.answer
+    ∙ ap (λ k. answer_of (reporting t k c.key-2.result c.args.score)) c.key.ensures
     ∙ ap (λ k. answer_of (reporting t (key_of c.args.white) k c.args.score)) c.key-2.ensures in
-    subst (λ (l : List ℕ). OnOk c.put_refusal.result (c.put_refusal.new.out.items ≡ c.args.out.now.items ++ l)) (ap (answer_text done_text) answer) c.put_refusal.ensures
+    subst (λ (l : List ℕ). OnOk c.put_refusal.result (c.put_refusal.new.out.items ≡ c.args.out.now.items ++ l))
+    (ap (answer_text done_text) answer) c.put_refusal.ensures

@@ -4,4 +4,5 @@ use Rattle.cmd_tourney.specs.Texts.{pair_text}
 use Rattle.cmd_tourney.proofs.texts.put_pairs.Given as goal
 
 abbrev pub invariant-loop-pair : goal.invariant-loop-pair
-invariant-loop-pair l = l.out.items ≡ l.fn.out.items ++ flat_map (pair_text l.tourney.players) (take l.pair-index l.pairs)
+invariant-loop-pair l =
+    l.out.items ≡ l.fn.out.items ++ flat_map (pair_text l.tourney.players) (take l.pair-index l.pairs)

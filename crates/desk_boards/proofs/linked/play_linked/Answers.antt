@@ -9,7 +9,8 @@ learn-requires-clause-allowed c =
 
 pub learn-requires-clause-captured : goal.learn-requires-clause-captured
 learn-requires-clause-captured c =
-    c.make-captured.ensures.captured ∙ learn_captured c.args.own.now c.args.other.now c.in_ok-what.what c.requires.linked
+    c.make-captured.ensures.captured
+    ∙ learn_captured c.args.own.now c.args.other.now c.in_ok-what.what c.requires.linked
 
 pub learn-requires-clause-room : goal.learn-requires-clause-room
 learn-requires-clause-room c = learn_room c.args.own.now c.args.other.now c.requires.linked c.in_ok-what.ensures.short
@@ -19,4 +20,5 @@ learn-requires-clause-variant c = ap (λ (t : Terms). t.variant) c.requires.link
 
 pub returns-clause-linked : goal.returns-clause-linked
 returns-clause-linked c =
-    linked-learnt c.args.own.now c.args.other.now _ _ c.in_ok-what.what c.args.moment c.args.stamp c.requires.linked c.make-captured.ensures.after c.learn.ensures
+    linked-learnt c.args.own.now c.args.other.now _ _ c.in_ok-what.what c.args.moment c.args.stamp c.requires.linked
+    c.make-captured.ensures.after c.learn.ensures

@@ -14,9 +14,13 @@ returns-then-first-ne-GAME-clause-none c number h k e =
 
 pub returns-then-number-eq0-clause-none : goal.returns-then-number-eq0-clause-none
 returns-then-number-eq0-clause-none c number h k e =
-    let same = c.eight_in-number.ensures ∙ ap eight_in c.behind.ensures ∙ ap (λ (l : List ℕ). eight_in (drop 1 l)) e ∙ key_number number k in omega arith
+    let same =
+    c.eight_in-number.ensures ∙ ap eight_in c.behind.ensures ∙ ap (λ (l : List ℕ). eight_in (drop 1 l)) e
+    ∙ key_number number k in
+    omega arith
 
 pub returns-clause-value : goal.returns-clause-value
 returns-clause-value c =
-    is_key c.args.key.now c.eight_in-number.result (omega arith) (let e = sym c.byte_at-first.ensures in omega arith) (search rules)
+    is_key c.args.key.now c.eight_in-number.result (omega arith) (let e = sym c.byte_at-first.ensures in omega arith)
+    (search rules)
     (c.eight_in-number.ensures ∙ ap eight_in c.behind.ensures)

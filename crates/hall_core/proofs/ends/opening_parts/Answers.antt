@@ -10,7 +10,9 @@ loop-slot-preserved c =
     let i = c.loop-slot.invariant in
     let pushed = c.in_ok-push-2.ensures in
     record {
-      items = parts_push c.args.lobby c.loop-slot.slot c.loop-slot.parts.items c.push-in-loop-slot.new.self.items c.vacant.result i.items (c.vacant.ensures ∙ ap vacant c.new-in-loop-slot.ensures)
+      items =
+          parts_push c.args.lobby c.loop-slot.slot c.loop-slot.parts.items c.push-in-loop-slot.new.self.items
+          c.vacant.result i.items (c.vacant.ensures ∙ ap vacant c.new-in-loop-slot.ensures)
           (pushed.items ∙ ap (λ desk. c.loop-slot.parts.items ++ desk ∷ []) c.in_ok-desk.ensures);
       count = pushed.len ∙ ap (λ n. n + 1) i.count;
     }

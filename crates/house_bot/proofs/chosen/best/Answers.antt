@@ -54,7 +54,11 @@ pub deeper-requires-clause-window : goal.deeper-requires-clause-window
 deeper-requires-clause-window c =
     let least = c.loop-m.invariant.least in
     let below = c.loop-m.invariant.below in
-    record { from = omega (arith, ints, least, below); order = omega (arith, ints, least, below); to = omega (arith, ints) }
+    record {
+      from = omega (arith, ints, least, below);
+      order = omega (arith, ints, least, below);
+      to = omega (arith, ints);
+    }
 
 pub returns-in_err-worth-clause-same : goal.returns-in_err-worth-clause-same
 returns-in_err-worth-clause-same c = c.deeper.ensures.same ∙ c.loop-m.invariant.same
@@ -85,10 +89,13 @@ loop-m-preserved c =
     let r_is : to_z w32 (of_z w32 r) ≡ r = to_z-of_z w32 r fits in
     let R : Position → Type 0 = λ q. r ≡ cut (to_z w32 (of_z w32 choice.worth)) (pos 200000) (move_value d q m) in
     let C : ℤ → Type 0 = λ z. r ≡ cut z (pos 200000) (move_value d p m) in
-    let e : r ≡ cut choice.worth (pos 200000) (move_value d p m) = subst C choice_is (subst R c.loop-m.invariant.same c.in_ok-worth.ensures.value) in
-    let chooses = turn_chooses d p ms i choice m r small two allowed c.loop-m.invariant.choice c.m-item.is less bounds e in
+    let e : r ≡ cut choice.worth (pos 200000) (move_value d p m) =
+    subst C choice_is (subst R c.loop-m.invariant.same c.in_ok-worth.ensures.value) in
+    let chooses =
+    turn_chooses d p ms i choice m r small two allowed c.loop-m.invariant.choice c.m-item.is less bounds e in
     let open_still : IsOpen (better choice m r) = turn_stays_open d p choice m r small two allowed bounds e in
-    let better_is : c.better-choice.result ≡ better choice m r = c.better-choice.ensures ∙ ap (λ z. better choice m z) r_is in
+    let better_is : c.better-choice.result ≡ better choice m r =
+    c.better-choice.ensures ∙ ap (λ z. better choice m z) r_is in
     let O : Choice → Type 0 = λ x. IsOpen x in
     let next : IsOpen c.better-choice.result = subst O (sym better_is) open_still in
     record {
@@ -111,7 +118,8 @@ returns-clause-value c =
     let listed : ms ≡ allowed_moves p = c.deref-m-items.ensures.value ∙ c.in_ok-moves.ensures in
     let past : length ms ≤ c.loop-m.m-index = search rules in
     let chosen : choice ≡ best_of (move_value d p) no_choice (allowed_moves p) =
-    c.loop-m.invariant.choice ∙ ap (λ (l : List Move). best_of (move_value d p) no_choice l) (take_all c.loop-m.m-index ms past ∙ listed) in
+    c.loop-m.invariant.choice
+    ∙ ap (λ (l : List Move). best_of (move_value d p) no_choice l) (take_all c.loop-m.m-index ms past ∙ listed) in
     let some_allowed : 0 < length (allowed_moves p) = has_moves p c.requires ahead.goes in
     let two : IsTwoSets p = record {
       variant = c.requires;
@@ -119,7 +127,8 @@ returns-clause-value c =
       men = c.has_two_sets.ensures.men c.requires;
     } in
     let done : IsFound c.args.depth p choice =
-    found c.args.depth d p choice (omega (arith, ahead.left)) (omega (arith, c.ranges.depth.fits)) two ahead some_allowed chosen in
+    found c.args.depth d p choice (omega (arith, ahead.left)) (omega (arith, c.ranges.depth.fits)) two ahead
+    some_allowed chosen in
     let least = c.loop-m.invariant.least in
     let below = c.loop-m.invariant.below in
     let fits : SFits w32 choice.worth = omega (arith, ints, least, below) in
@@ -135,7 +144,8 @@ returns-clause-first c =
     let listed : ms ≡ allowed_moves p = c.deref-m-items.ensures.value ∙ c.in_ok-moves.ensures in
     let past : length ms ≤ c.loop-m.m-index = search rules in
     let chosen : choice ≡ best_of (move_value d p) no_choice (allowed_moves p) =
-    c.loop-m.invariant.choice ∙ ap (λ (l : List Move). best_of (move_value d p) no_choice l) (take_all c.loop-m.m-index ms past ∙ listed) in
+    c.loop-m.invariant.choice
+    ∙ ap (λ (l : List Move). best_of (move_value d p) no_choice l) (take_all c.loop-m.m-index ms past ∙ listed) in
     let some_allowed : 0 < length (allowed_moves p) = has_moves p c.requires ahead.goes in
     let two : IsTwoSets p = record {
       variant = c.requires;
@@ -143,7 +153,8 @@ returns-clause-first c =
       men = c.has_two_sets.ensures.men c.requires;
     } in
     let done : IsFound c.args.depth p choice =
-    found c.args.depth d p choice (omega (arith, ahead.left)) (omega (arith, c.ranges.depth.fits)) two ahead some_allowed chosen in
+    found c.args.depth d p choice (omega (arith, ahead.left)) (omega (arith, c.ranges.depth.fits)) two ahead
+    some_allowed chosen in
     done.first
 
 pub returns-clause-none : goal.returns-clause-none
@@ -156,7 +167,8 @@ returns-clause-none c =
     let listed : ms ≡ allowed_moves p = c.deref-m-items.ensures.value ∙ c.in_ok-moves.ensures in
     let past : length ms ≤ c.loop-m.m-index = search rules in
     let chosen : choice ≡ best_of (move_value d p) no_choice (allowed_moves p) =
-    c.loop-m.invariant.choice ∙ ap (λ (l : List Move). best_of (move_value d p) no_choice l) (take_all c.loop-m.m-index ms past ∙ listed) in
+    c.loop-m.invariant.choice
+    ∙ ap (λ (l : List Move). best_of (move_value d p) no_choice l) (take_all c.loop-m.m-index ms past ∙ listed) in
     let some_allowed : 0 < length (allowed_moves p) = has_moves p c.requires ahead.goes in
     let two : IsTwoSets p = record {
       variant = c.requires;
@@ -164,7 +176,8 @@ returns-clause-none c =
       men = c.has_two_sets.ensures.men c.requires;
     } in
     let done : IsFound c.args.depth p choice =
-    found c.args.depth d p choice (omega (arith, ahead.left)) (omega (arith, c.ranges.depth.fits)) two ahead some_allowed chosen in (
+    found c.args.depth d p choice (omega (arith, ahead.left)) (omega (arith, c.ranges.depth.fits)) two ahead
+    some_allowed chosen in (
       λ none. absurd (done.some none),
       λ h. absurd (elim h [
         | inl zero ↦ omega (arith, ahead.left, zero)

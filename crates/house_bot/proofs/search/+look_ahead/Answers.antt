@@ -51,11 +51,13 @@ pub raised-returns-clause-value : goal.raised-returns-clause-value
 raised-returns-clause-value t c =
     let x : ℤ = c.in_ok-worth.worth in
     let w : ℤ = move_value c.args.depth c.args.p.now c.args.m.now in
-    let on : is_tried c.args.takes c.args.p.now.men c.args.m.now ≡ true = grind (arith, c.is_tried.ensures, c.if-not-is_tried.false) in
+    let on : is_tried c.args.takes c.args.p.now.men c.args.m.now ≡ true =
+    grind (arith, c.is_tried.ensures, c.if-not-is_tried.false) in
     let e : x ≡ cut c.args.low c.args.high w = omega (arith, ints, clamps, c.in_ok-worth.ensures.value) in
     let fits : SFits w32 x = search rules in
     to_z-of_z w32 x fits
-    ∙ raised_in (is_tried c.args.takes c.args.p.now.men c.args.m.now) c.args.low c.args.high w x on c.requires.window.order e
+    ∙ raised_in (is_tried c.args.takes c.args.p.now.men c.args.m.now) c.args.low c.args.high w x on
+    c.requires.window.order e
 
 pub raised_by-raised-requires : goal.raised_by-raised-requires
 raised_by-raised-requires t c =
@@ -65,11 +67,19 @@ raised_by-raised-requires t c =
     let listed = allowed_at p ms c.loop-m.m-index c.m-item.result c.requires.moves less in
     let P : Move → Type 0 = λ m. Allowed p m in
     let Q : Position → Type 0 = λ q. Allowed q c.m-item.result in
-    let allowed : Allowed c.loop-m.p c.m-item.result = subst Q (sym c.loop-m.invariant.same) (subst P (sym c.m-item.is) listed) in
+    let allowed : Allowed c.loop-m.p c.m-item.result =
+    subst Q (sym c.loop-m.invariant.same) (subst P (sym c.m-item.is) listed) in
     let least = c.loop-m.invariant.least in
     let below = c.loop-m.invariant.below in (
       search rules,
-      (allowed, record { from = omega (arith, ints, least, c.requires.window.from); order = omega (arith, ints, below); to = omega (arith, ints, c.requires.window.to) }),
+      (
+        allowed,
+        record {
+          from = omega (arith, ints, least, c.requires.window.from);
+          order = omega (arith, ints, below);
+          to = omega (arith, ints, c.requires.window.to);
+        },
+      ),
     )
 
 pub raised_by-returns-then-high-best-clause-value : goal.raised_by-returns-then-high-best-clause-value
@@ -87,9 +97,13 @@ raised_by-returns-then-high-best-clause-value t c =
     let low_is : to_z w32 (of_z w32 c.args.low) ≡ c.args.low = to_z-of_z w32 c.args.low c.ranges.low in
     let so_far : b ≡ raised_by f tried c.args.low (take i ms) =
     c.loop-m.invariant.best ∙ ap (λ z. raised_by f tried z (take i ms)) low_is in
-    let R : Position → Type 0 = λ q. r ≡ int_min (to_z w32 (of_z w32 c.args.high)) (raised (move_value c.args.depth q) (is_tried c.args.takes q.men) b m) in
+    let R : Position → Type 0 = λ q.
+    r
+    ≡ int_min (to_z w32 (of_z w32 c.args.high))
+    (raised (move_value c.args.depth q) (is_tried c.args.takes q.men) b m) in
     let H : ℤ → Type 0 = λ z. r ≡ int_min z (raised f tried b m) in
-    let gives : r ≡ int_min c.args.high (raised f tried b m) = subst H high_is (subst R c.loop-m.invariant.same c.in_ok-best.ensures.value) in
+    let gives : r ≡ int_min c.args.high (raised f tried b m) =
+    subst H high_is (subst R c.loop-m.invariant.same c.in_ok-best.ensures.value) in
     let more : c.args.high ≤ℤ r = omega (arith, ints, c.if-high-best.true) in
     high_is ∙ turn_reaches f tried c.args.low c.args.high ms i b r m so_far c.m-item.is less gives more
 
@@ -110,9 +124,13 @@ raised_by-loop-m-preserved t c =
     let best_is : to_z w32 (of_z w32 r) ≡ r = to_z-of_z w32 r fits in
     let so_far : b ≡ raised_by f tried c.args.low (take i ms) =
     c.loop-m.invariant.best ∙ ap (λ z. raised_by f tried z (take i ms)) low_is in
-    let R : Position → Type 0 = λ q. r ≡ int_min (to_z w32 (of_z w32 c.args.high)) (raised (move_value c.args.depth q) (is_tried c.args.takes q.men) b m) in
+    let R : Position → Type 0 = λ q.
+    r
+    ≡ int_min (to_z w32 (of_z w32 c.args.high))
+    (raised (move_value c.args.depth q) (is_tried c.args.takes q.men) b m) in
     let H : ℤ → Type 0 = λ z. r ≡ int_min z (raised f tried b m) in
-    let gives : r ≡ int_min c.args.high (raised f tried b m) = subst H high_is (subst R c.loop-m.invariant.same c.in_ok-best.ensures.value) in
+    let gives : r ≡ int_min c.args.high (raised f tried b m) =
+    subst H high_is (subst R c.loop-m.invariant.same c.in_ok-best.ensures.value) in
     let below : r <ℤ c.args.high = omega (arith, ints, c.if-high-best.false) in
     let grown = turn_grows f tried c.args.high b r m gives below in
     let least = c.loop-m.invariant.least in
@@ -129,8 +147,11 @@ search-returns-then-is_empty-clause-value t c =
     let p : Position = c.args.p.now in
     let ahead : GoesOn c.args.depth p = c.in_default.ensures.open in
     let e = ahead.best (c.args.depth - 1) (omega (arith, ahead.left)) in
-    let none : length c.in_ok-moves.moves.items ≡ 0 = grind (arith, nat_tests, c.is_empty.ensures, c.if-is_empty.true, c.in_ok-moves.moves.ok.0) in
-    let zero = greatest_none (move_value (c.args.depth - 1) p) (allowed_moves p) (sym (ap (λ (l : List Move). length l) c.in_ok-moves.ensures) ∙ none) in
+    let none : length c.in_ok-moves.moves.items ≡ 0 =
+    grind (arith, nat_tests, c.is_empty.ensures, c.if-is_empty.true, c.in_ok-moves.moves.ok.0) in
+    let zero =
+    greatest_none (move_value (c.args.depth - 1) p) (allowed_moves p)
+    (sym (ap (λ (l : List Move). length l) c.in_ok-moves.ensures) ∙ none) in
     let r : ℤ = c.clamp-then-is_empty.result in
     let fits : SFits w32 r = search rules in
     let high_is : to_z w32 (of_z w32 c.args.high) ≡ c.args.high = to_z-of_z w32 c.args.high c.ranges.high in
@@ -146,16 +167,21 @@ search-returns-then-high-raised-clause-value t c =
     let ms : List Move = allowed_moves p in
     let ahead : GoesOn c.args.depth p = c.in_default.ensures.open in
     let e = ahead.best d (omega (arith, ahead.left)) in
-    let some : 0 < length c.in_ok-moves.moves.items = grind (arith, nat_tests, c.is_empty.ensures, c.if-is_empty.false, c.in_ok-moves.moves.ok.0) in
+    let some : 0 < length c.in_ok-moves.moves.items =
+    grind (arith, nat_tests, c.is_empty.ensures, c.if-is_empty.false, c.in_ok-moves.moves.ok.0) in
     let some_allowed : 0 < length ms = omega (arith, some, ap (λ (l : List Move). length l) c.in_ok-moves.ensures) in
     let listed : c.deref.result.now ≡ ms = c.deref.ensures.value ∙ c.in_ok-moves.ensures in
     let r : ℤ = c.in_ok-raised.raised in
     let high_is : to_z w32 (of_z w32 c.args.high) ≡ c.args.high = to_z-of_z w32 c.args.high c.ranges.high in
     let low_is : to_z w32 (of_z w32 c.args.low) ≡ c.args.low = to_z-of_z w32 c.args.low c.ranges.low in
-    let L : List Move → Type 0 = λ l. r ≡ int_min (to_z w32 (of_z w32 c.args.high)) (raised_by f (is_tried true p.men) (to_z w32 (of_z w32 c.args.low)) l) in
+    let L : List Move → Type 0 = λ l.
+    r
+    ≡ int_min (to_z w32 (of_z w32 c.args.high))
+    (raised_by f (is_tried true p.men) (to_z w32 (of_z w32 c.args.low)) l) in
     let H : ℤ → Type 0 = λ z. r ≡ int_min z (raised_by f (is_tried true p.men) (to_z w32 (of_z w32 c.args.low)) ms) in
     let W : ℤ → Type 0 = λ z. r ≡ int_min c.args.high (raised_by f (is_tried true p.men) z ms) in
-    let first : r ≡ int_min c.args.high (raised_by f (is_tried true p.men) c.args.low ms) = subst W low_is (subst H high_is (subst L listed c.in_ok-raised.ensures.value)) in
+    let first : r ≡ int_min c.args.high (raised_by f (is_tried true p.men) c.args.low ms) =
+    subst W low_is (subst H high_is (subst L listed c.in_ok-raised.ensures.value)) in
     let more : c.args.high ≤ℤ r = omega (arith, ints, c.if-high-raised.true) in
     high_is ∙ first_pass_reaches f p.men c.args.low c.args.high r ms c.requires.order some_allowed first more
     ∙ ap (λ z. cut c.args.low c.args.high z) (sym e)
@@ -173,15 +199,24 @@ search-raised_by-requires-2 t c =
     let fits : SFits w32 r = search rules in
     let high_is : to_z w32 (of_z w32 c.args.high) ≡ c.args.high = to_z-of_z w32 c.args.high c.ranges.high in
     let low_is : to_z w32 (of_z w32 c.args.low) ≡ c.args.low = to_z-of_z w32 c.args.low c.ranges.low in
-    let L : List Move → Type 0 = λ l. r ≡ int_min (to_z w32 (of_z w32 c.args.high)) (raised_by f (is_tried true p.men) (to_z w32 (of_z w32 c.args.low)) l) in
+    let L : List Move → Type 0 = λ l.
+    r
+    ≡ int_min (to_z w32 (of_z w32 c.args.high))
+    (raised_by f (is_tried true p.men) (to_z w32 (of_z w32 c.args.low)) l) in
     let H : ℤ → Type 0 = λ z. r ≡ int_min z (raised_by f (is_tried true p.men) (to_z w32 (of_z w32 c.args.low)) ms) in
     let W : ℤ → Type 0 = λ z. r ≡ int_min c.args.high (raised_by f (is_tried true p.men) z ms) in
-    let first : r ≡ int_min c.args.high (raised_by f (is_tried true p.men) c.args.low ms) = subst W low_is (subst H high_is (subst L listed c.in_ok-raised.ensures.value)) in
+    let first : r ≡ int_min c.args.high (raised_by f (is_tried true p.men) c.args.low ms) =
+    subst W low_is (subst H high_is (subst L listed c.in_ok-raised.ensures.value)) in
     let from = first_pass_from f p.men c.args.low c.args.high r ms c.requires.order first in (
       search rules,
       (
-        record { from = omega (arith, ints, from, c.requires.from); order = omega (arith, ints, c.if-high-raised.false); to = omega (arith, ints, c.requires.to) },
-        c.deref-2.ensures.value ∙ c.in_ok-moves.ensures ∙ ap (λ (q : Position). allowed_moves q) (sym c.raised_by.ensures.same),
+        record {
+          from = omega (arith, ints, from, c.requires.from);
+          order = omega (arith, ints, c.if-high-raised.false);
+          to = omega (arith, ints, c.requires.to);
+        },
+        c.deref-2.ensures.value ∙ c.in_ok-moves.ensures
+            ∙ ap (λ (q : Position). allowed_moves q) (sym c.raised_by.ensures.same),
       ),
     )
 
@@ -193,7 +228,8 @@ search-returns-clause-value t c =
     let ms : List Move = allowed_moves p in
     let ahead : GoesOn c.args.depth p = c.in_default.ensures.open in
     let e = ahead.best d (omega (arith, ahead.left)) in
-    let some : 0 < length c.in_ok-moves.moves.items = grind (arith, nat_tests, c.is_empty.ensures, c.if-is_empty.false, c.in_ok-moves.moves.ok.0) in
+    let some : 0 < length c.in_ok-moves.moves.items =
+    grind (arith, nat_tests, c.is_empty.ensures, c.if-is_empty.false, c.in_ok-moves.moves.ok.0) in
     let some_allowed : 0 < length ms = omega (arith, some, ap (λ (l : List Move). length l) c.in_ok-moves.ensures) in
     let listed : c.deref.result.now ≡ ms = c.deref.ensures.value ∙ c.in_ok-moves.ensures in
     let listed_again : c.deref-2.result.now ≡ ms = c.deref-2.ensures.value ∙ c.in_ok-moves.ensures in
@@ -204,16 +240,25 @@ search-returns-clause-value t c =
     let high_is : to_z w32 (of_z w32 c.args.high) ≡ c.args.high = to_z-of_z w32 c.args.high c.ranges.high in
     let low_is : to_z w32 (of_z w32 c.args.low) ≡ c.args.low = to_z-of_z w32 c.args.low c.ranges.low in
     let raised_is : to_z w32 (of_z w32 r) ≡ r = to_z-of_z w32 r fits in
-    let L : List Move → Type 0 = λ l. r ≡ int_min (to_z w32 (of_z w32 c.args.high)) (raised_by f (is_tried true p.men) (to_z w32 (of_z w32 c.args.low)) l) in
+    let L : List Move → Type 0 = λ l.
+    r
+    ≡ int_min (to_z w32 (of_z w32 c.args.high))
+    (raised_by f (is_tried true p.men) (to_z w32 (of_z w32 c.args.low)) l) in
     let H : ℤ → Type 0 = λ z. r ≡ int_min z (raised_by f (is_tried true p.men) (to_z w32 (of_z w32 c.args.low)) ms) in
     let W : ℤ → Type 0 = λ z. r ≡ int_min c.args.high (raised_by f (is_tried true p.men) z ms) in
-    let first : r ≡ int_min c.args.high (raised_by f (is_tried true p.men) c.args.low ms) = subst W low_is (subst H high_is (subst L listed c.in_ok-raised.ensures.value)) in
-    let A : Position → Type 0 = λ q. x ≡ int_min (to_z w32 (of_z w32 c.args.high)) (raised_by (move_value d q) (is_tried false q.men) (to_z w32 (of_z w32 r)) c.deref-2.result.now) in
-    let B : List Move → Type 0 = λ l. x ≡ int_min (to_z w32 (of_z w32 c.args.high)) (raised_by f (is_tried false p.men) (to_z w32 (of_z w32 r)) l) in
+    let first : r ≡ int_min c.args.high (raised_by f (is_tried true p.men) c.args.low ms) =
+    subst W low_is (subst H high_is (subst L listed c.in_ok-raised.ensures.value)) in
+    let A : Position → Type 0 = λ q.
+    x
+    ≡ int_min (to_z w32 (of_z w32 c.args.high))
+    (raised_by (move_value d q) (is_tried false q.men) (to_z w32 (of_z w32 r)) c.deref-2.result.now) in
+    let B : List Move → Type 0 = λ l.
+    x ≡ int_min (to_z w32 (of_z w32 c.args.high)) (raised_by f (is_tried false p.men) (to_z w32 (of_z w32 r)) l) in
     let C : ℤ → Type 0 = λ z. x ≡ int_min z (raised_by f (is_tried false p.men) (to_z w32 (of_z w32 r)) ms) in
     let D : ℤ → Type 0 = λ z. x ≡ int_min c.args.high (raised_by f (is_tried false p.men) z ms) in
     let second : x ≡ int_min c.args.high (raised_by f (is_tried false p.men) r ms) =
-    subst D raised_is (subst C high_is (subst B listed_again (subst A c.raised_by.ensures.same c.in_ok-whole.ensures.value))) in
+    subst D raised_is
+    (subst C high_is (subst B listed_again (subst A c.raised_by.ensures.same c.in_ok-whole.ensures.value))) in
     let below : r <ℤ c.args.high = omega (arith, ints, c.if-high-raised.false) in
     to_z-of_z w32 x fits_whole
     ∙ second_pass_gives f p.men c.args.low c.args.high r x ms c.requires.order some_allowed first below second

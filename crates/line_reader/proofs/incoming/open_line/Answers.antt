@@ -10,7 +10,9 @@ use Rattle.line_reader.proofs.incoming.open_line.Goals as goal
 
 pub returns-in-Ok-Some : goal.returns-in-Ok-Some
 returns-in-Ok-Some c =
-    ap (λ (line : List ℕ). Stamped line c.in-Some-Text.stamp) (line_found c.in-Ok-Some.field-0 c.in-Ok-Some.line c.in-Some-Text.text.now (c.in-Ok-Some.ensures {u = tt}) c.in-Ok-Some.field-0-is)
+    ap (λ (line : List ℕ). Stamped line c.in-Some-Text.stamp)
+    (line_found c.in-Ok-Some.field-0 c.in-Ok-Some.line c.in-Some-Text.text.now (c.in-Ok-Some.ensures {u = tt})
+    c.in-Ok-Some.field-0-is)
     ∙ sym (ap (λ (s : Sealed). said (Some (message s))) c.in-Some-Text.field-0-is)
     ∙ sym (ap (λ s. said (option_message s)) c.in-Some-Text.is)
     ∙ ap said c.unseal.ensures.opened
@@ -18,7 +20,8 @@ returns-in-Ok-Some c =
 pub returns-in-Ok-None : goal.returns-in-Ok-None
 returns-in-Ok-None c =
     line_not_missed c.in-Ok-None.field-0 c.in-Some-Text.text.now c.in-Some-Text.stamp
-    (sym (ap (λ (s : Sealed). is_message (message s)) c.in-Some-Text.field-0-is) ∙ (c.in-Some-Text.ensures {u = tt}).sealed.said)
+    (sym (ap (λ (s : Sealed). is_message (message s)) c.in-Some-Text.field-0-is)
+    ∙ (c.in-Some-Text.ensures {u = tt}).sealed.said)
     (c.in-Ok-None.ensures {u = tt}) c.in-Ok-None.field-0-is
 
 pub returns-in-Some-Ack : goal.returns-in-Some-Ack

@@ -4,4 +4,5 @@ use Rattle.line_reader.proofs.reader.pass_all.Given as goal
 
 -- the bytes so far and those behind them leave the same rest
 abbrev pub invariant-loop-byte : goal.invariant-loop-byte
-invariant-loop-byte l = rest_of (reading_on l.cutter (drop l.byte-index l.bytes)) [] ≡ rest_of (reading_on l.fn.cutter l.fn.bytes) []
+invariant-loop-byte l =
+    rest_of (reading_on l.cutter (drop l.byte-index l.bytes)) [] ≡ rest_of (reading_on l.fn.cutter l.fn.bytes) []

@@ -5,12 +5,15 @@ use Rattle.link_core.proofs.answer.write.Goals as goal
 
 pub returns-in-Failed-clause-wrote : goal.returns-in-Failed-clause-wrote
 returns-in-Failed-clause-wrote g c =
-    written_failed c.args.bytes.now (g.L.Link.tale c.args.link.now) (g.L.Link.tale c.write.new.self) c.in-Failed.ensures.wrote
+    written_failed c.args.bytes.now (g.L.Link.tale c.args.link.now) (g.L.Link.tale c.write.new.self)
+    c.in-Failed.ensures.wrote
 
 pub returns-in-Memory-clause-wrote : goal.returns-in-Memory-clause-wrote
 returns-in-Memory-clause-wrote g c =
-    written_memory c.args.bytes.now (g.L.Link.tale c.args.link.now) (g.L.Link.tale c.write.new.self) c.in-Memory.ensures.wrote
+    written_memory c.args.bytes.now (g.L.Link.tale c.args.link.now) (g.L.Link.tale c.write.new.self)
+    c.in-Memory.ensures.wrote
 
 pub returns-in-All-clause-unclosed : goal.returns-in-All-clause-unclosed
 returns-in-All-clause-unclosed g c =
-    open_then (g.L.Link.tale c.args.link.now) (g.L.Link.tale c.write.new.self) c.in-All.ensures.wrote (λ x y q. ap (λ (t : Tale). t.closed) q.1) c.requires.unclosed
+    open_then (g.L.Link.tale c.args.link.now) (g.L.Link.tale c.write.new.self) c.in-All.ensures.wrote
+    (λ x y q. ap (λ (t : Tale). t.closed) q.1) c.requires.unclosed

@@ -10,26 +10,49 @@ use Rattle.link_core.proofs.converse.converse.Goals as goal
 pub returns-in_default-clause-stops : goal.returns-in_default-clause-stops
 returns-in_default-clause-stops g c =
     let shows = g.C.Clock.shows c.args.clock.now in
-    let start : Stand = record { state = g.R.Runner.state c.args.r.now; memory = c.args.session.now; link = g.L.Link.tale c.args.link.now } in
-    stops_opening_memory shows start start.link c.session-session.ensures.known c.requires.new (part_none opening_text start.link start.link refl)
+    let start : Stand =
+    record {
+      state = g.R.Runner.state c.args.r.now;
+      memory = c.args.session.now;
+      link = g.L.Link.tale c.args.link.now;
+    } in
+    stops_opening_memory shows start start.link c.session-session.ensures.known c.requires.new
+    (part_none opening_text start.link start.link refl)
 
 pub returns-in-Err-clause-stops : goal.returns-in-Err-clause-stops
 returns-in-Err-clause-stops g c =
     let shows = g.C.Clock.shows c.args.clock.now in
-    let start : Stand = record { state = g.R.Runner.state c.args.r.now; memory = c.args.session.now; link = g.L.Link.tale c.args.link.now } in
-    stops_opening shows start c.in-Err.end (g.L.Link.tale c.greet.new.link) c.session-session.ensures.known c.requires.new c.in-Err.ensures.wrote
+    let start : Stand =
+    record {
+      state = g.R.Runner.state c.args.r.now;
+      memory = c.args.session.now;
+      link = g.L.Link.tale c.args.link.now;
+    } in
+    stops_opening shows start c.in-Err.end (g.L.Link.tale c.greet.new.link) c.session-session.ensures.known
+    c.requires.new c.in-Err.ensures.wrote
 
 pub loop-read-init : goal.loop-read-init
 loop-read-init g c =
     let shows = g.C.Clock.shows c.args.clock.now in
-    let start : Stand = record { state = g.R.Runner.state c.args.r.now; memory = c.args.session.now; link = g.L.Link.tale c.args.link.now } in
-    let there : Stand = record { state = g.R.Runner.state c.args.r.now; memory = c.args.session.now; link = g.L.Link.tale c.greet.new.link } in
+    let start : Stand =
+    record {
+      state = g.R.Runner.state c.args.r.now;
+      memory = c.args.session.now;
+      link = g.L.Link.tale c.args.link.now;
+    } in
+    let there : Stand =
+    record {
+      state = g.R.Runner.state c.args.r.now;
+      memory = c.args.session.now;
+      link = g.L.Link.tale c.greet.new.link;
+    } in
     record {
       home = refl;
       drained = subst (λ (r : Reader). IsDrained r) (sym c.in-Ok.ensures) (refl, refl);
       progress =
           subst (λ (r : Reader). Progress shows start there r 0) (sym c.in-Ok.ensures)
-          (progress_none shows start (g.L.Link.tale c.greet.new.link) c.session-session.ensures.known c.requires.new c.in-Ok-greet.ensures.wrote);
+          (progress_none shows start (g.L.Link.tale c.greet.new.link) c.session-session.ensures.known c.requires.new
+          c.in-Ok-greet.ensures.wrote);
       here = ap is_gone c.requires.new;
       unclosed = c.in-Ok-greet.ensures.unclosed;
       counted = c.greet.ensures.counted;
@@ -38,7 +61,12 @@ loop-read-init g c =
 pub loop-read-preserved : goal.loop-read-preserved
 loop-read-preserved g c =
     let shows = g.C.Clock.shows c.args.clock.now in
-    let start : Stand = record { state = g.R.Runner.state c.args.r.now; memory = c.args.session.now; link = g.L.Link.tale c.args.link.now } in
+    let start : Stand =
+    record {
+      state = g.R.Runner.state c.args.r.now;
+      memory = c.args.session.now;
+      link = g.L.Link.tale c.args.link.now;
+    } in
     record {
       home = c.take_read.ensures.home ∙ c.loop-read.invariant.home;
       drained = c.in-Ok-take_read.ensures.drained;
@@ -51,13 +79,29 @@ loop-read-preserved g c =
 pub returns-in-Err-take_read-clause-stops : goal.returns-in-Err-take_read-clause-stops
 returns-in-Err-take_read-clause-stops g c =
     let shows = g.C.Clock.shows c.args.clock.now in
-    let start : Stand = record { state = g.R.Runner.state c.args.r.now; memory = c.args.session.now; link = g.L.Link.tale c.args.link.now } in
+    let start : Stand =
+    record {
+      state = g.R.Runner.state c.args.r.now;
+      memory = c.args.session.now;
+      link = g.L.Link.tale c.args.link.now;
+    } in
     c.in-Err-take_read.ensures.steps start c.loop-read._read c.loop-read.invariant.progress
 
 pub returns-clause-stops : goal.returns-clause-stops
 returns-clause-stops g c =
     let shows = g.C.Clock.shows c.args.clock.now in
-    let start : Stand = record { state = g.R.Runner.state c.args.r.now; memory = c.args.session.now; link = g.L.Link.tale c.args.link.now } in
-    let here : Stand = record { state = g.R.Runner.state c.loop-read.r; memory = c.loop-read.session; link = g.L.Link.tale c.loop-read.link } in
+    let start : Stand =
+    record {
+      state = g.R.Runner.state c.args.r.now;
+      memory = c.args.session.now;
+      link = g.L.Link.tale c.args.link.now;
+    } in
+    let here : Stand =
+    record {
+      state = g.R.Runner.state c.loop-read.r;
+      memory = c.loop-read.session;
+      link = g.L.Link.tale c.loop-read.link;
+    } in
     let most : 2 ^ 40 ≤ c.loop-read._read = omega (arith, c.loop-read-test.false) in
-    stops_spent shows start here c.loop-read.reader c.loop-read._read c.loop-read.invariant.progress c.loop-read.invariant.drained most
+    stops_spent shows start here c.loop-read.reader c.loop-read._read c.loop-read.invariant.progress
+    c.loop-read.invariant.drained most

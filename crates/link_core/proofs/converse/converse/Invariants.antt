@@ -8,7 +8,11 @@ abbrev pub invariant-loop-read : goal.invariant-loop-read
 invariant-loop-read g l = record {
   home : g.R.Runner.home l.r ≡ g.R.Runner.home l.fn.r;
   drained : IsDrained l.reader;
-  progress : Progress (g.C.Clock.shows l.clock) (record { state = g.R.Runner.state l.fn.r; memory = l.fn.session; link = g.L.Link.tale l.fn.link })
+  progress : Progress (g.C.Clock.shows l.clock) (record {
+    state = g.R.Runner.state l.fn.r;
+    memory = l.fn.session;
+    link = g.L.Link.tale l.fn.link;
+  })
       (record { state = g.R.Runner.state l.r; memory = l.session; link = g.L.Link.tale l.link }) l.reader l._read;
   here : is_gone l.session ≡ false;
   unclosed : IsOpen (g.L.Link.tale l.link);

@@ -8,8 +8,17 @@ use Rattle.link_core.proofs.converse.take_lines.Given as goal
 abbrev pub invariant-loop-line : goal.invariant-loop-line
 invariant-loop-line g l = record {
   home : g.R.Runner.home l.r ≡ g.R.Runner.home l.fn.r;
-  steps : (start : Stand) (turns : ℕ) → Progress (g.C.Clock.shows l.clock) start (record { state = g.R.Runner.state l.fn.r; memory = l.fn.session; link = g.L.Link.tale l.fn.link }) l.fn.reader turns
-      → Progress (g.C.Clock.shows l.clock) start (record { state = g.R.Runner.state l.r; memory = l.session; link = g.L.Link.tale l.link }) l.reader turns;
+  steps : (start : Stand) (turns : ℕ)
+      → Progress (g.C.Clock.shows l.clock) start (record {
+        state = g.R.Runner.state l.fn.r;
+        memory = l.fn.session;
+        link = g.L.Link.tale l.fn.link;
+      }) l.fn.reader turns
+      → Progress (g.C.Clock.shows l.clock) start (record {
+        state = g.R.Runner.state l.r;
+        memory = l.session;
+        link = g.L.Link.tale l.link;
+      }) l.reader turns;
   here : is_gone l.session ≡ false;
   unclosed : IsOpen (g.L.Link.tale l.link);
   counted : g.L.Link.faults l.fn.link ≤ g.L.Link.faults l.link;

@@ -4,4 +4,10 @@ use Rattle.linked_desk.proofs.KeepsRestored.{players_restored}
 use Rattle.linked_desk.proofs.laws.acts_keep_the_players.Goals as goal
 
 pub returns : goal.returns
-returns c = record { number = number-desk_after; players = players-desk_after; started = λ d serial terms seats moment. refl; restored = players_restored }
+returns c =
+    record {
+      number = number-desk_after;
+      players = players-desk_after;
+      started = λ d serial terms seats moment. refl;
+      restored = players_restored;
+    }

@@ -7,8 +7,10 @@ use Rattle.linked_desk.specs.Sight.{board_in}
 use Rattle.linked_desk.proofs.laws.boards_are_known_by_their_games.Goals as goal
 
 known : (desk : ℕ) (board : BoardNumber) → board_in (game_number desk (number_of board)) ≡ board
-known desk First = let odd : game_number desk 1 % 2 ≡ 1 = omega arith in ap (λ (n : ℕ). if n == 0 then Second else First) odd
-known desk Second = let even : game_number desk 2 % 2 ≡ 0 = omega arith in ap (λ (n : ℕ). if n == 0 then Second else First) even
+known desk First =
+    let odd : game_number desk 1 % 2 ≡ 1 = omega arith in ap (λ (n : ℕ). if n == 0 then Second else First) odd
+known desk Second =
+    let even : game_number desk 2 % 2 ≡ 0 = omega arith in ap (λ (n : ℕ). if n == 0 then Second else First) even
 
 pub returns : goal.returns
 returns c = known

@@ -21,20 +21,26 @@ none_or_some None some none = absurd cc
 none_or_some (Some boards) some none = cc
 
 pub returns-in_default-clause-replays : goal.returns-in_default-clause-replays
-returns-in_default-clause-replays c =
-    (λ yes. absurd cc, λ r. absurd (none_or_some c.in_ok-boards.field-0 (c.in_ok-boards.ensures.replays.1 r) c.in_default.is))
+returns-in_default-clause-replays c = (
+  λ yes. absurd cc,
+  λ r. absurd (none_or_some c.in_ok-boards.field-0 (c.in_ok-boards.ensures.replays.1 r) c.in_default.is),
+)
 
 pub game_at-game-requires-clause-order : goal.game_at-game-requires-clause-order
 game_at-game-requires-clause-order c =
     let g : StoredGame = c.args.stored.now in
-    let r : Replays g = c.in_ok-boards.ensures.replays.0 (subst (λ (o : Option (List Board)). IsSome o) (sym c.in-Some.is) refl) in
+    let r : Replays g =
+    c.in_ok-boards.ensures.replays.0 (subst (λ (o : Option (List Board)). IsSome o) (sym c.in-Some.is) refl) in
     let found : replayed g.terms g.halves c.args.moment ≡ Some c.in-Some.boards =
-    subst (λ (o : Option (List Board)). IfSome o (λ boards. replayed g.terms g.halves c.args.moment ≡ Some boards)) c.in-Some.is c.in_ok-boards.ensures.boards in
+    subst (λ (o : Option (List Board)). IfSome o (λ boards. replayed g.terms g.halves c.args.moment ≡ Some boards))
+    c.in-Some.is c.in_ok-boards.ensures.boards in
     order_replayed g c.args.moment c.in-Some.boards r found
 
 pub returns-clause-replays : goal.returns-clause-replays
-returns-clause-replays c =
-    (λ yes. c.in_ok-boards.ensures.replays.0 (subst (λ (o : Option (List Board)). IsSome o) (sym c.in-Some.is) refl), λ r. refl)
+returns-clause-replays c = (
+  λ yes. c.in_ok-boards.ensures.replays.0 (subst (λ (o : Option (List Board)). IsSome o) (sym c.in-Some.is) refl),
+  λ r. refl,
+)
 
 pub returns-clause-game : goal.returns-clause-game
 returns-clause-game c =
@@ -42,15 +48,19 @@ returns-clause-game c =
     let desk : ℕ = c.args.desk in
     let seats : Seats = c.args.seats.now in
     let boards : List Board = c.in-Some.boards in
-    let r : Replays g = c.in_ok-boards.ensures.replays.0 (subst (λ (o : Option (List Board)). IsSome o) (sym c.in-Some.is) refl) in
+    let r : Replays g =
+    c.in_ok-boards.ensures.replays.0 (subst (λ (o : Option (List Board)). IsSome o) (sym c.in-Some.is) refl) in
     let found : replayed g.terms g.halves c.args.moment ≡ Some boards =
-    subst (λ (o : Option (List Board)). IfSome o (λ bs. replayed g.terms g.halves c.args.moment ≡ Some bs)) c.in-Some.is c.in_ok-boards.ensures.boards in
+    subst (λ (o : Option (List Board)). IfSome o (λ bs. replayed g.terms g.halves c.args.moment ≡ Some bs)) c.in-Some.is
+    c.in_ok-boards.ensures.boards in
     let told : c.show_each.new.feed.items ≡ opening_items Resumption desk g.terms (pairs_of seats) boards =
     c.show_each.ensures.items
     ∙ ap (λ (items : List Item). items ++ shown_items desk (pairs_of seats) boards) c.in_ok-feed.ensures.items
-    ∙ announced_first Resumption desk g.terms seats boards c.requires.pairs (numbers_replayed g c.args.moment boards r found) in
+    ∙ announced_first Resumption desk g.terms seats boards c.requires.pairs
+    (numbers_replayed g c.args.moment boards r found) in
     let begins : c.game_at-game.result ≡ begun Resumption desk c.args.serial g.terms seats boards c.args.moment =
-    c.game_at-game.ensures ∙ ap (λ (items : List Item). game_at c.args.serial g.terms seats boards items c.args.moment) told in
+    c.game_at-game.ensures
+    ∙ ap (λ (items : List Item). game_at c.args.serial g.terms seats boards items c.args.moment) told in
     let board : c.last_board.result ≡ last_board g.halves = c.last_board.ensures ∙ ap last_board c.as_slice.ensures in
     λ yes. ap Some (c.finish_at.ensures ∙ (λ i. finished_at desk (begins i) c.args.moment (board i)))
     ∙ sym (ap (option_map (resumed desk c.args.serial g seats c.args.moment)) found)

@@ -11,4 +11,5 @@ begin-requires-2 c =
     let white = c.args.players.now.white in
     let black = c.args.players.now.black in
     subst (λ (f : FeedState Item). is_viewer f.viewers black.session ≡ false) (sym c.in_ok-begin.ensures.ok)
-    (none-push c.args.feed.now.viewers (from_start white) black.session c.requires.black (ne_eqb white.session black.session c.requires.two))
+    (none-push c.args.feed.now.viewers (from_start white) black.session c.requires.black
+    (ne_eqb white.session black.session c.requires.two))

@@ -16,7 +16,8 @@ nothing_left [] h = refl
 nothing_left (x ∷ xs) h = absurd (omega arith)
 
 -- the pair that comes next, among all
-next_of : (done items more first all : Pairs) (row : Row) → done ++ items ≡ first → first ≡ all → items ≡ row ∷ more → all ≡ done ++ row ∷ more
+next_of : (done items more first all : Pairs) (row : Row) → done ++ items ≡ first → first ≡ all → items ≡ row ∷ more
+    → all ≡ done ++ row ∷ more
 next_of done items more first all row parts gives steps = sym gives ∙ sym parts ∙ ap (λ (l : Pairs). done ++ l) steps
 
 pub loop-pair-init : goal.loop-pair-init
@@ -24,7 +25,8 @@ loop-pair-init c = record {
   parts = refl;
   left =
       let len : length c.args.pairs.items ≡ vec_len c.args.pairs = search rules in
-      c.into_iter-pair-iterator.ensures.into_iter_gives.1 ∙ sym len ∙ ap length (sym c.into_iter-pair-iterator.ensures.into_iter_gives.0);
+      c.into_iter-pair-iterator.ensures.into_iter_gives.1 ∙ sym len
+      ∙ ap length (sym c.into_iter-pair-iterator.ensures.into_iter_gives.0);
   rows = subst (HasRows []) (sym c.requires.empty) HasRows-none;
 }
 
@@ -34,7 +36,11 @@ add_row-requires c =
     let row = c.in-Some.pair in
     let more = into_iter_items c.next.new.self in
     c.loop-pair.invariant.rows.wanted row.0
-    ∙ find-new done more row (subst IsAscending (next_of _ _ _ _ _ row c.loop-pair.invariant.parts c.into_iter-pair-iterator.ensures.into_iter_gives.0 c.in-Some.ensures.steps.0) c.requires.ascending)
+    ∙ find-new done more row
+    (subst IsAscending
+    (next_of _ _ _ _ _ row c.loop-pair.invariant.parts c.into_iter-pair-iterator.ensures.into_iter_gives.0
+    c.in-Some.ensures.steps.0)
+    c.requires.ascending)
 
 pub loop-pair-preserved : goal.loop-pair-preserved
 loop-pair-preserved c =
@@ -43,7 +49,8 @@ loop-pair-preserved c =
     let old = at.lobby in
     let new = c.add_row.new.lobby in
     let steps = c.in-Some.ensures.steps.0 in
-    let adds : AddsRow row old new = subst (λ (t : Taken). OnTaken t (AddsRow row old new) (CannotTake old row)) c.in-Added.is c.in_ok-add_row.ensures in
+    let adds : AddsRow row old new =
+    subst (λ (t : Taken). OnTaken t (AddsRow row old new) (CannotTake old row)) c.in-Added.is c.in_ok-add_row.ensures in
     record {
       parts = append_assoc at.yielded (row ∷ []) _ ∙ rw (← steps) at.invariant.parts;
       left =
@@ -52,7 +59,12 @@ loop-pair-preserved c =
           let short = ap length steps in
           omega (arith, was, gone, short);
       rows =
-          let unknown = find-new at.yielded (into_iter_items c.next.new.self) row (subst IsAscending (next_of _ _ _ _ _ row c.loop-pair.invariant.parts c.into_iter-pair-iterator.ensures.into_iter_gives.0 c.in-Some.ensures.steps.0) c.requires.ascending) in
+          let unknown =
+          find-new at.yielded (into_iter_items c.next.new.self) row
+          (subst IsAscending
+          (next_of _ _ _ _ _ row c.loop-pair.invariant.parts c.into_iter-pair-iterator.ensures.into_iter_gives.0
+          c.in-Some.ensures.steps.0)
+          c.requires.ascending) in
           HasRows-more at.yielded row old new at.invariant.rows unknown adds;
     }
 
@@ -63,17 +75,25 @@ returns-in-Refused-clause-bad c =
     let old = at.lobby in
     let new = c.add_row.new.lobby in
     let pairs = c.args.pairs.items in
-    let cannot : CannotTake old row = subst (λ (t : Taken). OnTaken t (AddsRow row old new) (CannotTake old row)) c.in-Refused.is c.in_ok-add_row.ensures in
+    let cannot : CannotTake old row =
+    subst (λ (t : Taken). OnTaken t (AddsRow row old new) (CannotTake old row)) c.in-Refused.is
+    c.in_ok-add_row.ensures in
     on_named (Unit {0}) row.0 c.bad_record.result (IsLeastBadOf pairs) c.bad_record.ensures
-    (refused_least at.yielded (into_iter_items c.next.new.self) row old pairs (next_of _ _ _ _ _ row c.loop-pair.invariant.parts c.into_iter-pair-iterator.ensures.into_iter_gives.0 c.in-Some.ensures.steps.0) c.requires.ascending at.invariant.rows cannot)
+    (refused_least at.yielded (into_iter_items c.next.new.self) row old pairs
+    (next_of _ _ _ _ _ row c.loop-pair.invariant.parts c.into_iter-pair-iterator.ensures.into_iter_gives.0
+    c.in-Some.ensures.steps.0)
+    c.requires.ascending at.invariant.rows cannot)
 
 pub returns-in-Refused-clause-no_fault : goal.returns-in-Refused-clause-no_fault
-returns-in-Refused-clause-no_fault c = named_no_fault (Unit {0}) c.in-Some.pair.0 c.bad_record.result c.bad_record.ensures
+returns-in-Refused-clause-no_fault c =
+    named_no_fault (Unit {0}) c.in-Some.pair.0 c.bad_record.result c.bad_record.ensures
 
 pub returns-clause-made : goal.returns-clause-made
 returns-clause-made c =
     let at = c.loop-pair in
     let none = c.in-None.ensures.steps in
     let empty : into_iter_items at.pair-iterator ≡ [] = nothing_left _ (sym at.invariant.left ∙ none.0) in
-    let all = sym (append-nil at.yielded) ∙ rw empty at at.invariant.parts ∙ c.into_iter-pair-iterator.ensures.into_iter_gives.0 in
+    let all =
+    sym (append-nil at.yielded) ∙ rw empty at at.invariant.parts
+    ∙ c.into_iter-pair-iterator.ensures.into_iter_gives.0 in
     subst (λ (rows : Pairs). HasRows rows c.loop-pair.lobby) all at.invariant.rows

@@ -14,7 +14,9 @@ returns-in-Err-BadRecord-clause-tells g c =
     let old = g.K.Sink.written c.args.sink.now in
     let new = g.K.Sink.written c.tell.new.sink in
     let key = c.in-Err-BadRecord.key in
-    let first : IsFirstBad told key = subst (λ (r : LoadRefusal). OnBadRecord {A = Unit {0}} (Err r) (IsFirstBad told)) c.in-Err-BadRecord.field-0-is c.in-Err-BadRecord.ensures.bad in
+    let first : IsFirstBad told key =
+    subst (λ (r : LoadRefusal). OnBadRecord {A = Unit {0}} (Err r) (IsFirstBad told)) c.in-Err-BadRecord.field-0-is
+    c.in-Err-BadRecord.ensures.bad in
     tells_of LobbyState told old new key c.tell.result first
     (subst (λ (bytes : List ℕ). TellsKey bytes old new c.tell.result) c.as_slice.ensures c.tell.ensures.tells)
 
@@ -23,5 +25,12 @@ returns-in-Err-BadRecord-clause-called g c =
     let old = g.P.Keeper.calls c.args.keeper.now in
     let new = g.P.Keeper.calls c.load.new.keeper in
     let called : LoadsOnce old new (λ answer. answer ≡ Done) =
-    subst (λ (r : LoadRefusal). LoadsOnce old new (LoadsAt {A = Unit {0}} (Err r))) c.in-Err-BadRecord.field-0-is c.in-Err-BadRecord.ensures.called in
-    (called.0, called.1, subst (FailsAt c.tell.result) (sym called.2) (told_at c.as_slice.result.now (g.K.Sink.written c.args.sink.now) (g.K.Sink.written c.tell.new.sink) c.tell.result c.tell.ensures.tells))
+    subst (λ (r : LoadRefusal). LoadsOnce old new (LoadsAt {A = Unit {0}} (Err r))) c.in-Err-BadRecord.field-0-is
+    c.in-Err-BadRecord.ensures.called in (
+      called.0,
+      called.1,
+      subst (FailsAt c.tell.result) (sym called.2)
+          (told_at c.as_slice.result.now (g.K.Sink.written c.args.sink.now) (g.K.Sink.written c.tell.new.sink)
+          c.tell.result
+          c.tell.ensures.tells),
+    )

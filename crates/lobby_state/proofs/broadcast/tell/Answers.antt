@@ -13,7 +13,8 @@ returns-then-not-hears-clause-told g c m at =
 
 pub returns-then-not-hears-clause-ok : goal.returns-then-not-hears-clause-ok
 returns-then-not-hears-clause-ok g c =
-    not_told (g.P.Predicate.passes c.args.test.now) c.args.line.now c.args.members.now c.args.place c.at.result.now c.hears.result
+    not_told (g.P.Predicate.passes c.args.test.now) c.args.line.now c.args.members.now c.args.place c.at.result.now
+    c.hears.result
     c.at.ensures c.hears.ensures c.if-not-hears.true
 
 pub returns-in_err-push-clause-err : goal.returns-in_err-push-clause-err
@@ -29,8 +30,10 @@ returns-clause-told g c m at =
 
 pub returns-clause-ok : goal.returns-clause-ok
 returns-clause-ok g c =
-    was_told (g.P.Predicate.passes c.args.test.now) c.args.line.now c.args.members.now c.args.place c.at.result.now c.hears.result
-    c.waiting_mut.result.now c.push.new.self c.at.ensures c.hears.ensures c.if-not-hears.false c.waiting_mut.ensures.value
+    was_told (g.P.Predicate.passes c.args.test.now) c.args.line.now c.args.members.now c.args.place c.at.result.now
+    c.hears.result
+    c.waiting_mut.result.now c.push.new.self c.at.ensures c.hears.ensures c.if-not-hears.false
+    c.waiting_mut.ensures.value
     (c.in_ok-push.ensures.ok ∙ ap (λ (l : List ℕ). with_one_more l c.waiting_mut.result.now) c.in_ok-copy.ensures)
 
 pub returns-in_err-push-clause-many : goal.returns-in_err-push-clause-many

@@ -4,4 +4,5 @@ use Rattle.lobby_state.proofs.RowsOfNames.{name_of}
 use Rattle.lobby_state.proofs.in_channel.lines_in.Given as goal
 
 abbrev pub invariant-loop-row : goal.invariant-loop-row
-invariant-loop-row l = l.lines ≡ map name_of (filter (λ row. is_in l.channels row.session l.channel) (take l.row-index l.names))
+invariant-loop-row l =
+    l.lines ≡ map name_of (filter (λ row. is_in l.channels row.session l.channel) (take l.row-index l.names))

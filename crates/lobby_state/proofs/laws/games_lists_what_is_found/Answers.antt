@@ -7,4 +7,5 @@ use Rattle.lobby_state.proofs.laws.games_lists_what_is_found.Goals as goal
 
 pub returns : goal.returns
 returns c =
-    subst (λ (l : LobbyState). ListWhatIsFound l (games_lines l)) c.lobby.view_is (lists_found c.lobby.inside.roster c.lobby.invariant)
+    subst (λ (l : LobbyState). ListWhatIsFound l (games_lines l)) c.lobby.view_is
+    (lists_found c.lobby.inside.roster c.lobby.invariant)

@@ -12,5 +12,9 @@ returns-clause-hall c =
 
 pub returns-clause-channel : goal.returns-clause-channel
 returns-clause-channel c =
-    subst (λ (l : LobbyState). (channel : ℕ) → ListsEach (filter (is_there l.channels channel) l.members) (in_channel_lines l channel)) c.lobby.view_is
-    (λ channel. lists_each_of (is_there c.lobby.inside.roster.channels channel) c.lobby.inside.roster.members c.lobby.invariant.handles)
+    subst (λ (l : LobbyState).
+    (channel : ℕ) → ListsEach (filter (is_there l.channels channel) l.members) (in_channel_lines l channel))
+    c.lobby.view_is
+    (λ channel.
+    lists_each_of (is_there c.lobby.inside.roster.channels channel) c.lobby.inside.roster.members
+    c.lobby.invariant.handles)

@@ -7,4 +7,5 @@ use Rattle.lobby_state.proofs.matching.challenge_line.Goals as goal
 pub from_bytes-requires : goal.from_bytes-requires
 from_bytes-requires c =
     let words = c.in_ok-text.ensures ∙ ap (λ letters. challenge_words letters c.args.terms) c.letters.ensures.letters in
-    subst IsLine (sym words) (IsLine-challenge_words c.args.name c.args.terms c.letters.ensures.handle (omega arith) (omega arith))
+    subst IsLine (sym words)
+    (IsLine-challenge_words c.args.name c.args.terms c.letters.ensures.handle (omega arith) (omega arith))

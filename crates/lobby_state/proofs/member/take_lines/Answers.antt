@@ -7,16 +7,19 @@ use Rattle.tables.proofs.Placed.{find-found, find-missing, position-within}
 
 pub returns-in_default-clause-lines : goal.returns-in_default-clause-lines
 returns-in_default-clause-lines c =
-    c.new.ensures ∙ ap lines_in (sym (find-missing (is_session c.args.session) c.args.members.now (sym c.in_default.ensures)))
+    c.new.ensures
+    ∙ ap lines_in (sym (find-missing (is_session c.args.session) c.args.members.now (sym c.in_default.ensures)))
 
 pub returns-in_default-clause-emptied : goal.returns-in_default-clause-emptied
-returns-in_default-clause-emptied c = sym (change_first-missing (is_session c.args.session) emptied c.args.members.now (sym c.in_default.ensures))
+returns-in_default-clause-emptied c =
+    sym (change_first-missing (is_session c.args.session) emptied c.args.members.now (sym c.in_default.ensures))
 
 pub returns-clause-lines : goal.returns-clause-lines
 returns-clause-lines c =
     let p = is_session c.args.session in
     let here = sym c.in-Some.ensures in
-    let found = at_place c.args.members.now c.in-Some.place (position-within p c.args.members.now c.in-Some.place here) in
+    let found =
+    at_place c.args.members.now c.in-Some.place (position-within p c.args.members.now c.in-Some.place here) in
     c.take_all.ensures.taken ∙ c.waiting_mut.ensures.value found.0 found.1
     ∙ ap lines_in (sym (find-found p c.args.members.now c.in-Some.place here ∙ found.1))
 

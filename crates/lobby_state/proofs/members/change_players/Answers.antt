@@ -12,7 +12,8 @@ returns-in_default g c =
     let change = g.C.Change.changed c.args.change.now in
     c.change-2.ensures
     ∙ ap (change_first (is_session seats.first.black.session) change) c.change.ensures
-    ∙ ap (λ (players : List Player). change_players change players c.args.members.now) (sym (of_two seats c.in_default.is))
+    ∙ ap (λ (players : List Player). change_players change players c.args.members.now)
+    (sym (of_two seats c.in_default.is))
 
 pub returns : goal.returns
 returns g c =
@@ -23,4 +24,5 @@ returns g c =
     ∙ ap (change_first (is_session second.black.session) change) (c.change-3.ensures
     ∙ ap (change_first (is_session second.white.session) change) (c.change-2.ensures
     ∙ ap (change_first (is_session seats.first.black.session) change) c.change.ensures))
-    ∙ ap (λ (players : List Player). change_players change players c.args.members.now) (sym (of_four seats second c.in-Some.is))
+    ∙ ap (λ (players : List Player). change_players change players c.args.members.now)
+    (sym (of_four seats second c.in-Some.is))

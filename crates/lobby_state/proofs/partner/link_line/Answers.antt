@@ -8,4 +8,5 @@ pub from_bytes-requires : goal.from_bytes-requires
 from_bytes-requires c =
     let words = c.in_ok-text.ensures ∙ ap (partner_words true) c.letters.ensures.letters in
     subst IsLine (sym words)
-    (IsLine-from_printed 45 _ (omega arith) (IsPrinted-link_words c.args.name (IsPrinted-handle c.args.name c.letters.ensures.handle)))
+    (IsLine-from_printed 45 _ (omega arith)
+    (IsPrinted-link_words c.args.name (IsPrinted-handle c.args.name c.letters.ensures.handle)))

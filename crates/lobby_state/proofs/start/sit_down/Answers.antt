@@ -5,4 +5,5 @@ use Rattle.lobby_state.proofs.start.sit_down.Goals as goal
 pub returns : goal.returns
 returns c =
     c.change_players.ensures
-    ∙ all_seated c.args.desk c.args.serial c.args.seats.now c.args.members.now c.as_slice-rows.ensures.apart c.requires.apart
+    ∙ all_seated c.args.desk c.args.serial c.args.seats.now c.args.members.now c.as_slice-rows.ensures.apart
+    c.requires.apart

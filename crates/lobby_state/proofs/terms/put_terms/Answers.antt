@@ -13,9 +13,13 @@ returns c =
     let terms = c.args.terms in
     let minutes = c.in_ok-write_number.ensures.written ∙ ap (λ (n : ℕ). old ++ decimal n) c.from.ensures in
     let blank = put_more old _ _ _ (codes " ") minutes c.in_ok-push.ensures.items in
-    let increment = put_more old _ _ _ (decimal terms.increment) blank (c.in_ok-write_number-2.ensures.written ∙ ap (λ (n : ℕ). c.push.new.self.items ++ decimal n) c.from-2.ensures) in
+    let increment =
+    put_more old _ _ _ (decimal terms.increment) blank
+    (c.in_ok-write_number-2.ensures.written ∙ ap (λ (n : ℕ). c.push.new.self.items ++ decimal n) c.from-2.ensures) in
     let another = put_more old _ _ _ (codes " ") increment c.in_ok-push-2.ensures.items in
     let word = put_more old _ _ _ (word_of terms.variant) another
-    (c.in_ok-extend_from_slice.ensures.items ∙ ap (λ (l : List ℕ). c.push-2.new.self.items ++ l) (c.bytes.ensures.value ∙ c.variant_word.ensures)) in
+    (c.in_ok-extend_from_slice.ensures.items
+    ∙ ap (λ (l : List ℕ). c.push-2.new.self.items ++ l) (c.bytes.ensures.value ∙ c.variant_word.ensures)) in
     put_more old _ _ _ (colour_words terms.colour) word
-    (c.in_ok-extend_from_slice-2.ensures.items ∙ ap (λ (l : List ℕ). c.extend_from_slice.new.self.items ++ l) c.colour_words.ensures)
+    (c.in_ok-extend_from_slice-2.ensures.items
+    ∙ ap (λ (l : List ℕ). c.extend_from_slice.new.self.items ++ l) c.colour_words.ensures)

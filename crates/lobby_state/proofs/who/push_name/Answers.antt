@@ -5,4 +5,5 @@ use Rattle.lobby_state.proofs.who.push_name.Goals as goal
 
 pub push-requires : goal.push-requires
 push-requires c =
-    subst IsLine (sym c.letters.ensures.letters) (IsLine-from_printed 17 _ (omega arith) (IsPrinted-handle _ c.letters.ensures.handle))
+    subst IsLine (sym c.letters.ensures.letters)
+    (IsLine-from_printed 17 _ (omega arith) (IsPrinted-handle _ c.letters.ensures.handle))

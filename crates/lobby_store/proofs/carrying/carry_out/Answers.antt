@@ -14,7 +14,8 @@ loop-order-preserved g c =
     let mid = g.P.Keeper.table c.loop-order.keeper in
     let new = g.P.Keeper.table c.carry_one.new.keeper in
     let i = c.loop-order.order-index in
-    let one = subst (λ (kept : Kept). CarriesOne mid new c.order-item.result kept) c.in-Done.is c.carry_one.ensures.carried in
+    let one =
+    subst (λ (kept : Kept). CarriesOne mid new c.order-item.result kept) c.in-Done.is c.carry_one.ensures.carried in
     let more_orders : take (i + 1) c.args.orders.now ≡ take i c.args.orders.now ++ c.order-item.result ∷ [] =
     take_more c.args.orders.now i c.order-item.result c.loop-order-test.true
     ∙ ap (λ (o : Order). take i c.args.orders.now ++ o ∷ []) (sym c.order-item.is) in
@@ -26,9 +27,12 @@ loop-order-preserved g c =
     record {
       count = ap (λ n. n + 1) c.loop-order.invariant.count;
       carried = subst (Carries old new) (sym more_orders)
-          (carries_then old mid new (take i c.args.orders.now) (c.order-item.result ∷ []) c.loop-order.invariant.carried one);
+          (carries_then old mid new (take i c.args.orders.now) (c.order-item.result ∷ []) c.loop-order.invariant.carried
+          one);
       calls = subst (λ (l : List Order). CallsFor Done l was there) (sym more_orders)
-          (called_then Done was here there (take i c.args.orders.now) (c.order-item.result ∷ []) c.loop-order.invariant.calls
-          (subst (λ (kept : Kept). there ≡ noted here (asked_with c.order-item.result.bytes) kept) c.in-Done.is c.carry_one.ensures.noted));
+          (called_then Done was here there (take i c.args.orders.now) (c.order-item.result ∷ [])
+          c.loop-order.invariant.calls
+          (subst (λ (kept : Kept). there ≡ noted here (asked_with c.order-item.result.bytes) kept) c.in-Done.is
+          c.carry_one.ensures.noted));
       counted = omega (arith, counted, more);
     }

@@ -5,13 +5,15 @@ use Rattle.login_handles.proofs.GuestNames.{AllTaken, AllTaken-none, AllTaken-mo
 use Rattle.login_handles.proofs.guests.guest_name.Goals as goal
 
 -- what the test says of the guest's key
-of_guest : (taken : List (List ℕ)) (key name : List ℕ) (n : ℕ) (t u : Bool) → u ≡ is_taken taken key → u ≡ t → key ≡ key_of name → name ≡ guest_of n
+of_guest : (taken : List (List ℕ)) (key name : List ℕ) (n : ℕ) (t u : Bool) → u ≡ is_taken taken key → u ≡ t
+    → key ≡ key_of name → name ≡ guest_of n
     → is_taken taken (key_of (guest_of n)) ≡ t
 of_guest taken key name n t u test is key_is name_is =
     ap (λ (x : List ℕ). is_taken taken (key_of x)) (sym name_is) ∙ ap (is_taken taken) (sym key_is) ∙ sym test ∙ is
 
 -- one more is taken, so there is a number left
-next_fits : (taken : List (List ℕ)) (n : ℕ) → AllTaken taken (n + 1) → n < 456976 → length taken < 456976 → n + 1 < 456976
+next_fits : (taken : List (List ℕ)) (n : ℕ) → AllTaken taken (n + 1) → n < 456976 → length taken < 456976
+    → n + 1 < 456976
 next_fits taken n all h few = let bound = AllTaken-length (n + 1) taken (omega arith) all in omega (arith, bound)
 
 pub loop-name-init : goal.loop-name-init
@@ -21,7 +23,8 @@ pub numbered_guest-name-requires-in-loop-name : goal.numbered_guest-name-require
 numbered_guest-name-requires-in-loop-name g c =
     next_fits (g.N.NamesInUse.keys c.args.names.now) c.loop-name.number
     (AllTaken-more (g.N.NamesInUse.keys c.args.names.now) c.loop-name.number c.loop-name.invariant.1
-    (of_guest (g.N.NamesInUse.keys c.args.names.now) _ _ c.loop-name.number true _ c.has.ensures c.loop-name-test.true c.key.ensures c.loop-name.invariant.0))
+    (of_guest (g.N.NamesInUse.keys c.args.names.now) _ _ c.loop-name.number true _ c.has.ensures c.loop-name-test.true
+    c.key.ensures c.loop-name.invariant.0))
     c.loop-name.invariant.2 c.requires
 
 pub loop-name-smaller : goal.loop-name-smaller
@@ -30,19 +33,26 @@ loop-name-smaller g c = omega (arith, c.loop-name.invariant.2)
 pub loop-name-preserved : goal.loop-name-preserved
 loop-name-preserved g c =
     let all = AllTaken-more (g.N.NamesInUse.keys c.args.names.now) c.loop-name.number c.loop-name.invariant.1
-    (of_guest (g.N.NamesInUse.keys c.args.names.now) _ _ c.loop-name.number true _ c.has.ensures c.loop-name-test.true c.key.ensures c.loop-name.invariant.0) in
-    (c.numbered_guest-name-in-loop-name.ensures, all, next_fits (g.N.NamesInUse.keys c.args.names.now) c.loop-name.number all c.loop-name.invariant.2 c.requires)
+    (of_guest (g.N.NamesInUse.keys c.args.names.now) _ _ c.loop-name.number true _ c.has.ensures c.loop-name-test.true
+    c.key.ensures c.loop-name.invariant.0) in (
+      c.numbered_guest-name-in-loop-name.ensures,
+      all,
+      next_fits (g.N.NamesInUse.keys c.args.names.now) c.loop-name.number all c.loop-name.invariant.2 c.requires,
+    )
 
 pub returns-clause-least : goal.returns-clause-least
 returns-clause-least g c = record {
   number = c.loop-name.number;
   within = c.loop-name.invariant.2;
   name_is = c.loop-name.invariant.0;
-  free = ap (is_taken (g.N.NamesInUse.keys c.args.names.now)) (sym c.key.ensures) ∙ sym c.has.ensures ∙ c.loop-name-test.false;
+  free =
+      ap (is_taken (g.N.NamesInUse.keys c.args.names.now)) (sym c.key.ensures) ∙ sym c.has.ensures
+      ∙ c.loop-name-test.false;
   least = c.loop-name.invariant.1;
 }
 
 pub returns-clause-among : goal.returns-clause-among
 returns-clause-among g c =
-    IsLeastFree-one (g.N.NamesInUse.keys c.args.names.now) c.loop-name.name (guest_among (g.N.NamesInUse.keys c.args.names.now)) (returns-clause-least g c)
+    IsLeastFree-one (g.N.NamesInUse.keys c.args.names.now) c.loop-name.name
+    (guest_among (g.N.NamesInUse.keys c.args.names.now)) (returns-clause-least g c)
     (guests_are_least (g.N.NamesInUse.keys c.args.names.now) c.requires)

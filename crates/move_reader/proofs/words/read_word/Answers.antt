@@ -7,11 +7,13 @@ use Rattle.move_reader.proofs.ByteMeanings.{not_some}
 use Rattle.move_reader.proofs.Readings.{reading-sound, reading-again}
 use Rattle.move_reader.proofs.words.read_word.Goals as goal
 
-is_read : (text : List ℕ) (result : Option MoveWord) → result ≡ reading text → IfSome result (λ word. IsReading text word)
+is_read : (text : List ℕ) (result : Option MoveWord) → result ≡ reading text
+    → IfSome result (λ word. IsReading text word)
 is_read text None e = tt
 is_read text (Some word) e = reading-sound text word (sym e)
 
-is_none : (text : List ℕ) (result : Option MoveWord) → result ≡ reading text → IfNone result ((word : MoveWord) → IsReading text word → ⊥)
+is_none : (text : List ℕ) (result : Option MoveWord) → result ≡ reading text
+    → IfNone result ((word : MoveWord) → IsReading text word → ⊥)
 is_none text None e = λ word is. not_some word (e ∙ reading-again text word is)
 is_none text (Some word) e = tt
 

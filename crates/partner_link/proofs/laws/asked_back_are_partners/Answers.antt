@@ -15,7 +15,8 @@ allowed : (t : Bool) (cause : Refusal) → cond t (Some cause) None ≡ None →
 allowed true cause e = absurd (let bad : Some cause ≡ None = e in cc)
 allowed false cause e = refl
 
-partners : (lists : PartnerLists) (from to : ℕ) → is_some (partner_of lists.links from) || is_some (partner_of lists.links to) ≡ false
+partners : (lists : PartnerLists) (from to : ℕ)
+    → is_some (partner_of lists.links from) || is_some (partner_of lists.links to) ≡ false
     → has_asked lists.requests to from ≡ true → ArePartnersAlone (linked lists from to) from to
 partners lists from to alone asks =
     let free = or_parts (is_some (partner_of lists.links from)) (is_some (partner_of lists.links to)) alone in
@@ -30,10 +31,16 @@ partners lists from to alone asks =
           ∙ linked_first to from;
       first_unasked =
           any-filter_same (names from) (λ request. not (names from request || names to request)) false
-          (λ request named. not_from_true (names from request || names to request) (or_left (names from request) (names to request) named)) lists.requests;
+          (λ request named.
+          not_from_true (names from request || names to request)
+          (or_left (names from request) (names to request) named))
+          lists.requests;
       second_unasked =
           any-filter_same (names to) (λ request. not (names from request || names to request)) false
-          (λ request named. not_from_true (names from request || names to request) (or_right (names from request) (names to request) named)) lists.requests;
+          (λ request named.
+          not_from_true (names from request || names to request)
+          (or_right (names from request) (names to request) named))
+          lists.requests;
     }
 
 pub returns : goal.returns
@@ -42,4 +49,5 @@ returns c = λ free asks.
     let from = c.args.from in
     let to = c.args.to in
     subst (λ (t : Bool). ArePartnersAlone (cond t (linked lists from to) (asked lists from to)) from to) (sym asks)
-    (partners lists from to (allowed (is_some (partner_of lists.links from) || is_some (partner_of lists.links to)) HasPartner free) asks)
+    (partners lists from to
+    (allowed (is_some (partner_of lists.links from) || is_some (partner_of lists.links to)) HasPartner free) asks)

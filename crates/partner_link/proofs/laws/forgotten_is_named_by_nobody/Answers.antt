@@ -18,5 +18,7 @@ returns c =
     subst (λ (l : PartnerLists). IsNamedByNobody (without l who) who) c.partners.view_is (record {
       alone = alone;
       nobody_s = λ other found. none-some other (sym alone ∙ partner_of-partner_of left all other who found);
-      unasked = any-filter_same (names who) (λ request. not (names who request)) false (λ request named. not_from_true (names who request) named) c.partners.inside.requests;
+      unasked =
+          any-filter_same (names who) (λ request. not (names who request)) false
+          (λ request named. not_from_true (names who request) named) c.partners.inside.requests;
     })

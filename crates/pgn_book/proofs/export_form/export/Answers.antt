@@ -14,7 +14,10 @@ returns c =
     c.in_ok-put_tags.ensures ∙ ap (λ (l : List ℕ). l ++ (tag_lines g ++ codes "\n")) c.new-text.ensures.items in
     c.in_ok-put_end.ensures
     ∙ ap (λ (l : List ℕ). l ++ codes "\n\n") (c.finish-text.ensures
-    ∙ page_text c.behind-page.result c.put_moves.new.page c.put.new.self c.put_tags.new.text.items tokens (word ∷ []) c.behind-page.ensures
+    ∙ page_text c.behind-page.result c.put_moves.new.page c.put.new.self c.put_tags.new.text.items tokens (word ∷ [])
+    c.behind-page.ensures
     c.in_ok-put_moves.ensures c.in_ok-put.ensures.lays)
     ∙ ap (λ (l : List ℕ). (l ++ laid 0 (tokens ++ word ∷ [])) ++ codes "\n\n") front
-    ∙ ap (λ (w : List ℕ). ((tag_lines g ++ codes "\n") ++ laid 0 (tokens ++ w ∷ [])) ++ codes "\n\n") c.result_word.ensures.text
+    ∙ ap
+    (λ (w : List ℕ).
+    ((tag_lines g ++ codes "\n") ++ laid 0 (tokens ++ w ∷ [])) ++ codes "\n\n") c.result_word.ensures.text

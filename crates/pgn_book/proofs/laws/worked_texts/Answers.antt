@@ -6,7 +6,8 @@ use Rattle.pgn_book.specs.Reading.{move_read, took, step}
 use Rattle.pgn_book.proofs.laws.worked_texts.Goals as goal
 
 pub returns : goal.returns
-unfolding is_allowed is_move is_safe_after is_king_safe is_attacked word_answer applies matches is_word_byte move_read took step
+unfolding is_allowed is_move is_safe_after is_king_safe is_attacked word_answer applies matches is_word_byte move_read
+    took step
 returns c = record {
   comments = refl;
   illegal = refl;

@@ -8,5 +8,7 @@ use Rattle.replay_core.proofs.order.presences_at_start.Goals as goal
 pub loop-place-init : goal.loop-place-init
 loop-place-init c = record {
   len = refl;
-  each = λ place d lt. let none : ltb place 0 ≡ false = le-ltb place 0 (omega arith) in get_or-replicate 64 place Away d lt ∙ sym (ap (λ (b : Bool). cond b Here Away) none);
+  each = λ place d lt.
+      let none : ltb place 0 ≡ false = le-ltb place 0 (omega arith) in
+      get_or-replicate 64 place Away d lt ∙ sym (ap (λ (b : Bool). cond b Here Away) none);
 }

@@ -10,7 +10,10 @@ pub returns-in_default-cut_number-clause-none : goal.returns-in_default-cut_numb
 returns-in_default-cut_number-clause-none c value h e =
     let small : value.moment < 2 ^ 64 = omega arith in
     let read : c.in-Some.moment < 2 ^ 64 = omega (arith, c.in-Some.ensures.bound) in
-    let rest = one_number c.in-Some.moment value.moment c.in-Some.rest.now (decimal value.session ++ blank ∷ event_text value.event) read small (sym c.in-Some.ensures.parts ∙ (c.bytes.ensures.bytes ∙ e)) in
+    let rest =
+    one_number c.in-Some.moment value.moment c.in-Some.rest.now
+    (decimal value.session ++ blank ∷ event_text value.event) read small
+    (sym c.in-Some.ensures.parts ∙ (c.bytes.ensures.bytes ∙ e)) in
     c.in_default-cut_number.ensures.none value.session (event_text value.event) h.last rest.1
 
 -- the session would be the one that was read, which is 0
@@ -18,8 +21,14 @@ pub returns-then-session-eq0-clause-none : goal.returns-then-session-eq0-clause-
 returns-then-session-eq0-clause-none c value h e =
     let small : value.moment < 2 ^ 64 = omega arith in
     let read : c.in-Some.moment < 2 ^ 64 = omega (arith, c.in-Some.ensures.bound) in
-    let rest = one_number c.in-Some.moment value.moment c.in-Some.rest.now (decimal value.session ++ blank ∷ event_text value.event) read small (sym c.in-Some.ensures.parts ∙ (c.bytes.ensures.bytes ∙ e)) in
-    let session = one_number c.in-Some-cut_number.session value.session c.in-Some-cut_number.rest.now (event_text value.event) (omega (arith, c.in-Some-cut_number.ensures.bound)) (omega (arith, h.last)) (sym c.in-Some-cut_number.ensures.parts ∙ rest.1) in
+    let rest =
+    one_number c.in-Some.moment value.moment c.in-Some.rest.now
+    (decimal value.session ++ blank ∷ event_text value.event) read small
+    (sym c.in-Some.ensures.parts ∙ (c.bytes.ensures.bytes ∙ e)) in
+    let session =
+    one_number c.in-Some-cut_number.session value.session c.in-Some-cut_number.rest.now (event_text value.event)
+    (omega (arith, c.in-Some-cut_number.ensures.bound)) (omega (arith, h.last))
+    (sym c.in-Some-cut_number.ensures.parts ∙ rest.1) in
     let zero : c.in-Some-cut_number.session ≡ 0 = cc in
     omega (arith, session.0, h.first)
 
@@ -28,7 +37,13 @@ pub returns-in_default-2-clause-none : goal.returns-in_default-2-clause-none
 returns-in_default-2-clause-none c value h e =
     let small : value.moment < 2 ^ 64 = omega arith in
     let read : c.in-Some.moment < 2 ^ 64 = omega (arith, c.in-Some.ensures.bound) in
-    let rest = one_number c.in-Some.moment value.moment c.in-Some.rest.now (decimal value.session ++ blank ∷ event_text value.event) read small (sym c.in-Some.ensures.parts ∙ (c.bytes.ensures.bytes ∙ e)) in
-    let event = one_number c.in-Some-cut_number.session value.session c.in-Some-cut_number.rest.now (event_text value.event) (omega (arith, c.in-Some-cut_number.ensures.bound)) (omega (arith, h.last)) (sym c.in-Some-cut_number.ensures.parts ∙ rest.1) in
+    let rest =
+    one_number c.in-Some.moment value.moment c.in-Some.rest.now
+    (decimal value.session ++ blank ∷ event_text value.event) read small
+    (sym c.in-Some.ensures.parts ∙ (c.bytes.ensures.bytes ∙ e)) in
+    let event =
+    one_number c.in-Some-cut_number.session value.session c.in-Some-cut_number.rest.now (event_text value.event)
+    (omega (arith, c.in-Some-cut_number.ensures.bound)) (omega (arith, h.last))
+    (sym c.in-Some-cut_number.ensures.parts ∙ rest.1) in
     let none = rw c.in_default-2.is at c.in_ok-event.ensures.none in
     none value.event h.event event.1

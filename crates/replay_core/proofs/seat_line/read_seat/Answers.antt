@@ -11,7 +11,10 @@ use Rattle.replay_core.proofs.seat_line.read_seat.Goals as goal
 -- what stands behind the handles would be the terms
 pub returns-in_default-seat_terms-clause-none : goal.returns-in_default-seat_terms-clause-none
 returns-in_default-seat_terms-clause-none c seat h e =
-    let one = one_seat seat h c.in-Some.rest.now c.in_ok-names.names c.in_ok-names.rest.now (sym c.in-Some.ensures.rest ∙ (c.bytes.ensures.bytes ∙ e)) c.in_ok-names.ensures.parts (recursion_from_All IsHandle _ c.in_ok-names.ensures.handles) c.in_ok-names.ensures.end in
+    let one =
+    one_seat seat h c.in-Some.rest.now c.in_ok-names.names c.in_ok-names.rest.now
+    (sym c.in-Some.ensures.rest ∙ (c.bytes.ensures.bytes ∙ e)) c.in_ok-names.ensures.parts
+    (recursion_from_All IsHandle _ c.in_ok-names.ensures.handles) c.in_ok-names.ensures.end in
     let names = c.as_slice.ensures ∙ one.0 in
     let may : MayPlay c.as_slice.result.now seat.terms = record {
       count = ap length names ∙ h.count;
@@ -24,5 +27,11 @@ returns-in_default-seat_terms-clause-none c seat h e =
 pub returns-clause-spelled : goal.returns-clause-spelled
 returns-clause-spelled c =
     let terms = c.in-Some-seat_terms.terms in
-    let split = seat_split (codes "seat") c.in_ok-names.names (decimal terms.minutes) (decimal terms.increment) (word_of terms.variant) in
-    sym c.bytes.ensures.bytes ∙ c.in-Some.ensures.rest ∙ ap (λ (t : List ℕ). codes "seat" ++ blank ∷ t) c.in_ok-names.ensures.parts ∙ ap (λ (t : List ℕ). codes "seat" ++ blank ∷ words_before c.in_ok-names.names t) c.in-Some-seat_terms.ensures.spelled ∙ sym split
+    let split =
+    seat_split
+    (codes "seat") c.in_ok-names.names (decimal terms.minutes) (decimal terms.increment) (word_of terms.variant) in
+    sym c.bytes.ensures.bytes ∙ c.in-Some.ensures.rest
+    ∙ ap (λ (t : List ℕ). codes "seat" ++ blank ∷ t) c.in_ok-names.ensures.parts
+    ∙ ap (λ (t : List ℕ). codes "seat" ++ blank ∷ words_before c.in_ok-names.names t)
+    c.in-Some-seat_terms.ensures.spelled
+    ∙ sym split

@@ -10,7 +10,9 @@ pub returns-in_default-cut_number-clause-none : goal.returns-in_default-cut_numb
 returns-in_default-cut_number-clause-none c terms h e =
     let small : terms.minutes < 2 ^ 64 = omega (arith, h.minutes) in
     let read : c.in-Some.minutes < 2 ^ 64 = omega (arith, c.in-Some.ensures.bound) in
-    let rest = one_number c.in-Some.minutes terms.minutes c.in-Some.rest.now (decimal terms.increment ++ blank ∷ word_of terms.variant) read small (sym c.in-Some.ensures.parts ∙ e) in
+    let rest =
+    one_number c.in-Some.minutes terms.minutes c.in-Some.rest.now
+    (decimal terms.increment ++ blank ∷ word_of terms.variant) read small (sym c.in-Some.ensures.parts ∙ e) in
     c.in_default-cut_number.ensures.none terms.increment (word_of terms.variant) h.increment rest.1
 
 -- what is left would be the variant's word
@@ -18,6 +20,11 @@ pub returns-in_default-read_variant-clause-none : goal.returns-in_default-read_v
 returns-in_default-read_variant-clause-none c terms h e =
     let small : terms.minutes < 2 ^ 64 = omega (arith, h.minutes) in
     let read : c.in-Some.minutes < 2 ^ 64 = omega (arith, c.in-Some.ensures.bound) in
-    let rest = one_number c.in-Some.minutes terms.minutes c.in-Some.rest.now (decimal terms.increment ++ blank ∷ word_of terms.variant) read small (sym c.in-Some.ensures.parts ∙ e) in
-    let word = one_number c.in-Some-cut_number.increment terms.increment c.in-Some-cut_number.rest.now (word_of terms.variant) (omega (arith, c.in-Some-cut_number.ensures.bound)) (omega (arith, h.increment)) (sym c.in-Some-cut_number.ensures.parts ∙ rest.1) in
+    let rest =
+    one_number c.in-Some.minutes terms.minutes c.in-Some.rest.now
+    (decimal terms.increment ++ blank ∷ word_of terms.variant) read small (sym c.in-Some.ensures.parts ∙ e) in
+    let word =
+    one_number c.in-Some-cut_number.increment terms.increment c.in-Some-cut_number.rest.now (word_of terms.variant)
+    (omega (arith, c.in-Some-cut_number.ensures.bound)) (omega (arith, h.increment))
+    (sym c.in-Some-cut_number.ensures.parts ∙ rest.1) in
     c.in_default-read_variant.ensures.none terms.variant word.1

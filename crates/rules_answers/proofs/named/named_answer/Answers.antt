@@ -12,4 +12,5 @@ pub returns-in-None-first_choice-clause-answered : goal.returns-in-None-first_ch
 returns-in-None-first_choice-clause-answered g c =
     rw c.move_from.ensures
     (named_accepted (g.B.AskedBoard.position c.args.board.now) c.args.w.now c.in-Some.a (c.number.result + 1)
-    (omega (arith, c.number.ensures.value)) c.in-Some.ensures.found.1 c.in-Some.ensures.first c.in-None-first_choice.ensures.none)
+    (omega (arith, c.number.ensures.value)) c.in-Some.ensures.found.1 c.in-Some.ensures.first
+    c.in-None-first_choice.ensures.none)

@@ -11,8 +11,10 @@ pub returns-in-Ok-clause-usage : goal.returns-in-Ok-clause-usage
 returns-in-Ok-clause-usage g c = λ e.
     let old : Store = store_of g.P.Keeper.table g.P.Keeper.faults g.P.Keeper.calls c.args.keeper.now in
     let new : Store = store_of g.P.Keeper.table g.P.Keeper.faults g.P.Keeper.calls c.serve_players.new.keeper in
-    let before : Sheet = record { written = g.K.Sink.written c.args.sink.now; faults = g.K.Sink.faults c.args.sink.now } in
-    let after : Sheet = record { written = g.K.Sink.written c.serve_players.new.sink; faults = g.K.Sink.faults c.serve_players.new.sink } in
+    let before : Sheet =
+    record { written = g.K.Sink.written c.args.sink.now; faults = g.K.Sink.faults c.args.sink.now } in
+    let after : Sheet =
+    record { written = g.K.Sink.written c.serve_players.new.sink; faults = g.K.Sink.faults c.serve_players.new.sink } in
     let door = g.D.Doorway.faults c.args.door.now in
     let door' = g.D.Doorway.faults c.serve_players.new.door in
     let ends = c.serve_players.ensures.ends in
@@ -22,8 +24,10 @@ pub returns-in-Ok-clause-write_fault : goal.returns-in-Ok-clause-write_fault
 returns-in-Ok-clause-write_fault g c = λ e.
     let old : Store = store_of g.P.Keeper.table g.P.Keeper.faults g.P.Keeper.calls c.args.keeper.now in
     let new : Store = store_of g.P.Keeper.table g.P.Keeper.faults g.P.Keeper.calls c.serve_players.new.keeper in
-    let before : Sheet = record { written = g.K.Sink.written c.args.sink.now; faults = g.K.Sink.faults c.args.sink.now } in
-    let after : Sheet = record { written = g.K.Sink.written c.serve_players.new.sink; faults = g.K.Sink.faults c.serve_players.new.sink } in
+    let before : Sheet =
+    record { written = g.K.Sink.written c.args.sink.now; faults = g.K.Sink.faults c.args.sink.now } in
+    let after : Sheet =
+    record { written = g.K.Sink.written c.serve_players.new.sink; faults = g.K.Sink.faults c.serve_players.new.sink } in
     let door = g.D.Doorway.faults c.args.door.now in
     let door' = g.D.Doorway.faults c.serve_players.new.door in
     let ends = c.serve_players.ensures.ends in
@@ -33,8 +37,10 @@ pub returns-in-Ok-clause-door_fault : goal.returns-in-Ok-clause-door_fault
 returns-in-Ok-clause-door_fault g c = λ e.
     let old : Store = store_of g.P.Keeper.table g.P.Keeper.faults g.P.Keeper.calls c.args.keeper.now in
     let new : Store = store_of g.P.Keeper.table g.P.Keeper.faults g.P.Keeper.calls c.serve_players.new.keeper in
-    let before : Sheet = record { written = g.K.Sink.written c.args.sink.now; faults = g.K.Sink.faults c.args.sink.now } in
-    let after : Sheet = record { written = g.K.Sink.written c.serve_players.new.sink; faults = g.K.Sink.faults c.serve_players.new.sink } in
+    let before : Sheet =
+    record { written = g.K.Sink.written c.args.sink.now; faults = g.K.Sink.faults c.args.sink.now } in
+    let after : Sheet =
+    record { written = g.K.Sink.written c.serve_players.new.sink; faults = g.K.Sink.faults c.serve_players.new.sink } in
     let door = g.D.Doorway.faults c.args.door.now in
     let door' = g.D.Doorway.faults c.serve_players.new.door in
     let ends = c.serve_players.ensures.ends in
@@ -44,8 +50,10 @@ pub returns-in-Ok-clause-keeper_fault : goal.returns-in-Ok-clause-keeper_fault
 returns-in-Ok-clause-keeper_fault g c = λ e.
     let old : Store = store_of g.P.Keeper.table g.P.Keeper.faults g.P.Keeper.calls c.args.keeper.now in
     let new : Store = store_of g.P.Keeper.table g.P.Keeper.faults g.P.Keeper.calls c.serve_players.new.keeper in
-    let before : Sheet = record { written = g.K.Sink.written c.args.sink.now; faults = g.K.Sink.faults c.args.sink.now } in
-    let after : Sheet = record { written = g.K.Sink.written c.serve_players.new.sink; faults = g.K.Sink.faults c.serve_players.new.sink } in
+    let before : Sheet =
+    record { written = g.K.Sink.written c.args.sink.now; faults = g.K.Sink.faults c.args.sink.now } in
+    let after : Sheet =
+    record { written = g.K.Sink.written c.serve_players.new.sink; faults = g.K.Sink.faults c.serve_players.new.sink } in
     let door = g.D.Doorway.faults c.args.door.now in
     let door' = g.D.Doorway.faults c.serve_players.new.door in
     let ends = c.serve_players.ensures.ends in
@@ -55,19 +63,24 @@ pub returns-in-Ok-clause-bad_record : goal.returns-in-Ok-clause-bad_record
 returns-in-Ok-clause-bad_record g c = λ e.
     let old : Store = store_of g.P.Keeper.table g.P.Keeper.faults g.P.Keeper.calls c.args.keeper.now in
     let new : Store = store_of g.P.Keeper.table g.P.Keeper.faults g.P.Keeper.calls c.serve_players.new.keeper in
-    let before : Sheet = record { written = g.K.Sink.written c.args.sink.now; faults = g.K.Sink.faults c.args.sink.now } in
-    let after : Sheet = record { written = g.K.Sink.written c.serve_players.new.sink; faults = g.K.Sink.faults c.serve_players.new.sink } in
+    let before : Sheet =
+    record { written = g.K.Sink.written c.args.sink.now; faults = g.K.Sink.faults c.args.sink.now } in
+    let after : Sheet =
+    record { written = g.K.Sink.written c.serve_players.new.sink; faults = g.K.Sink.faults c.serve_players.new.sink } in
     let door = g.D.Doorway.faults c.args.door.now in
     let door' = g.D.Doorway.faults c.serve_players.new.door in
     let ends = c.serve_players.ensures.ends in
-    let bad = call_bad old new before after door door' c.serve_players.result.0 ends e in (c.in-Ok.ensures.asks, bad.0, bad.1, bad.2)
+    let bad = call_bad old new before after door door' c.serve_players.result.0 ends e in
+    (c.in-Ok.ensures.asks, bad.0, bad.1, bad.2)
 
 pub returns-in-Ok-clause-good_store : goal.returns-in-Ok-clause-good_store
 returns-in-Ok-clause-good_store g c = λ e.
     let old : Store = store_of g.P.Keeper.table g.P.Keeper.faults g.P.Keeper.calls c.args.keeper.now in
     let new : Store = store_of g.P.Keeper.table g.P.Keeper.faults g.P.Keeper.calls c.serve_players.new.keeper in
-    let before : Sheet = record { written = g.K.Sink.written c.args.sink.now; faults = g.K.Sink.faults c.args.sink.now } in
-    let after : Sheet = record { written = g.K.Sink.written c.serve_players.new.sink; faults = g.K.Sink.faults c.serve_players.new.sink } in
+    let before : Sheet =
+    record { written = g.K.Sink.written c.args.sink.now; faults = g.K.Sink.faults c.args.sink.now } in
+    let after : Sheet =
+    record { written = g.K.Sink.written c.serve_players.new.sink; faults = g.K.Sink.faults c.serve_players.new.sink } in
     let door = g.D.Doorway.faults c.args.door.now in
     let door' = g.D.Doorway.faults c.serve_players.new.door in
     let ends = c.serve_players.ensures.ends in
@@ -77,8 +90,10 @@ pub returns-in-Ok-clause-text : goal.returns-in-Ok-clause-text
 returns-in-Ok-clause-text g c = λ e.
     let old : Store = store_of g.P.Keeper.table g.P.Keeper.faults g.P.Keeper.calls c.args.keeper.now in
     let new : Store = store_of g.P.Keeper.table g.P.Keeper.faults g.P.Keeper.calls c.serve_players.new.keeper in
-    let before : Sheet = record { written = g.K.Sink.written c.args.sink.now; faults = g.K.Sink.faults c.args.sink.now } in
-    let after : Sheet = record { written = g.K.Sink.written c.serve_players.new.sink; faults = g.K.Sink.faults c.serve_players.new.sink } in
+    let before : Sheet =
+    record { written = g.K.Sink.written c.args.sink.now; faults = g.K.Sink.faults c.args.sink.now } in
+    let after : Sheet =
+    record { written = g.K.Sink.written c.serve_players.new.sink; faults = g.K.Sink.faults c.serve_players.new.sink } in
     let door = g.D.Doorway.faults c.args.door.now in
     let door' = g.D.Doorway.faults c.serve_players.new.door in
     let ends = c.serve_players.ensures.ends in
@@ -88,19 +103,24 @@ pub returns-in-Ok-clause-complete : goal.returns-in-Ok-clause-complete
 returns-in-Ok-clause-complete g c = λ asks no_door no_sink no_keeper.
     let old : Store = store_of g.P.Keeper.table g.P.Keeper.faults g.P.Keeper.calls c.args.keeper.now in
     let new : Store = store_of g.P.Keeper.table g.P.Keeper.faults g.P.Keeper.calls c.serve_players.new.keeper in
-    let before : Sheet = record { written = g.K.Sink.written c.args.sink.now; faults = g.K.Sink.faults c.args.sink.now } in
-    let after : Sheet = record { written = g.K.Sink.written c.serve_players.new.sink; faults = g.K.Sink.faults c.serve_players.new.sink } in
+    let before : Sheet =
+    record { written = g.K.Sink.written c.args.sink.now; faults = g.K.Sink.faults c.args.sink.now } in
+    let after : Sheet =
+    record { written = g.K.Sink.written c.serve_players.new.sink; faults = g.K.Sink.faults c.serve_players.new.sink } in
     let door = g.D.Doorway.faults c.args.door.now in
     let door' = g.D.Doorway.faults c.serve_players.new.door in
     let ends = c.serve_players.ensures.ends in
-    call_calm old new before after door door' c.serve_players.result.0 ends (λ rose. one_rose no_door no_sink no_keeper rose)
+    call_calm old new before after door door' c.serve_players.result.0 ends
+    (λ rose. one_rose no_door no_sink no_keeper rose)
 
 pub returns-in-Ok-clause-statuses : goal.returns-in-Ok-clause-statuses
 returns-in-Ok-clause-statuses g c =
     let old : Store = store_of g.P.Keeper.table g.P.Keeper.faults g.P.Keeper.calls c.args.keeper.now in
     let new : Store = store_of g.P.Keeper.table g.P.Keeper.faults g.P.Keeper.calls c.serve_players.new.keeper in
-    let before : Sheet = record { written = g.K.Sink.written c.args.sink.now; faults = g.K.Sink.faults c.args.sink.now } in
-    let after : Sheet = record { written = g.K.Sink.written c.serve_players.new.sink; faults = g.K.Sink.faults c.serve_players.new.sink } in
+    let before : Sheet =
+    record { written = g.K.Sink.written c.args.sink.now; faults = g.K.Sink.faults c.args.sink.now } in
+    let after : Sheet =
+    record { written = g.K.Sink.written c.serve_players.new.sink; faults = g.K.Sink.faults c.serve_players.new.sink } in
     let door = g.D.Doorway.faults c.args.door.now in
     let door' = g.D.Doorway.faults c.serve_players.new.door in
     let ends = c.serve_players.ensures.ends in
@@ -110,30 +130,43 @@ pub returns-in-Ok-clause-write_told : goal.returns-in-Ok-clause-write_told
 returns-in-Ok-clause-write_told g c =
     let old : Store = store_of g.P.Keeper.table g.P.Keeper.faults g.P.Keeper.calls c.args.keeper.now in
     let new : Store = store_of g.P.Keeper.table g.P.Keeper.faults g.P.Keeper.calls c.serve_players.new.keeper in
-    let before : Sheet = record { written = g.K.Sink.written c.args.sink.now; faults = g.K.Sink.faults c.args.sink.now } in
-    let after : Sheet = record { written = g.K.Sink.written c.serve_players.new.sink; faults = g.K.Sink.faults c.serve_players.new.sink } in
+    let before : Sheet =
+    record { written = g.K.Sink.written c.args.sink.now; faults = g.K.Sink.faults c.args.sink.now } in
+    let after : Sheet =
+    record { written = g.K.Sink.written c.serve_players.new.sink; faults = g.K.Sink.faults c.serve_players.new.sink } in
     let door = g.D.Doorway.faults c.args.door.now in
     let door' = g.D.Doorway.faults c.serve_players.new.door in
     let ends = c.serve_players.ensures.ends in
     call_told old new before after door door' c.serve_players.result.0 ends
 
 pub returns-in-Err-Usage-clause-statuses : goal.returns-in-Err-Usage-clause-statuses
-returns-in-Err-Usage-clause-statuses g c = usage_listed (g.K.Sink.written c.args.sink.now) (g.K.Sink.written c.tell_usage.new.sink) c.tell_usage.result c.tell_usage.ensures.ends
+returns-in-Err-Usage-clause-statuses g c =
+    usage_listed (g.K.Sink.written c.args.sink.now) (g.K.Sink.written c.tell_usage.new.sink) c.tell_usage.result
+    c.tell_usage.ensures.ends
 
 pub returns-in-Err-Usage-clause-usage_part : goal.returns-in-Err-Usage-clause-usage_part
-returns-in-Err-Usage-clause-usage_part g c = λ none. usage_front (g.K.Sink.written c.args.sink.now) (g.K.Sink.written c.tell_usage.new.sink) c.tell_usage.result c.tell_usage.ensures.ends
+returns-in-Err-Usage-clause-usage_part g c = λ none.
+    usage_front (g.K.Sink.written c.args.sink.now) (g.K.Sink.written c.tell_usage.new.sink) c.tell_usage.result
+    c.tell_usage.ensures.ends
 
 pub returns-in-Err-Usage-clause-keeper_fault : goal.returns-in-Err-Usage-clause-keeper_fault
-returns-in-Err-Usage-clause-keeper_fault g c = λ e. absurd (usage_else (g.K.Sink.written c.args.sink.now) (g.K.Sink.written c.tell_usage.new.sink) c.tell_usage.result c.tell_usage.ensures.ends (inl e))
+returns-in-Err-Usage-clause-keeper_fault g c = λ e.
+    absurd (usage_else (g.K.Sink.written c.args.sink.now) (g.K.Sink.written c.tell_usage.new.sink) c.tell_usage.result
+    c.tell_usage.ensures.ends (inl e))
 
 pub returns-in-Err-Usage-clause-bad_record : goal.returns-in-Err-Usage-clause-bad_record
-returns-in-Err-Usage-clause-bad_record g c = λ e. absurd (usage_else (g.K.Sink.written c.args.sink.now) (g.K.Sink.written c.tell_usage.new.sink) c.tell_usage.result c.tell_usage.ensures.ends (inr (inl e)))
+returns-in-Err-Usage-clause-bad_record g c = λ e.
+    absurd (usage_else (g.K.Sink.written c.args.sink.now) (g.K.Sink.written c.tell_usage.new.sink) c.tell_usage.result
+    c.tell_usage.ensures.ends (inr (inl e)))
 
 pub returns-in-Err-Usage-clause-good_store : goal.returns-in-Err-Usage-clause-good_store
-returns-in-Err-Usage-clause-good_store g c = λ e. absurd (usage_else (g.K.Sink.written c.args.sink.now) (g.K.Sink.written c.tell_usage.new.sink) c.tell_usage.result c.tell_usage.ensures.ends (inr (inl e)))
+returns-in-Err-Usage-clause-good_store g c = λ e.
+    absurd (usage_else (g.K.Sink.written c.args.sink.now) (g.K.Sink.written c.tell_usage.new.sink) c.tell_usage.result
+    c.tell_usage.ensures.ends (inr (inl e)))
 
 pub returns-in-Err-Memory-clause-complete : goal.returns-in-Err-Memory-clause-complete
-returns-in-Err-Memory-clause-complete g c = λ asks no_door no_sink no_keeper. subst (Contains (0 ∷ 5 ∷ 6 ∷ 9 ∷ [])) (sym c.status.ensures) (2, omega arith, refl)
+returns-in-Err-Memory-clause-complete g c = λ asks no_door no_sink no_keeper.
+    subst (Contains (0 ∷ 5 ∷ 6 ∷ 9 ∷ [])) (sym c.status.ensures) (2, omega arith, refl)
 
 pub returns-in-Err-Usage-clause-write_told : goal.returns-in-Err-Usage-clause-write_told
 returns-in-Err-Usage-clause-write_told g c = usage_told c.tell_usage.ensures.calm
@@ -141,5 +174,6 @@ returns-in-Err-Usage-clause-write_told g c = usage_told c.tell_usage.ensures.cal
 pub returns-in-Err-Memory-clause-no_hall : goal.returns-in-Err-Memory-clause-no_hall
 returns-in-Err-Memory-clause-no_hall g c = λ asks.
     let store : Store = store_of g.P.Keeper.table g.P.Keeper.faults g.P.Keeper.calls c.args.keeper.now in
-    let sheet : Sheet = record { written = g.K.Sink.written c.args.sink.now; faults = g.K.Sink.faults c.args.sink.now } in
+    let sheet : Sheet =
+    record { written = g.K.Sink.written c.args.sink.now; faults = g.K.Sink.faults c.args.sink.now } in
     (unopened.Memory, c.status.ensures, unasked store sheet)

@@ -34,7 +34,8 @@ returns-in-Some-end-clause-tended g c =
     let before : Stand = stand l.host.pass l.host.supply (g.D.Doorway.tale l.door) mid in
     let after : Stand = stand r.pass r.supply (g.D.Doorway.tale c.round-after.new.door) new in
     let last : Stand = stand c.at_end.result.pass c.at_end.result.supply (g.D.Doorway.tale c.at_end.new.door) new in
-    tended_then first after last (tended_then first before after l.invariant.tended c.round-after.ensures.tended) (c.at_end.ensures.tended new)
+    tended_then first after last (tended_then first before after l.invariant.tended c.round-after.ensures.tended)
+    (c.at_end.ensures.tended new)
 
 pub loop-preserved : goal.loop-preserved
 loop-preserved g c =
@@ -51,7 +52,9 @@ loop-preserved g c =
       count = c.round-after.ensures.count;
       few = search rules;
       kept = c.round-after.ensures.kept;
-      tended = tended_then (stand c.args.pass Enough start old) (stand l.host.pass l.host.supply door mid) (stand r.pass r.supply door' new) l.invariant.tended c.round-after.ensures.tended;
+      tended =
+          tended_then (stand c.args.pass Enough start old) (stand l.host.pass l.host.supply door mid)
+          (stand r.pass r.supply door' new) l.invariant.tended c.round-after.ensures.tended;
       opening = c.round-after.ensures.opening ∙ l.invariant.opening;
       links = links_then start door door' l.invariant.links c.round-after.ensures.links;
       counted = omega (arith, l.invariant.counted, c.round-after.ensures.counted);
@@ -61,7 +64,11 @@ pub returns-in-Some-end-clause-stopped : goal.returns-in-Some-end-clause-stopped
 returns-in-Some-end-clause-stopped g c =
     let l = c.loop in
     let r = c.round-after in
-    stopped_on c.in-Some-end.end c.at_end.result.end r.result.1 c.at_end.result.pass.splits (g.D.Doorway.tale r.new.door) (g.D.Doorway.tale c.at_end.new.door)
-    (g.D.Doorway.faults c.args.door.now) (g.D.Doorway.faults l.door) (g.D.Doorway.faults r.new.door) (g.D.Doorway.faults c.at_end.new.door)
-    (some_stops r.result.2 c.in-Some-end.end r.result.1 (g.D.Doorway.tale r.new.door) (g.D.Doorway.faults l.door) (g.D.Doorway.faults r.new.door) c.in-Some-end.is r.ensures.ends) c.at_end.ensures.end
+    stopped_on c.in-Some-end.end c.at_end.result.end r.result.1 c.at_end.result.pass.splits
+    (g.D.Doorway.tale r.new.door) (g.D.Doorway.tale c.at_end.new.door)
+    (g.D.Doorway.faults c.args.door.now) (g.D.Doorway.faults l.door) (g.D.Doorway.faults r.new.door)
+    (g.D.Doorway.faults c.at_end.new.door)
+    (some_stops r.result.2 c.in-Some-end.end r.result.1 (g.D.Doorway.tale r.new.door) (g.D.Doorway.faults l.door)
+    (g.D.Doorway.faults r.new.door) c.in-Some-end.is r.ensures.ends)
+    c.at_end.ensures.end
     (c.at_end.ensures.same.0 ∙ r.ensures.count) c.at_end.ensures.left l.invariant.counted c.at_end.ensures.faults

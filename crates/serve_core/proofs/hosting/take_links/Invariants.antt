@@ -12,8 +12,13 @@ invariant-loop g l = record {
   forever : (goal.iterator-loop g).can_next l.iterator' × (goal.iterator-loop g).is_finite l.iterator';
   count : l.host.pass.splits ≡ l.count;
   few : l.count < 2 ^ 31;
-  kept : Underway g.C.Clock.shows l.shared.hall.now l.shared.clock.now l.host.supply (g.D.Doorway.tale l.door) l.host.pass l.host.waiting.items;
-  tended : Tended (stand l.fn.pass Enough (g.D.Doorway.tale l.fn.door) (store_of g.P.Keeper.table g.P.Keeper.faults g.P.Keeper.calls l.fn.keeper)) (stand l.host.pass l.host.supply (g.D.Doorway.tale l.door) (store_of g.P.Keeper.table g.P.Keeper.faults g.P.Keeper.calls l.keeper));
+  kept : Underway g.C.Clock.shows l.shared.hall.now l.shared.clock.now l.host.supply (g.D.Doorway.tale l.door)
+      l.host.pass l.host.waiting.items;
+  tended : Tended
+      (stand l.fn.pass Enough (g.D.Doorway.tale l.fn.door)
+      (store_of g.P.Keeper.table g.P.Keeper.faults g.P.Keeper.calls l.fn.keeper))
+      (stand l.host.pass l.host.supply (g.D.Doorway.tale l.door)
+      (store_of g.P.Keeper.table g.P.Keeper.faults g.P.Keeper.calls l.keeper));
   opening : l.host.pass.opening ≡ l.fn.pass.opening;
   links : WhereTold (g.D.Doorway.tale l.fn.door) (g.D.Doorway.tale l.door) KeepsLinks;
   counted : g.D.Doorway.faults l.fn.door ≤ g.D.Doorway.faults l.door;

@@ -20,9 +20,15 @@ returns-in-Quiet-clause-kept g c =
     let room = c.room_ahead-ended.ensures in
     let door = g.D.Doorway.tale c.settle_ended.new.door in
     let turn = c.at_quiet.ensures.turn in
-    let k : Underway g.C.Clock.shows c.args.shared.now.hall.now c.args.shared.now.clock.now host.supply door host.pass host.waiting.items = rw (room.supply, room.pass, room.waiting) c.settle_ended.ensures.kept in
+    let k : Underway g.C.Clock.shows c.args.shared.now.hall.now c.args.shared.now.clock.now host.supply door host.pass
+    host.waiting.items =
+    rw (room.supply, room.pass, room.waiting) c.settle_ended.ensures.kept in
     rw (turn.3, ap (λ w. w.items) c.at_quiet.ensures.waiting)
-    (kept_quiet g.C.Clock.shows c.args.shared.now.hall.now c.args.shared.now.clock.now host.supply turn.0 turn.1 (store_of g.P.Keeper.table g.P.Keeper.faults g.P.Keeper.calls c.args.keeper.now) (store_of g.P.Keeper.table g.P.Keeper.faults g.P.Keeper.calls c.at_quiet.new.keeper) door (g.D.Doorway.tale c.next.new.self) host.pass c.at_quiet.result.pass host.waiting.items k c.in-Quiet.ensures.gives turn.2)
+    (kept_quiet g.C.Clock.shows c.args.shared.now.hall.now c.args.shared.now.clock.now host.supply turn.0 turn.1
+    (store_of g.P.Keeper.table g.P.Keeper.faults g.P.Keeper.calls c.args.keeper.now)
+    (store_of g.P.Keeper.table g.P.Keeper.faults g.P.Keeper.calls c.at_quiet.new.keeper) door
+    (g.D.Doorway.tale c.next.new.self) host.pass c.at_quiet.result.pass host.waiting.items k c.in-Quiet.ensures.gives
+    turn.2)
 
 pub returns-in-Quiet-clause-tended : goal.returns-in-Quiet-clause-tended
 returns-in-Quiet-clause-tended g c =
@@ -34,17 +40,24 @@ returns-in-Quiet-clause-tended g c =
     let old : Store = store_of g.P.Keeper.table g.P.Keeper.faults g.P.Keeper.calls c.args.keeper.now in
     let new : Store = store_of g.P.Keeper.table g.P.Keeper.faults g.P.Keeper.calls c.at_quiet.new.keeper in
     let start : Stand = stand c.args.host.pass c.args.host.supply (g.D.Doorway.tale c.args.door.now) old in
-    let so_far = same_then start c.settle_ended.new.self.pass host.pass c.settle_ended.new.self.supply host.supply settled old (c.settle_ended.ensures.tended old) room.pass room.supply in
+    let so_far =
+    same_then start c.settle_ended.new.self.pass host.pass c.settle_ended.new.self.supply host.supply settled old
+    (c.settle_ended.ensures.tended old) room.pass room.supply in
     subst (λ (s : Supply). Tended start (stand c.at_quiet.result.pass s door new)) (sym turn.3)
-    (tended_then start (stand host.pass host.supply settled old) (stand c.at_quiet.result.pass (supply_then turn.1 host.supply) door new) so_far
-    (tended_turn turn.0 turn.1 host.pass c.at_quiet.result.pass host.supply settled door old new turn.2 (one_quiet g.D.Link.Link.tale settled door c.in-Quiet.ensures.gives) turn.4 c.at_quiet.ensures.counted))
+    (tended_then start (stand host.pass host.supply settled old)
+    (stand c.at_quiet.result.pass (supply_then turn.1 host.supply) door new) so_far
+    (tended_turn turn.0 turn.1 host.pass c.at_quiet.result.pass host.supply settled door old new turn.2
+    (one_quiet g.D.Link.Link.tale settled door c.in-Quiet.ensures.gives) turn.4 c.at_quiet.ensures.counted))
 
 pub returns-in-Link-clause-links : goal.returns-in-Link-clause-links
 returns-in-Link-clause-links g c =
     let start = g.D.Doorway.tale c.args.door.now in
     let settled = g.D.Doorway.tale c.settle_ended.new.door in
     let there = g.D.Doorway.tale c.next.new.self in
-    links_stay start there (g.D.Doorway.tale c.attend.new.door) (links_came g.D.Link.Link.tale (came.Link c.in-Link.link) start settled there c.settle_ended.ensures.left c.in-Link.ensures.gives) c.attend.ensures.left
+    links_stay start there (g.D.Doorway.tale c.attend.new.door)
+    (links_came g.D.Link.Link.tale (came.Link c.in-Link.link) start settled there c.settle_ended.ensures.left
+    c.in-Link.ensures.gives)
+    c.attend.ensures.left
 
 pub returns-in-Link-clause-tended : goal.returns-in-Link-clause-tended
 returns-in-Link-clause-tended g c =
@@ -54,9 +67,14 @@ returns-in-Link-clause-tended g c =
     let door = g.D.Doorway.tale c.next.new.self in
     let old : Store = store_of g.P.Keeper.table g.P.Keeper.faults g.P.Keeper.calls c.args.keeper.now in
     let start : Stand = stand c.args.host.pass c.args.host.supply (g.D.Doorway.tale c.args.door.now) old in
-    let so_far = same_then start c.settle_ended.new.self.pass host.pass c.settle_ended.new.self.supply host.supply settled old (c.settle_ended.ensures.tended old) room.pass room.supply in
-    tended_then start (stand host.pass host.supply door old) (stand c.attend.new.host.pass c.attend.new.host.supply (g.D.Doorway.tale c.attend.new.door) old)
-    (door_then g.D.Link.Link.tale (came.Link c.in-Link.link) start host.pass host.supply settled door old (λ none. none) so_far c.in-Link.ensures.gives) (c.attend.ensures.tended old)
+    let so_far =
+    same_then start c.settle_ended.new.self.pass host.pass c.settle_ended.new.self.supply host.supply settled old
+    (c.settle_ended.ensures.tended old) room.pass room.supply in
+    tended_then start (stand host.pass host.supply door old)
+    (stand c.attend.new.host.pass c.attend.new.host.supply (g.D.Doorway.tale c.attend.new.door) old)
+    (door_then g.D.Link.Link.tale (came.Link c.in-Link.link) start host.pass host.supply settled door old (λ none. none)
+    so_far c.in-Link.ensures.gives)
+    (c.attend.ensures.tended old)
 
 pub returns-in-Closed-clause-tended : goal.returns-in-Closed-clause-tended
 returns-in-Closed-clause-tended g c =
@@ -65,8 +83,11 @@ returns-in-Closed-clause-tended g c =
     let settled = g.D.Doorway.tale c.settle_ended.new.door in
     let old : Store = store_of g.P.Keeper.table g.P.Keeper.faults g.P.Keeper.calls c.args.keeper.now in
     let start : Stand = stand c.args.host.pass c.args.host.supply (g.D.Doorway.tale c.args.door.now) old in
-    let so_far = same_then start c.settle_ended.new.self.pass host.pass c.settle_ended.new.self.supply host.supply settled old (c.settle_ended.ensures.tended old) room.pass room.supply in
-    door_then g.D.Link.Link.tale came.Closed start host.pass host.supply settled (g.D.Doorway.tale c.next.new.self) old (λ none. none) so_far c.in-Closed.ensures.gives
+    let so_far =
+    same_then start c.settle_ended.new.self.pass host.pass c.settle_ended.new.self.supply host.supply settled old
+    (c.settle_ended.ensures.tended old) room.pass room.supply in
+    door_then g.D.Link.Link.tale came.Closed start host.pass host.supply settled (g.D.Doorway.tale c.next.new.self) old
+    (λ none. none) so_far c.in-Closed.ensures.gives
 
 pub returns-in-Failed-clause-tended : goal.returns-in-Failed-clause-tended
 returns-in-Failed-clause-tended g c =
@@ -75,20 +96,38 @@ returns-in-Failed-clause-tended g c =
     let settled = g.D.Doorway.tale c.settle_ended.new.door in
     let old : Store = store_of g.P.Keeper.table g.P.Keeper.faults g.P.Keeper.calls c.args.keeper.now in
     let start : Stand = stand c.args.host.pass c.args.host.supply (g.D.Doorway.tale c.args.door.now) old in
-    let so_far = same_then start c.settle_ended.new.self.pass host.pass c.settle_ended.new.self.supply host.supply settled old (c.settle_ended.ensures.tended old) room.pass room.supply in
-    door_then g.D.Link.Link.tale came.Failed start host.pass host.supply settled (g.D.Doorway.tale c.next.new.self) old (λ none. none) so_far c.in-Failed.ensures.gives
+    let so_far =
+    same_then start c.settle_ended.new.self.pass host.pass c.settle_ended.new.self.supply host.supply settled old
+    (c.settle_ended.ensures.tended old) room.pass room.supply in
+    door_then g.D.Link.Link.tale came.Failed start host.pass host.supply settled (g.D.Doorway.tale c.next.new.self) old
+    (λ none. none) so_far c.in-Failed.ensures.gives
 
 pub returns-in-Link-clause-ends : goal.returns-in-Link-clause-ends
 returns-in-Link-clause-ends g c =
-    stops_spent g.D.Link.Link.tale c.in-Link.link (g.D.Doorway.tale c.settle_ended.new.door) (g.D.Doorway.tale c.next.new.self) (g.D.Doorway.tale c.attend.new.door) _ _ _ c.spent.result c.in-Link.ensures.gives c.attend.ensures.left c.spent.ensures
+    stops_spent g.D.Link.Link.tale c.in-Link.link (g.D.Doorway.tale c.settle_ended.new.door)
+    (g.D.Doorway.tale c.next.new.self) (g.D.Doorway.tale c.attend.new.door) _ _ _ c.spent.result c.in-Link.ensures.gives
+    c.attend.ensures.left c.spent.ensures
 
 pub returns-in-Closed-clause-ends : goal.returns-in-Closed-clause-ends
-returns-in-Closed-clause-ends g c =
-    ((stops_closed g.D.Link.Link.tale (g.D.Doorway.tale c.settle_ended.new.door) (g.D.Doorway.tale c.next.new.self) c.in-Closed.ensures.gives, c.requires.few), λ bad. cc)
+returns-in-Closed-clause-ends g c = (
+  (
+    stops_closed g.D.Link.Link.tale (g.D.Doorway.tale c.settle_ended.new.door) (g.D.Doorway.tale c.next.new.self)
+        c.in-Closed.ensures.gives,
+    c.requires.few,
+  ),
+  λ bad. cc,
+)
 
 pub returns-in-Failed-clause-ends : goal.returns-in-Failed-clause-ends
-returns-in-Failed-clause-ends g c =
-    ((stops_failed g.D.Link.Link.tale (g.D.Doorway.tale c.settle_ended.new.door) (g.D.Doorway.tale c.next.new.self) c.in-Failed.ensures.gives, c.requires.few), λ is. subst (λ n. Rose n (g.D.Doorway.faults c.next.new.self)) c.settle_ended.ensures.faults c.in-Failed.ensures.cause)
+returns-in-Failed-clause-ends g c = (
+  (
+    stops_failed g.D.Link.Link.tale (g.D.Doorway.tale c.settle_ended.new.door) (g.D.Doorway.tale c.next.new.self)
+        c.in-Failed.ensures.gives,
+    c.requires.few,
+  ),
+  λ is.
+      subst (λ n. Rose n (g.D.Doorway.faults c.next.new.self)) c.settle_ended.ensures.faults c.in-Failed.ensures.cause,
+)
 
 pub returns-in-Closed-clause-kept : goal.returns-in-Closed-clause-kept
 returns-in-Closed-clause-kept g c =
@@ -96,9 +135,13 @@ returns-in-Closed-clause-kept g c =
     let room = c.room_ahead-ended.ensures in
     let settled = g.D.Doorway.tale c.settle_ended.new.door in
     let there = g.D.Doorway.tale c.next.new.self in
-    let k : Underway g.C.Clock.shows c.args.shared.now.hall.now c.args.shared.now.clock.now host.supply settled host.pass host.waiting.items = rw (room.supply, room.pass, room.waiting) c.settle_ended.ensures.kept in
-    kept_answered g.C.Clock.shows c.args.shared.now.hall.now c.args.shared.now.clock.now host.supply answered.Closed settled there host.pass host.waiting.items k
-    (where_as settled there (Gives g.D.Link.Link.tale came.Closed) (λ a b. b ≡ record a { last = answered.Closed }) (λ a b e. e.1) c.in-Closed.ensures.gives)
+    let k : Underway g.C.Clock.shows c.args.shared.now.hall.now c.args.shared.now.clock.now host.supply settled
+    host.pass host.waiting.items =
+    rw (room.supply, room.pass, room.waiting) c.settle_ended.ensures.kept in
+    kept_answered g.C.Clock.shows c.args.shared.now.hall.now c.args.shared.now.clock.now host.supply answered.Closed
+    settled there host.pass host.waiting.items k
+    (where_as settled there (Gives g.D.Link.Link.tale came.Closed) (λ a b. b ≡ record a { last = answered.Closed })
+    (λ a b e. e.1) c.in-Closed.ensures.gives)
 
 pub returns-in-Failed-clause-kept : goal.returns-in-Failed-clause-kept
 returns-in-Failed-clause-kept g c =
@@ -106,6 +149,9 @@ returns-in-Failed-clause-kept g c =
     let room = c.room_ahead-ended.ensures in
     let settled = g.D.Doorway.tale c.settle_ended.new.door in
     let there = g.D.Doorway.tale c.next.new.self in
-    let k : Underway g.C.Clock.shows c.args.shared.now.hall.now c.args.shared.now.clock.now host.supply settled host.pass host.waiting.items = rw (room.supply, room.pass, room.waiting) c.settle_ended.ensures.kept in
-    kept_answered g.C.Clock.shows c.args.shared.now.hall.now c.args.shared.now.clock.now host.supply answered.Failed settled there host.pass host.waiting.items k
+    let k : Underway g.C.Clock.shows c.args.shared.now.hall.now c.args.shared.now.clock.now host.supply settled
+    host.pass host.waiting.items =
+    rw (room.supply, room.pass, room.waiting) c.settle_ended.ensures.kept in
+    kept_answered g.C.Clock.shows c.args.shared.now.hall.now c.args.shared.now.clock.now host.supply answered.Failed
+    settled there host.pass host.waiting.items k
     (c.in-Failed.ensures.gives)

@@ -11,27 +11,37 @@ use Rattle.session_core.proofs.leaving.leave.Goals as goal
 pub loop-next-init : goal.loop-next-init
 loop-next-init g c =
     let old = g.R.Runner.state c.args.r.now in
-    let is : leaving_course c.args.memory.now ≡ leaving_of c.ask_going-next.result c.args.memory.now = sym (ap (λ (n : LeavingNext). leaving_of n c.args.memory.now) c.ask_going-next.ensures) in
+    let is : leaving_course c.args.memory.now ≡ leaving_of c.ask_going-next.result c.args.memory.now =
+    sym (ap (λ (n : LeavingNext). leaving_of n c.args.memory.now) c.ask_going-next.ensures) in
     record {
       ready = subst MayLeave (sym c.ask_going-next.ensures) (tt, tt);
       home = refl;
       gone = subst (λ (n : LeavingNext). HasGone n c.args.memory.now) (sym c.ask_going-next.ensures) tt;
-      went = subst (λ (x : Course). Went (leaving_course c.args.memory.now) x c.args.moment old [] old []) is (went_none c.args.moment (leaving_course c.args.memory.now) old [] c.session-session.ensures.known);
-      passed = subst (λ (x : Course). Passed (leaving_course c.args.memory.now) x c.args.moment old old) is (passed_none c.args.moment (leaving_course c.args.memory.now) old c.session-session.ensures.known);
+      went =
+          subst (λ (x : Course). Went (leaving_course c.args.memory.now) x c.args.moment old [] old []) is
+          (went_none c.args.moment (leaving_course c.args.memory.now) old [] c.session-session.ensures.known);
+      passed =
+          subst (λ (x : Course). Passed (leaving_course c.args.memory.now) x c.args.moment old old) is
+          (passed_none c.args.moment (leaving_course c.args.memory.now) old c.session-session.ensures.known);
     }
 
 pub returns-in-End-clause-left : goal.returns-in-End-clause-left
 returns-in-End-clause-left g c =
-    left c.args.moment c.loop-next.all (leaving_course c.args.memory.now) (leaving_of c.loop-next.next c.loop-next.memory) c.loop-next.memory
-    (g.R.Runner.state c.args.r.now) (g.R.Runner.state c.loop-next.r) c.loop-next.invariant.went (ap (λ (n : LeavingNext). leaving_of n c.loop-next.memory) c.in-End.is)
+    left c.args.moment c.loop-next.all (leaving_course c.args.memory.now)
+    (leaving_of c.loop-next.next c.loop-next.memory) c.loop-next.memory
+    (g.R.Runner.state c.args.r.now) (g.R.Runner.state c.loop-next.r) c.loop-next.invariant.went
+    (ap (λ (n : LeavingNext). leaving_of n c.loop-next.memory) c.in-End.is)
 
 pub returns-in-End-clause-part : goal.returns-in-End-clause-part
 returns-in-End-clause-part g c =
-    passed_end c.args.moment (leaving_course c.args.memory.now) (leaving_of c.loop-next.next c.loop-next.memory) c.loop-next.memory
-    (g.R.Runner.state c.args.r.now) (g.R.Runner.state c.loop-next.r) c.loop-next.invariant.passed (ap (λ (n : LeavingNext). leaving_of n c.loop-next.memory) c.in-End.is)
+    passed_end c.args.moment (leaving_course c.args.memory.now) (leaving_of c.loop-next.next c.loop-next.memory)
+    c.loop-next.memory
+    (g.R.Runner.state c.args.r.now) (g.R.Runner.state c.loop-next.r) c.loop-next.invariant.passed
+    (ap (λ (n : LeavingNext). leaving_of n c.loop-next.memory) c.in-End.is)
 
 pub returns-in-End-clause-gone : goal.returns-in-End-clause-gone
-returns-in-End-clause-gone g c = subst (λ (n : LeavingNext). HasGone n c.loop-next.memory) c.in-End.is c.loop-next.invariant.gone
+returns-in-End-clause-gone g c =
+    subst (λ (n : LeavingNext). HasGone n c.loop-next.memory) c.in-End.is c.loop-next.invariant.gone
 
 pub loop-next-preserved : goal.loop-next-preserved
 loop-next-preserved g c =
@@ -48,7 +58,10 @@ loop-next-preserved g c =
       home = c.ask_or_pass-done.ensures.home ∙ c.loop-next.invariant.home;
       gone = c.ask_or_pass-done.ensures.gone;
       went =
-          went_both c.args.moment c.loop-next.all c.ask_or_pass-done.result.0 c.and-all.result start here asks next old mid new c.and-all.ensures
+          went_both c.args.moment c.loop-next.all c.ask_or_pass-done.result.0 c.and-all.result start here asks next old
+          mid new c.and-all.ensures
           c.loop-next.invariant.went is c.ask_or_pass-done.ensures.went;
-      passed = passed_after c.args.moment start here asks next old mid new c.loop-next.invariant.passed is c.ask_or_pass-done.ensures.passed;
+      passed =
+          passed_after c.args.moment start here asks next old mid new c.loop-next.invariant.passed is
+          c.ask_or_pass-done.ensures.passed;
     }

@@ -11,5 +11,7 @@ pub returns-clause-settles : goal.returns-clause-settles
 returns-clause-settles c =
     let put = waiting_text c.args.reply.now in
     let out = c.args.out.now.items in
-    subst (λ (m : MemoryState). Settles (Writes put (rounding m)) (rounding c.note.new.self) out c.put_waiting.new.out.items) c.note.ensures.told
+    subst
+    (λ (m : MemoryState). Settles (Writes put (rounding m)) (rounding c.note.new.self) out c.put_waiting.new.out.items)
+    c.note.ensures.told
     (settles_rounding put out c.put_waiting.new.out.items c.note.new.self c.in_ok-put_waiting.ensures)

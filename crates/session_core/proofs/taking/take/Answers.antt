@@ -9,33 +9,55 @@ use Rattle.session_core.proofs.taking.take.Goals as goal
 
 pub returns-in_err-first-clause-so_far : goal.returns-in_err-first-clause-so_far
 returns-in_err-first-clause-so_far g c =
-    broke_begun c.args.moment (input_course c.args.input c.args.memory.now) (g.R.Runner.state c.args.r.now) c.args.memory.now c.begin.new.memory c.session-session.ensures.known
-    (remembers_none c.args.memory.now c.begin.new.memory c.begin.ensures.inside c.begin.ensures.places c.begin.ensures.looks)
+    broke_begun c.args.moment (input_course c.args.input c.args.memory.now) (g.R.Runner.state c.args.r.now)
+    c.args.memory.now c.begin.new.memory c.session-session.ensures.known
+    (remembers_none c.args.memory.now c.begin.new.memory c.begin.ensures.inside c.begin.ensures.places
+    c.begin.ensures.looks)
 
 pub returns-in-Leaving-clause-answered : goal.returns-in-Leaving-clause-answered
 returns-in-Leaving-clause-answered g c =
-    answered_leaving c.args.moment c.leave.result (input_course c.args.input c.args.memory.now) (leaving_course c.begin.new.memory) (g.R.Runner.state c.args.r.now) (g.R.Runner.state c.leave.new.r)
+    answered_leaving c.args.moment c.leave.result (input_course c.args.input c.args.memory.now)
+    (leaving_course c.begin.new.memory) (g.R.Runner.state c.args.r.now) (g.R.Runner.state c.leave.new.r)
     c.args.out.now.items c.begin.new.out.items c.leave.new.memory c.session-session.ensures.known
-    (subst (λ (f : First). Settles (input_course c.args.input c.args.memory.now) (first_course f c.begin.new.memory) c.args.out.now.items c.begin.new.out.items) c.in-Leaving.is c.in_ok-first.ensures.settles)
+    (subst (λ (f : First).
+    Settles (input_course c.args.input c.args.memory.now) (first_course f c.begin.new.memory) c.args.out.now.items
+    c.begin.new.out.items)
+    c.in-Leaving.is c.in_ok-first.ensures.settles)
     c.leave.ensures.left
 
 pub returns-in-Leaving-clause-so_far : goal.returns-in-Leaving-clause-so_far
 returns-in-Leaving-clause-so_far g c =
-    broke_leaving c.args.moment (input_course c.args.input c.args.memory.now) (g.R.Runner.state c.args.r.now) c.args.memory.now c.begin.new.memory c.args.out.now.items c.begin.new.out.items
+    broke_leaving c.args.moment (input_course c.args.input c.args.memory.now) (g.R.Runner.state c.args.r.now)
+    c.args.memory.now c.begin.new.memory c.args.out.now.items c.begin.new.out.items
     (g.R.Runner.state c.leave.new.r) c.leave.new.memory
-    (subst (λ (f : First). Settles (input_course c.args.input c.args.memory.now) (first_course f c.begin.new.memory) c.args.out.now.items c.begin.new.out.items) c.in-Leaving.is c.in_ok-first.ensures.settles)
+    (subst (λ (f : First).
+    Settles (input_course c.args.input c.args.memory.now) (first_course f c.begin.new.memory) c.args.out.now.items
+    c.begin.new.out.items)
+    c.in-Leaving.is c.in_ok-first.ensures.settles)
     c.leave.ensures.part c.leave.ensures.gone
 
 pub returns-in-Going-clause-answered : goal.returns-in-Going-clause-answered
 returns-in-Going-clause-answered g c =
-    answered_going c.args.moment c.follow.result (input_course c.args.input c.args.memory.now) (course_of c.in-Going.next c.begin.new.memory) (g.R.Runner.state c.args.r.now) (g.R.Runner.state c.follow.new.r)
-    c.args.out.now.items c.begin.new.out.items c.follow.new.out.items c.follow.new.memory c.session-session.ensures.known
-    (subst (λ (f : First). Settles (input_course c.args.input c.args.memory.now) (first_course f c.begin.new.memory) c.args.out.now.items c.begin.new.out.items) c.in-Going.is c.in_ok-first.ensures.settles)
+    answered_going c.args.moment c.follow.result (input_course c.args.input c.args.memory.now)
+    (course_of c.in-Going.next c.begin.new.memory) (g.R.Runner.state c.args.r.now) (g.R.Runner.state c.follow.new.r)
+    c.args.out.now.items c.begin.new.out.items c.follow.new.out.items c.follow.new.memory
+    c.session-session.ensures.known
+    (subst (λ (f : First).
+    Settles (input_course c.args.input c.args.memory.now) (first_course f c.begin.new.memory) c.args.out.now.items
+    c.begin.new.out.items)
+    c.in-Going.is c.in_ok-first.ensures.settles)
     c.follow.ensures.followed
 
 pub returns-in-Going-clause-so_far : goal.returns-in-Going-clause-so_far
 returns-in-Going-clause-so_far g c =
-    broke_going c.args.moment (input_course c.args.input c.args.memory.now) (course_of c.in-Going.next c.begin.new.memory) (g.R.Runner.state c.args.r.now) c.args.memory.now c.begin.new.memory
-    c.args.out.now.items c.begin.new.out.items (g.R.Runner.state c.follow.new.r) c.follow.new.memory c.session-session.ensures.known
-    (subst (λ (f : First). Settles (input_course c.args.input c.args.memory.now) (first_course f c.begin.new.memory) c.args.out.now.items c.begin.new.out.items) c.in-Going.is c.in_ok-first.ensures.settles)
-    (remembers_none c.args.memory.now c.begin.new.memory c.begin.ensures.inside c.begin.ensures.places c.begin.ensures.looks) c.follow.ensures.so_far
+    broke_going c.args.moment (input_course c.args.input c.args.memory.now)
+    (course_of c.in-Going.next c.begin.new.memory) (g.R.Runner.state c.args.r.now) c.args.memory.now c.begin.new.memory
+    c.args.out.now.items c.begin.new.out.items (g.R.Runner.state c.follow.new.r) c.follow.new.memory
+    c.session-session.ensures.known
+    (subst (λ (f : First).
+    Settles (input_course c.args.input c.args.memory.now) (first_course f c.begin.new.memory) c.args.out.now.items
+    c.begin.new.out.items)
+    c.in-Going.is c.in_ok-first.ensures.settles)
+    (remembers_none c.args.memory.now c.begin.new.memory c.begin.ensures.inside c.begin.ensures.places
+    c.begin.ensures.looks)
+    c.follow.ensures.so_far

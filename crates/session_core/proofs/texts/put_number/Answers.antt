@@ -11,7 +11,8 @@ where_written (Ok u) f p = f p
 where_written (Err e) f p = tt
 
 -- one behind the other is one text
-at_once : (out front number stop end : List ℕ) → ((out ++ front) ++ number) ++ (stop ++ end) ≡ out ++ (((front ++ number) ++ stop) ++ end)
+at_once : (out front number stop end : List ℕ)
+    → ((out ++ front) ++ number) ++ (stop ++ end) ≡ out ++ (((front ++ number) ++ stop) ++ end)
 at_once out front number stop end =
     ap (λ (x : List ℕ). x ++ (stop ++ end)) (append_assoc out front number)
     ∙ append_assoc out (front ++ number) (stop ++ end)
@@ -21,5 +22,10 @@ pub returns : goal.returns
 returns c =
     let out : List ℕ = c.args.out.now.items in
     where_written c.put_count.result
-    (λ e. e ∙ ap (λ n. ((out ++ codes "Your seek is ") ++ decimal n) ++ codes ".\n\r") c.from.ensures ∙ at_once out (codes "Your seek is ") (decimal c.args.number) (codes ".") line_end)
+    (λ e.
+    e
+    ∙ ap
+    (λ n.
+    ((out ++ codes "Your seek is ") ++ decimal n) ++ codes ".\n\r") c.from.ensures
+    ∙ at_once out (codes "Your seek is ") (decimal c.args.number) (codes ".") line_end)
     c.put_count.ensures

@@ -11,20 +11,25 @@ pub returns-clause-went : goal.returns-clause-went
 returns-clause-went g c = λ rest.
     let old = g.R.Runner.state c.args.r.now in
     let new = g.R.Runner.state c.run.new.self in
-    on_news c.args.visit.now c.args.memory.now rest c.args.moment c.tell_news.result c.run.new.reply old c.args.out.now.items
+    on_news c.args.visit.now c.args.memory.now rest c.args.moment c.tell_news.result c.run.new.reply old
+    c.args.out.now.items
     new c.tell_news.new.memory c.tell_news.new.out.items
-    (subst (λ (a : Act). Ran old (timed c.args.moment a) c.run.new.reply new) c.fetch_at-act.ensures c.in_ok-run.ensures.ran)
+    (subst (λ (a : Act). Ran old (timed c.args.moment a) c.run.new.reply new) c.fetch_at-act.ensures
+    c.in_ok-run.ensures.ran)
     c.tell_news.ensures.over c.tell_news.ensures.text c.tell_news.ensures.after c.requires.inside
 
 pub returns-clause-broke : goal.returns-clause-broke
 returns-clause-broke g c = λ rest.
     let old = g.R.Runner.state c.args.r.now in
     let new = g.R.Runner.state c.run.new.self in
-    broke_news c.args.visit.now c.args.memory.now rest c.args.moment c.tell_news.result c.run.new.reply old new c.tell_news.new.memory
-    (subst (λ (a : Act). Ran old (timed c.args.moment a) c.run.new.reply new) c.fetch_at-act.ensures c.in_ok-run.ensures.ran)
+    broke_news c.args.visit.now c.args.memory.now rest c.args.moment c.tell_news.result c.run.new.reply old new
+    c.tell_news.new.memory
+    (subst (λ (a : Act). Ran old (timed c.args.moment a) c.run.new.reply new) c.fetch_at-act.ensures
+    c.in_ok-run.ensures.ran)
     c.tell_news.ensures.after c.requires.inside
 
 pub returns-in_err-run-clause-broke : goal.returns-in_err-run-clause-broke
 returns-in_err-run-clause-broke g c = λ rest.
-    broke_unasked c.args.moment c.from_residual.result (visits (c.args.visit.now ∷ rest) c.args.memory.now) (g.R.Runner.state c.args.r.now) c.args.memory.now
+    broke_unasked c.args.moment c.from_residual.result (visits (c.args.visit.now ∷ rest) c.args.memory.now)
+    (g.R.Runner.state c.args.r.now) c.args.memory.now
     (g.R.Runner.state c.run.new.self) c.in_err-run.ensures.ran

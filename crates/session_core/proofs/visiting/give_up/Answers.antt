@@ -9,7 +9,8 @@ use Rattle.session_core.proofs.visiting.give_up.Goals as goal
 
 pub returns-in_err-_cleared-clause-broke : goal.returns-in_err-_cleared-clause-broke
 returns-in_err-_cleared-clause-broke g c = λ rest memory.
-    broke_unasked c.args.moment c.from_residual.result (given_up c.args.visit.now true rest) (g.R.Runner.state c.args.r.now) memory (g.R.Runner.state c.answered.new.r)
+    broke_unasked c.args.moment c.from_residual.result (given_up c.args.visit.now true rest)
+    (g.R.Runner.state c.args.r.now) memory (g.R.Runner.state c.answered.new.r)
     c.in_err-_cleared.ensures.ran
 
 pub returns-clause-went : goal.returns-clause-went

@@ -13,7 +13,10 @@ loop-visit-init g c =
     record {
       home = refl;
       inside = c.requires.inside;
-      went = subst (λ (games : List Visit). WentOn (rounding memory) (visits games memory) c.args.moment old memory out old memory out) (sym c.visits-rest.ensures.visits)
+      went =
+          subst (λ (games : List Visit).
+          WentOn (rounding memory) (visits games memory) c.args.moment old memory out old memory out)
+          (sym c.visits-rest.ensures.visits)
           (on_none c.args.moment (rounding memory) old memory out c.session-session.ensures.known);
     }
 
@@ -24,25 +27,34 @@ loop-visit-preserved g c = record {
   went =
       on_after c.args.moment (rounding c.args.memory.now) (visits c.loop-visit.rest c.loop-visit.memory)
       (visits (c.in-Some.visit ∷ c.pop.new.self) c.loop-visit.memory) (visits c.pop.new.self c.visit_game.new.memory)
-      (g.R.Runner.state c.args.r.now) c.args.memory.now c.args.out.now.items (g.R.Runner.state c.loop-visit.r) c.loop-visit.memory c.loop-visit.out.items
+      (g.R.Runner.state c.args.r.now) c.args.memory.now c.args.out.now.items (g.R.Runner.state c.loop-visit.r)
+      c.loop-visit.memory c.loop-visit.out.items
       (g.R.Runner.state c.visit_game.new.r) c.visit_game.new.memory c.visit_game.new.out.items
-      c.loop-visit.invariant.went (ap (λ (games : List Visit). visits games c.loop-visit.memory) c.in-Some.ensures.first) (c.in_ok-visit_game.ensures.went c.pop.new.self);
+      c.loop-visit.invariant.went
+      (ap (λ (games : List Visit). visits games c.loop-visit.memory) c.in-Some.ensures.first)
+      (c.in_ok-visit_game.ensures.went c.pop.new.self);
 }
 
 pub returns-in_err-visit_game-clause-so_far : goal.returns-in_err-visit_game-clause-so_far
 returns-in_err-visit_game-clause-so_far g c =
-    broke_after c.args.moment (rounding c.args.memory.now) (visits c.loop-visit.rest c.loop-visit.memory) (visits (c.in-Some.visit ∷ c.pop.new.self) c.loop-visit.memory)
-    (g.R.Runner.state c.args.r.now) c.args.memory.now c.args.out.now.items (g.R.Runner.state c.loop-visit.r) c.loop-visit.memory c.loop-visit.out.items
+    broke_after c.args.moment (rounding c.args.memory.now) (visits c.loop-visit.rest c.loop-visit.memory)
+    (visits (c.in-Some.visit ∷ c.pop.new.self) c.loop-visit.memory)
+    (g.R.Runner.state c.args.r.now) c.args.memory.now c.args.out.now.items (g.R.Runner.state c.loop-visit.r)
+    c.loop-visit.memory c.loop-visit.out.items
     (g.R.Runner.state c.visit_game.new.r) c.visit_game.new.memory
-    c.loop-visit.invariant.went (ap (λ (games : List Visit). visits games c.loop-visit.memory) c.in-Some.ensures.first) (c.in_err-visit_game.ensures.broke c.pop.new.self)
+    c.loop-visit.invariant.went (ap (λ (games : List Visit). visits games c.loop-visit.memory) c.in-Some.ensures.first)
+    (c.in_err-visit_game.ensures.broke c.pop.new.self)
 
 pub returns-clause-followed : goal.returns-clause-followed
 returns-clause-followed g c =
-    followed c.args.moment (rounding c.args.memory.now) (visits c.loop-visit.rest c.loop-visit.memory) c.loop-visit.memory
-    (g.R.Runner.state c.args.r.now) (g.R.Runner.state c.loop-visit.r) c.args.out.now.items c.loop-visit.out.items c.loop-visit.invariant.went.went
+    followed c.args.moment (rounding c.args.memory.now) (visits c.loop-visit.rest c.loop-visit.memory)
+    c.loop-visit.memory
+    (g.R.Runner.state c.args.r.now) (g.R.Runner.state c.loop-visit.r) c.args.out.now.items c.loop-visit.out.items
+    c.loop-visit.invariant.went.went
     (ap (λ (games : List Visit). visits games c.loop-visit.memory) c.in_default.ensures.first)
 
 pub returns-clause-so_far : goal.returns-clause-so_far
 returns-clause-so_far g c =
     broke_there c.args.moment (rounding c.args.memory.now) (visits c.loop-visit.rest c.loop-visit.memory)
-    (g.R.Runner.state c.args.r.now) c.args.memory.now c.args.out.now.items (g.R.Runner.state c.loop-visit.r) c.loop-visit.memory c.loop-visit.out.items c.loop-visit.invariant.went
+    (g.R.Runner.state c.args.r.now) c.args.memory.now c.args.out.now.items (g.R.Runner.state c.loop-visit.r)
+    c.loop-visit.memory c.loop-visit.out.items c.loop-visit.invariant.went

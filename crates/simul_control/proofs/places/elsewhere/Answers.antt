@@ -10,6 +10,13 @@ loop-at-preserved c =
     let inside = subst (λ n. c.loop-at.at < n) c.len-at-end.ensures.count c.loop-at-test.true in
     let read = c.place-place.ensures.place nowhere in
     elim c.if-place-desk.branch [
-      | then-place-desk w ↦ w.kept-is ∙ filter_one_more c.args.places.now.giving c.args.desk c.args.places.now.rows c.loop-at.at nowhere c.place-place.result c.loop-at.kept w.add-room.new.self c.len-at-end.ensures.most inside read w.if-place-desk.true c.loop-at.invariant w.add-room.ensures.after
-      | else-place-desk w ↦ w.kept-is ∙ filter_one_less c.args.places.now.giving c.args.desk c.args.places.now.rows c.loop-at.at nowhere c.place-place.result c.loop-at.kept inside read w.if-place-desk.false c.loop-at.invariant
+      | then-place-desk w ↦
+          w.kept-is
+          ∙ filter_one_more c.args.places.now.giving c.args.desk c.args.places.now.rows c.loop-at.at nowhere
+          c.place-place.result c.loop-at.kept w.add-room.new.self c.len-at-end.ensures.most inside read
+          w.if-place-desk.true c.loop-at.invariant w.add-room.ensures.after
+      | else-place-desk w ↦
+          w.kept-is
+          ∙ filter_one_less c.args.places.now.giving c.args.desk c.args.places.now.rows c.loop-at.at nowhere
+          c.place-place.result c.loop-at.kept inside read w.if-place-desk.false c.loop-at.invariant
     ]

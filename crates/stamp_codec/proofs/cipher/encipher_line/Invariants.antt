@@ -4,4 +4,5 @@ use Rattle.stamp_codec.proofs.cipher.encipher_line.Given as goal
 
 -- the bytes so far are changed, and those behind them are as they were
 abbrev pub invariant-loop-place : goal.invariant-loop-place
-invariant-loop-place l = take l.place l.bytes ++ by_place cipher l.place (drop l.place l.bytes) ≡ by_place cipher 0 l.fn.bytes
+invariant-loop-place l =
+    take l.place l.bytes ++ by_place cipher l.place (drop l.place l.bytes) ≡ by_place cipher 0 l.fn.bytes

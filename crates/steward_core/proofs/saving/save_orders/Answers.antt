@@ -12,7 +12,9 @@ loop-answer-init g c = record {
   home = refl;
   known = c.session-session.ensures.known;
   count = refl;
-  saved = none_saved c.args.moment (store_of g.P.Keeper.table g.P.Keeper.faults g.P.Keeper.calls c.args.keeper.now) (g.R.Runner.state c.args.runner.now) c.session-session.ensures.known;
+  saved =
+      none_saved c.args.moment (store_of g.P.Keeper.table g.P.Keeper.faults g.P.Keeper.calls c.args.keeper.now)
+      (g.R.Runner.state c.args.runner.now) c.session-session.ensures.known;
   agreed = agreed_still (g.P.Keeper.table c.args.keeper.now) (g.R.Runner.state c.args.runner.now);
   counted = omega arith;
 }
@@ -26,7 +28,8 @@ loop-answer-preserved g c =
     let s1 = g.R.Runner.state c.loop-answer.runner in
     let s2 = g.R.Runner.state c.save_round.new.runner in
     let i = c.loop-answer.answer in
-    let round = subst (λ (r : SaveRound). RunsRound c.args.moment r t1 t2 s1 s2) c.in-Full.is c.save_round.ensures.round in
+    let round =
+    subst (λ (r : SaveRound). RunsRound c.args.moment r t1 t2 s1 s2) c.in-Full.is c.save_round.ensures.round in
     let counted = c.loop-answer.invariant.counted in
     let more = c.save_round.ensures.counted in
     let count = c.loop-answer.invariant.count in
@@ -34,8 +37,12 @@ loop-answer-preserved g c =
       home = c.save_round.ensures.home ∙ c.loop-answer.invariant.home;
       known = round.grew.known;
       count = omega (arith, count);
-      saved = subst (λ n. HasSaved c.args.moment n t0 t2 s0 s2) (sym (add-one i)) (saved_next c.args.moment i t0 t1 t2 s0 s1 s2 c.loop-answer.invariant.saved round);
-      agreed = agreed_then t0.table t1.table t2.table s0 s1 s2 c.loop-answer.invariant.saved.entries round.entries c.loop-answer.invariant.saved.grew round.grew c.loop-answer.invariant.agreed c.save_round.ensures.agrees;
+      saved =
+          subst (λ n. HasSaved c.args.moment n t0 t2 s0 s2) (sym (add-one i))
+          (saved_next c.args.moment i t0 t1 t2 s0 s1 s2 c.loop-answer.invariant.saved round);
+      agreed =
+          agreed_then t0.table t1.table t2.table s0 s1 s2 c.loop-answer.invariant.saved.entries round.entries
+          c.loop-answer.invariant.saved.grew round.grew c.loop-answer.invariant.agreed c.save_round.ensures.agrees;
       counted = omega (arith, counted, more);
     }
 
@@ -89,22 +96,28 @@ pub returns-in-Last-clause-agrees : goal.returns-in-Last-clause-agrees
 returns-in-Last-clause-agrees g c =
     let round = c.save_round.ensures.round in
     let so_far = c.loop-answer.invariant.saved in
-    agreed_then (g.P.Keeper.table c.args.keeper.now) (g.P.Keeper.table c.loop-answer.keeper) (g.P.Keeper.table c.save_round.new.keeper)
-    (g.R.Runner.state c.args.runner.now) (g.R.Runner.state c.loop-answer.runner) (g.R.Runner.state c.save_round.new.runner)
+    agreed_then (g.P.Keeper.table c.args.keeper.now) (g.P.Keeper.table c.loop-answer.keeper)
+    (g.P.Keeper.table c.save_round.new.keeper)
+    (g.R.Runner.state c.args.runner.now) (g.R.Runner.state c.loop-answer.runner)
+    (g.R.Runner.state c.save_round.new.runner)
     so_far.entries round.entries so_far.grew round.grew c.loop-answer.invariant.agreed c.save_round.ensures.agrees
 
 pub returns-in-KeeperFault-clause-agrees : goal.returns-in-KeeperFault-clause-agrees
 returns-in-KeeperFault-clause-agrees g c =
     let round = c.save_round.ensures.round in
     let so_far = c.loop-answer.invariant.saved in
-    agreed_then (g.P.Keeper.table c.args.keeper.now) (g.P.Keeper.table c.loop-answer.keeper) (g.P.Keeper.table c.save_round.new.keeper)
-    (g.R.Runner.state c.args.runner.now) (g.R.Runner.state c.loop-answer.runner) (g.R.Runner.state c.save_round.new.runner)
+    agreed_then (g.P.Keeper.table c.args.keeper.now) (g.P.Keeper.table c.loop-answer.keeper)
+    (g.P.Keeper.table c.save_round.new.keeper)
+    (g.R.Runner.state c.args.runner.now) (g.R.Runner.state c.loop-answer.runner)
+    (g.R.Runner.state c.save_round.new.runner)
     so_far.entries round.entries so_far.grew round.grew c.loop-answer.invariant.agreed c.save_round.ensures.agrees
 
 pub returns-in-Memory-clause-agrees : goal.returns-in-Memory-clause-agrees
 returns-in-Memory-clause-agrees g c =
     let round = c.save_round.ensures.round in
     let so_far = c.loop-answer.invariant.saved in
-    agreed_then (g.P.Keeper.table c.args.keeper.now) (g.P.Keeper.table c.loop-answer.keeper) (g.P.Keeper.table c.save_round.new.keeper)
-    (g.R.Runner.state c.args.runner.now) (g.R.Runner.state c.loop-answer.runner) (g.R.Runner.state c.save_round.new.runner)
+    agreed_then (g.P.Keeper.table c.args.keeper.now) (g.P.Keeper.table c.loop-answer.keeper)
+    (g.P.Keeper.table c.save_round.new.keeper)
+    (g.R.Runner.state c.args.runner.now) (g.R.Runner.state c.loop-answer.runner)
+    (g.R.Runner.state c.save_round.new.runner)
     so_far.entries round.entries so_far.grew round.grew c.loop-answer.invariant.agreed c.save_round.ensures.agrees

@@ -10,7 +10,10 @@ invariant-loop-answer g l = record {
   home : g.R.Runner.home l.runner ≡ g.R.Runner.home l.fn.runner;
   known : IsKnown (g.R.Runner.state l.runner);
   count : l.count ≡ l.answer * 16;
-  saved : HasSaved l.moment l.answer (store_of g.P.Keeper.table g.P.Keeper.faults g.P.Keeper.calls l.fn.keeper) (store_of g.P.Keeper.table g.P.Keeper.faults g.P.Keeper.calls l.keeper) (g.R.Runner.state l.fn.runner) (g.R.Runner.state l.runner);
-  agreed : StaysAgreed (g.P.Keeper.table l.fn.keeper) (g.P.Keeper.table l.keeper) (g.R.Runner.state l.fn.runner) (g.R.Runner.state l.runner);
+  saved : HasSaved l.moment l.answer (store_of g.P.Keeper.table g.P.Keeper.faults g.P.Keeper.calls l.fn.keeper)
+      (store_of g.P.Keeper.table g.P.Keeper.faults g.P.Keeper.calls l.keeper) (g.R.Runner.state l.fn.runner)
+      (g.R.Runner.state l.runner);
+  agreed : StaysAgreed (g.P.Keeper.table l.fn.keeper) (g.P.Keeper.table l.keeper) (g.R.Runner.state l.fn.runner)
+      (g.R.Runner.state l.runner);
   counted : g.P.Keeper.faults l.fn.keeper ≤ g.P.Keeper.faults l.keeper;
 }

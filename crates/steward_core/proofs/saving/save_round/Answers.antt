@@ -10,16 +10,24 @@ use Rattle.steward_core.proofs.saving.save_round.Goals as goal
 
 pub save_told-requires-clause-few : goal.save_told-requires-clause-few
 save_told-requires-clause-few g c =
-    let told = told_first c.args.moment c.in-Ok.reply (g.R.Runner.state c.args.runner.now) (g.R.Runner.state c.answered.new.r) c.in-Ok.ensures.ran in
+    let told =
+    told_first c.args.moment c.in-Ok.reply (g.R.Runner.state c.args.runner.now) (g.R.Runner.state c.answered.new.r)
+    c.in-Ok.ensures.ran in
     subst (λ (orders : List Order). length orders ≤ 16) (sym (c.as_slice.ensures ∙ c.orders_in-orders.ensures)) told.few
 
 pub returns-clause-round : goal.returns-clause-round
 returns-clause-round g c =
-    let told = told_first c.args.moment c.in-Ok.reply (g.R.Runner.state c.args.runner.now) (g.R.Runner.state c.answered.new.r) c.in-Ok.ensures.ran in
+    let told =
+    told_first c.args.moment c.in-Ok.reply (g.R.Runner.state c.args.runner.now) (g.R.Runner.state c.answered.new.r)
+    c.in-Ok.ensures.ran in
     let same = sym (c.as_slice.ensures ∙ c.orders_in-orders.ensures) in
-    round_run c.args.moment c.as_slice.result.now (store_of g.P.Keeper.table g.P.Keeper.faults g.P.Keeper.calls c.args.keeper.now) (store_of g.P.Keeper.table g.P.Keeper.faults g.P.Keeper.calls c.save_told.new.keeper) c.in-Ok.reply
-    (g.R.Runner.state c.args.runner.now) (g.R.Runner.state c.answered.new.r) (g.R.Runner.state c.save_told.new.runner) c.in-Ok.ensures.ran.grew.known c.in-Ok.ensures.ran
-    same (subst (λ (orders : List Order). length orders ≤ 16) same told.few) c.save_told.result c.save_told.ensures.saves
+    round_run c.args.moment c.as_slice.result.now
+    (store_of g.P.Keeper.table g.P.Keeper.faults g.P.Keeper.calls c.args.keeper.now)
+    (store_of g.P.Keeper.table g.P.Keeper.faults g.P.Keeper.calls c.save_told.new.keeper) c.in-Ok.reply
+    (g.R.Runner.state c.args.runner.now) (g.R.Runner.state c.answered.new.r) (g.R.Runner.state c.save_told.new.runner)
+    c.in-Ok.ensures.ran.grew.known c.in-Ok.ensures.ran
+    same (subst (λ (orders : List Order). length orders ≤ 16) same told.few) c.save_told.result
+    c.save_told.ensures.saves
 
 pub returns-clause-agrees : goal.returns-clause-agrees
 returns-clause-agrees g c =
@@ -35,13 +43,17 @@ returns-clause-agrees g c =
     let said = said_made c.args.moment (last_number saves.carried) saves.said mid new ran.grew.known saves.tells in
     agreed_then table table (g.P.Keeper.table c.save_told.new.keeper) old mid new _ said.0 ran.grew said.1
     (agreed_unsaved table old mid _ c.requires.known ran.grew (λ bad. bad, tt))
-    (told_agrees c.args.moment c.save_told.result orders (store_of g.P.Keeper.table g.P.Keeper.faults g.P.Keeper.calls c.args.keeper.now) (store_of g.P.Keeper.table g.P.Keeper.faults g.P.Keeper.calls c.save_told.new.keeper) mid new ran.grew.known saves
+    (told_agrees c.args.moment c.save_told.result orders
+    (store_of g.P.Keeper.table g.P.Keeper.faults g.P.Keeper.calls c.args.keeper.now)
+    (store_of g.P.Keeper.table g.P.Keeper.faults g.P.Keeper.calls c.save_told.new.keeper) mid new ran.grew.known saves
     (subst (λ (l : List Order). StandFirst l (state_seen mid)) same told))
 
 pub returns-in-Err-clause-agrees : goal.returns-in-Err-clause-agrees
 returns-in-Err-clause-agrees g c =
-    agreed_unsaved (g.P.Keeper.table c.args.keeper.now) (g.R.Runner.state c.args.runner.now) (g.R.Runner.state c.answered.new.r) _ c.requires.known c.in-Err.ensures.ran tt
+    agreed_unsaved (g.P.Keeper.table c.args.keeper.now) (g.R.Runner.state c.args.runner.now)
+    (g.R.Runner.state c.answered.new.r) _ c.requires.known c.in-Err.ensures.ran tt
 
 pub returns-in-Err-clause-round : goal.returns-in-Err-clause-round
 returns-in-Err-clause-round g c =
-    round_unasked c.args.moment (store_of g.P.Keeper.table g.P.Keeper.faults g.P.Keeper.calls c.args.keeper.now) (g.R.Runner.state c.args.runner.now) (g.R.Runner.state c.answered.new.r) c.in-Err.ensures.ran
+    round_unasked c.args.moment (store_of g.P.Keeper.table g.P.Keeper.faults g.P.Keeper.calls c.args.keeper.now)
+    (g.R.Runner.state c.args.runner.now) (g.R.Runner.state c.answered.new.r) c.in-Err.ensures.ran

@@ -11,6 +11,10 @@ returns-clause-told g c =
     let new = g.R.Runner.state c.answered.new.r in
     let last = says_last orders c.in-Some.last.now (sym c.last.ensures.value ∙ ap option_copied c.in-Some.is) in
     elim c.match-answered.branch [
-      | in-Ok w ↦ tells_done c.args.moment orders c.in-Some.last.now.number c.match-answered.result _ old new last w.result-is w.in-Ok.ensures.ran
-      | in-Err w ↦ tells_short c.args.moment orders c.in-Some.last.now.number c.match-answered.result old new last w.result-is w.in-Err.ensures.ran
+      | in-Ok w ↦
+          tells_done c.args.moment orders c.in-Some.last.now.number c.match-answered.result _ old new last w.result-is
+          w.in-Ok.ensures.ran
+      | in-Err w ↦
+          tells_short c.args.moment orders c.in-Some.last.now.number c.match-answered.result old new last w.result-is
+          w.in-Err.ensures.ran
     ]

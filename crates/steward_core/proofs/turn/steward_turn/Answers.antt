@@ -9,5 +9,7 @@ returns-clause-turn g c =
     let old = g.R.Runner.state c.args.runner.now in
     let new = g.R.Runner.state c.turn_by_halves-cleared.new.runner in
     let before : Store = store_of g.P.Keeper.table g.P.Keeper.faults g.P.Keeper.calls c.args.keeper.now in
-    let after : Store = store_of g.P.Keeper.table g.P.Keeper.faults g.P.Keeper.calls c.turn_by_halves-cleared.new.keeper in
-    subst (λ (e : StewardEnd). TakesTurn c.args.moment e before after old new) (sym c.end_of_turn.ensures) c.turn_by_halves-cleared.ensures.turn.0
+    let after : Store =
+    store_of g.P.Keeper.table g.P.Keeper.faults g.P.Keeper.calls c.turn_by_halves-cleared.new.keeper in
+    subst (λ (e : StewardEnd). TakesTurn c.args.moment e before after old new) (sym c.end_of_turn.ensures)
+    c.turn_by_halves-cleared.ensures.turn.0

@@ -10,7 +10,9 @@ returns-clause-turn g c =
       record {
         entries = one.entries ++ two.entries;
         carried = two.carried;
-        grew = made_then (g.R.Runner.state c.args.runner.now) (g.R.Runner.state c.clearing_turn-cleared.new.runner) (g.R.Runner.state c.save_orders-saved.new.runner) one.entries two.entries one.grew two.grew;
+        grew =
+            made_then (g.R.Runner.state c.args.runner.now) (g.R.Runner.state c.clearing_turn-cleared.new.runner)
+            (g.R.Runner.state c.save_orders-saved.new.runner) one.entries two.entries one.grew two.grew;
         turn = record {
           cleared = c.clearing_turn-cleared.result;
           saved = c.save_orders-saved.result;
@@ -35,6 +37,8 @@ returns-clause-agrees g c =
     let table = g.P.Keeper.table c.args.keeper.now in
     let one = c.clearing_turn-cleared.ensures.cleared in
     let two = c.save_orders-saved.ensures.saving in
-    agreed_then table table (g.P.Keeper.table c.save_orders-saved.new.keeper) old mid new one.entries two.entries one.grew two.grew
-    (agreed_unsaved table old mid one.entries c.session-session.ensures.known one.grew (clearing_unsaved c.args.moment c.clearing_turn-cleared.result one.entries one.cleared))
+    agreed_then table table (g.P.Keeper.table c.save_orders-saved.new.keeper) old mid new one.entries two.entries
+    one.grew two.grew
+    (agreed_unsaved table old mid one.entries c.session-session.ensures.known one.grew
+    (clearing_unsaved c.args.moment c.clearing_turn-cleared.result one.entries one.cleared))
     c.save_orders-saved.ensures.agrees

@@ -10,4 +10,5 @@ returns-clause-text c =
     let squares = slice_range c.args.men.now (8 * c.args.rank) (8 * c.args.rank + 8) in
     let written : c.loop-square.line ≡ c.args.line.now ++ map square_letter squares = grind (arith, common_steps) in
     let whole : length c.args.men.now ≡ 64 = omega arith in
-    written ∙ ap (λ letters. c.args.line.now ++ letters) (letters-slice_range c.args.men.now c.args.rank c.requires.rank whole)
+    written
+    ∙ ap (λ letters. c.args.line.now ++ letters) (letters-slice_range c.args.men.now c.args.rank c.requires.rank whole)

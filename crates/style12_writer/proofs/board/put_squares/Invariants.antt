@@ -4,4 +4,5 @@ use Rattle.style12_writer.proofs.board.put_squares.Given as goal
 
 abbrev pub invariant-loop-square : goal.invariant-loop-square
 invariant-loop-square l =
-    (l.line ≡ l.initial.line ++ map square_letter (take l.square-index l.squares)) × (length l.line ≡ length l.initial.line + l.square-index)
+    (l.line ≡ l.initial.line ++ map square_letter (take l.square-index l.squares))
+    × (length l.line ≡ length l.initial.line + l.square-index)

@@ -7,6 +7,8 @@ use Rattle.test_session.proofs.opponent.take.Goals as goal
 pub returns : goal.returns
 returns c =
     let b : Beside c.args.server.now c.take.new.r.server.now =
-    beside_taken c.take.result (input_course c.args.input c.args.session.now) (answer_text c.args.input c.args.session.now c.take.new.self) _ _ _ c.args.server.now _ _ c.args.session.now c.take.new.self
+    beside_taken c.take.result (input_course c.args.input c.args.session.now)
+    (answer_text c.args.input c.args.session.now c.take.new.self) _ _ _ c.args.server.now _ _ c.args.session.now
+    c.take.new.self
     c.seat.ensures.session c.seat.ensures.value c.take.ensures.answered c.take.ensures.broke in
     search (b, rules)

@@ -4,10 +4,12 @@ use Rattle.tourney_desk.proofs.Paired.{paired_less, paired_more, unpaired_black,
 use Rattle.tourney_desk.proofs.pairing.is_paired.Goals as goal
 
 pub returns-then-white-players : goal.returns-then-white-players
-returns-then-white-players c = sym (unpaired_white c.args.players c.args.white c.args.black c.requires c.if-white-players.true)
+returns-then-white-players c =
+    sym (unpaired_white c.args.players c.args.white c.args.black c.requires c.if-white-players.true)
 
 pub returns-then-black-players : goal.returns-then-black-players
-returns-then-black-players c = sym (unpaired_black c.args.players c.args.white c.args.black c.requires c.if-black-players.true)
+returns-then-black-players c =
+    sym (unpaired_black c.args.players c.args.white c.args.black c.requires c.if-black-players.true)
 
 pub returns-then-white-black : goal.returns-then-white-black
 returns-then-white-black c =
@@ -22,4 +24,5 @@ returns-then-black-white c =
 pub returns : goal.returns
 returns c =
     let same : c.args.white ≡ c.args.black = omega (arith, c.if-white-black.false, c.if-black-white.false) in
-    sym (ap (λ b. is_paired c.args.players c.args.white b) (sym same) ∙ unpaired_same c.args.players c.args.white c.requires)
+    sym (ap (λ b. is_paired c.args.players c.args.white b) (sym same)
+    ∙ unpaired_same c.args.players c.args.white c.requires)

@@ -15,7 +15,8 @@ loop-player-preserved c =
 pub returns-clause-pairs : goal.returns-clause-pairs
 returns-clause-pairs c =
     let e : c.loop-player.player ≡ c.args.players = omega arith in
-    c.loop-player.invariant ∙ ap (λ k. flat_map (pairs_of c.args.players c.args.round) (range_with_len 0 k)) e ∙ pairs_in-is c.args.players c.args.round
+    c.loop-player.invariant ∙ ap (λ k. flat_map (pairs_of c.args.players c.args.round) (range_with_len 0 k)) e
+    ∙ pairs_in-is c.args.players c.args.round
 
 pub returns-clause-fair : goal.returns-clause-fair
 returns-clause-fair c = round_fair c.args.players c.args.round
@@ -23,5 +24,7 @@ returns-clause-fair c = round_fair c.args.players c.args.round
 pub returns-clause-joined : goal.returns-clause-joined
 returns-clause-joined c =
     let e : c.loop-player.player ≡ c.args.players = omega arith in
-    let is = c.loop-player.invariant ∙ ap (λ k. flat_map (pairs_of c.args.players c.args.round) (range_with_len 0 k)) e ∙ pairs_in-is c.args.players c.args.round in
+    let is =
+    c.loop-player.invariant ∙ ap (λ k. flat_map (pairs_of c.args.players c.args.round) (range_with_len 0 k)) e
+    ∙ pairs_in-is c.args.players c.args.round in
     subst (All (IsOfPlayers c.args.players)) (sym is) (pairs_joined c.args.players c.args.round)

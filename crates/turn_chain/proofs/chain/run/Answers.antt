@@ -11,7 +11,9 @@ returns-in_default-clause-ok g c =
     let v = c.args.pass.now.view in
     let a = c.args.act.now in
     let core = g.S.Served.core in
-    let once = since_trans v u w (since_begun core v u a b.begun b.seen) (since_taken core u w c.first_part-first.result c.take-value.result w.busy t.taken t.seen) in
+    let once =
+    since_trans v u w (since_begun core v u a b.begun b.seen)
+    (since_taken core u w c.first_part-first.result c.take-value.result w.busy t.taken t.seen) in
     ok_since core v w c.alone.new.pass.view a once c.alone.result c.alone.new.reply c.alone.ensures.ok
 
 pub returns-in_default-clause-err : goal.returns-in_default-clause-err
@@ -23,7 +25,9 @@ returns-in_default-clause-err g c =
     let v = c.args.pass.now.view in
     let a = c.args.act.now in
     let core = g.S.Served.core in
-    let once = since_trans v u w (since_begun core v u a b.begun b.seen) (since_taken core u w c.first_part-first.result c.take-value.result w.busy t.taken t.seen) in
+    let once =
+    since_trans v u w (since_begun core v u a b.begun b.seen)
+    (since_taken core u w c.first_part-first.result c.take-value.result w.busy t.taken t.seen) in
     err_since core v w c.alone.new.pass.view a once c.alone.result c.alone.ensures.err
 
 pub take-value-requires-2-clause-not_held : goal.take-value-requires-2-clause-not_held
@@ -33,7 +37,9 @@ take-value-requires-2-clause-not_held g c κs within =
     let core = g.S.Served.core in
     let a = c.args.act.now in
     let p = c.take-value.result in
-    second_free core g.S.Served.lawful c.args.pass.now.view c.begin.new.pass.view c.take-value.new.pass.view a c.first_part-first.result p c.in-Some.second c.take-value.new.pass.view.busy c.requires.fits c.requires.idle b.begun t.taken t.seen t.value c.first_part-first.ensures
+    second_free core g.S.Served.lawful c.args.pass.now.view c.begin.new.pass.view c.take-value.new.pass.view a
+    c.first_part-first.result p c.in-Some.second c.take-value.new.pass.view.busy c.requires.fits c.requires.idle b.begun
+    t.taken t.seen t.value c.first_part-first.ensures
     (ap (λ n. core.second p n a) (sym c.number.ensures) ∙ (sym c.second_part-second.ensures ∙ c.in-Some.is))
 
 pub returns-clause-ok : goal.returns-clause-ok
@@ -45,10 +51,13 @@ returns-clause-ok g c =
     let v = c.args.pass.now.view in
     let a = c.args.act.now in
     let core = g.S.Served.core in
-    let once = since_trans v u w (since_begun core v u a b.begun b.seen) (since_taken core u w c.first_part-first.result c.take-value.result w.busy t.taken t.seen) in
+    let once =
+    since_trans v u w (since_begun core v u a b.begun b.seen)
+    (since_taken core u w c.first_part-first.result c.take-value.result w.busy t.taken t.seen) in
     let x = c.take-value-2.new.pass.view in
     let d = c.take-value-2.ensures in
-    let twice = since_trans v w x once (since_taken core w x c.in-Some.second c.take-value-2.result x.busy d.taken d.seen) in
+    let twice =
+    since_trans v w x once (since_taken core w x c.in-Some.second c.take-value-2.result x.busy d.taken d.seen) in
     ok_since core v x c.together.new.pass.view a twice c.together.result c.together.new.reply c.together.ensures.ok
 
 pub returns-clause-err : goal.returns-clause-err
@@ -60,8 +69,11 @@ returns-clause-err g c =
     let v = c.args.pass.now.view in
     let a = c.args.act.now in
     let core = g.S.Served.core in
-    let once = since_trans v u w (since_begun core v u a b.begun b.seen) (since_taken core u w c.first_part-first.result c.take-value.result w.busy t.taken t.seen) in
+    let once =
+    since_trans v u w (since_begun core v u a b.begun b.seen)
+    (since_taken core u w c.first_part-first.result c.take-value.result w.busy t.taken t.seen) in
     let x = c.take-value-2.new.pass.view in
     let d = c.take-value-2.ensures in
-    let twice = since_trans v w x once (since_taken core w x c.in-Some.second c.take-value-2.result x.busy d.taken d.seen) in
+    let twice =
+    since_trans v w x once (since_taken core w x c.in-Some.second c.take-value-2.result x.busy d.taken d.seen) in
     err_since core v x c.together.new.pass.view a twice c.together.result c.together.ensures.err

@@ -5,7 +5,9 @@ use Rattle.turn_chain.proofs.Ending.{lent_first, out_alone, named_alone, idle_al
 use Rattle.turn_chain.proofs.last.alone.Goals as goal
 
 pub alone-made-requires-clause-first : goal.alone-made-requires-clause-first
-alone-made-requires-clause-first g c = lent_first g.S.Served.core c.args.pass.now.view c.args.act.now c.args.one.number c.args.one.value c.requires.ready c.requires.first
+alone-made-requires-clause-first g c =
+    lent_first g.S.Served.core c.args.pass.now.view c.args.act.now c.args.one.number c.args.one.value c.requires.ready
+    c.requires.first
 
 pub commit-requires-clause-out : goal.commit-requires-clause-out
 commit-requires-clause-out g c κs within =
@@ -23,7 +25,10 @@ give-requires-clause-named g c κs within =
     let p = c.args.one.value in
     let w = c.commit.new.pass.view in
     let told = c.commit.ensures.done a p None (out_alone g.S.Served.core v a k p r.ready r.first r.single) in
-    named_alone g.S.Served.core v a k p r.ready r.first r.single w told c.alone-made.new.one ((subst (λ made. OnOk made (c.alone-made.new.one ≡ g.S.Served.core.one p None c.number.result a)) c.in-Ok.is c.alone-made.ensures.after) ∙ ap (λ n. g.S.Served.core.one p None n a) c.number.ensures)
+    named_alone g.S.Served.core v a k p r.ready r.first r.single w told c.alone-made.new.one
+    ((subst (λ made. OnOk made (c.alone-made.new.one ≡ g.S.Served.core.one p None c.number.result a)) c.in-Ok.is
+    c.alone-made.ensures.after)
+    ∙ ap (λ n. g.S.Served.core.one p None n a) c.number.ensures)
 
 pub returns-in-Ok-clause-idle : goal.returns-in-Ok-clause-idle
 returns-in-Ok-clause-idle g c =
@@ -33,7 +38,8 @@ returns-in-Ok-clause-idle g c =
     let k = c.args.one.number in
     let p = c.args.one.value in
     let told = c.commit.ensures.done a p None (out_alone g.S.Served.core v a k p r.ready r.first r.single) in
-    idle_alone g.S.Served.core v a k p r.ready r.first r.single c.commit.new.pass.view told c.give.new.pass.view c.give.ensures.given
+    idle_alone g.S.Served.core v a k p r.ready r.first r.single c.commit.new.pass.view told c.give.new.pass.view
+    c.give.ensures.given
 
 pub returns-in-Ok-clause-same : goal.returns-in-Ok-clause-same
 returns-in-Ok-clause-same g c =
@@ -43,7 +49,8 @@ returns-in-Ok-clause-same g c =
     let k = c.args.one.number in
     let p = c.args.one.value in
     let told = c.commit.ensures.done a p None (out_alone g.S.Served.core v a k p r.ready r.first r.single) in
-    same_alone g.S.Served.core v a k p r.ready r.first r.single c.commit.new.pass.view told c.give.new.pass.view c.give.ensures.given
+    same_alone g.S.Served.core v a k p r.ready r.first r.single c.commit.new.pass.view told c.give.new.pass.view
+    c.give.ensures.given
 
 pub returns-in-Ok-clause-ok : goal.returns-in-Ok-clause-ok
 returns-in-Ok-clause-ok g c =
@@ -54,5 +61,8 @@ returns-in-Ok-clause-ok g c =
     let p = c.args.one.value in
     let told = c.commit.ensures.done a p None (out_alone g.S.Served.core v a k p r.ready r.first r.single) in
     subst (λ made. OnOk made (HasRun g.S.Served.core v a c.alone-made.new.reply c.give.new.pass.view)) (sym c.in-Ok.is)
-    (ran_alone g.S.Served.core v a k p r.ready r.first r.single c.commit.new.pass.view told c.give.new.pass.view c.give.ensures.given c.alone-made.new.reply
-    ((subst (λ made. OnOk made (c.alone-made.new.reply ≡ g.S.Served.core.answer p None c.number.result a)) c.in-Ok.is c.alone-made.ensures.reply) ∙ ap (λ n. g.S.Served.core.answer p None n a) c.number.ensures))
+    (ran_alone g.S.Served.core v a k p r.ready r.first r.single c.commit.new.pass.view told c.give.new.pass.view
+    c.give.ensures.given c.alone-made.new.reply
+    ((subst (λ made. OnOk made (c.alone-made.new.reply ≡ g.S.Served.core.answer p None c.number.result a)) c.in-Ok.is
+    c.alone-made.ensures.reply)
+    ∙ ap (λ n. g.S.Served.core.answer p None n a) c.number.ensures))

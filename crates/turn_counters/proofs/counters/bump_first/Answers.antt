@@ -23,4 +23,5 @@ returns-clause-made g c =
     let p = c.take-value.result in
     let e1 = c.begin.ensures.begun in
     let e2 = c.take-value.ensures.taken in
-    first_made v0 v1 v2 p e1 e2 v3 (c.commit.ensures.done First p None (first_out v0 v1 v2 p e1 e2)) c.give.new.pass.view c.give.ensures.given c.requires.idle
+    first_made v0 v1 v2 p e1 e2 v3 (c.commit.ensures.done First p None (first_out v0 v1 v2 p e1 e2))
+    c.give.new.pass.view c.give.ensures.given c.requires.idle

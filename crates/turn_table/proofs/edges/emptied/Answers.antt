@@ -21,8 +21,14 @@ loop-k-preserved g c =
       gone = λ j h. ap (λ zs. slice_index_or zs j false) o.1 ∙ split_on j k
           (λ e. ap (λ m. slice_index_or (slice_set fs k false) m false) e ∙ flag_gone fs k)
           (λ ne. get_or-set_other fs k j false false ne ∙ i.gone j (omega arith));
-      left = λ j h r. let ne : j ≡ k → ⊥ = λ e. omega arith in ap (λ zs. slice_index_or zs j false) o.1 ∙ (get_or-set_other fs k j false false ne ∙ i.left j (omega arith) r);
-      taken = rw c.push_reserved.ensures.items (room_grows c.loop-k.room.items (slots_items c.args.closed.slots) k c.in-Some.part i.taken (sym there ∙ c.in-Some.ensures.value));
+      left = λ j h r.
+          let ne : j ≡ k → ⊥ = λ e. omega arith in
+          ap (λ zs. slice_index_or zs j false) o.1
+          ∙ (get_or-set_other fs k j false false ne ∙ i.left j (omega arith) r);
+      taken =
+          rw c.push_reserved.ensures.items
+          (room_grows c.loop-k.room.items (slots_items c.args.closed.slots) k c.in-Some.part i.taken
+          (sym there ∙ c.in-Some.ensures.value));
       room_len = c.push_reserved.ensures.len ∙ ap (λ n. n + 1) i.room_len;
       room_cap = c.push_reserved.ensures.capacity ∙ i.room_cap;
     }

@@ -15,6 +15,10 @@ fetch_add-requires g c =
     let xs = c.args.table.now.key.value.items in (
       t.same,
       omega (arith, c.requires.count, t.words),
-      subst (λ (i : ℕ). Allows (Ruled g.S.Served.core xs) k c.args.seat.now.id me i (λ n. (n + 1) % 2 ^ 64) (Commits g.S.Served.core (step k i 1 0 none) me)) (t.slots ∙ sym c.requires.count)
-          (commits g.S.Served.core g.S.Served.lawful xs c.args.seat.now.id me c.requires.alive o.0 o.1 o.2 o.3 k (sym t.slots)),
+      subst (λ (i : ℕ).
+          Allows (Ruled g.S.Served.core xs) k c.args.seat.now.id me i (λ n. (n + 1) % 2 ^ 64)
+          (Commits g.S.Served.core (step k i 1 0 none) me))
+          (t.slots ∙ sym c.requires.count)
+          (commits g.S.Served.core g.S.Served.lawful xs c.args.seat.now.id me c.requires.alive o.0 o.1 o.2 o.3 k
+          (sym t.slots)),
     )

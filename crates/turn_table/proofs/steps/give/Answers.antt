@@ -14,6 +14,10 @@ store-requires g c =
     let xs = c.args.table.now.key.value.items in (
       e.0 ∙ t.same,
       omega (arith, c.requires.there, t.words),
-      subst (λ me. Allows (Ruled g.S.Served.core xs) k c.exchange-none.new.seat.id me c.args.part (λ _. 0) (λ _. Gives g.S.Served.core (step k c.args.part 0 0 none) me 0)) (sym e.3)
-          (gives_turn g.S.Served.core g.S.Served.lawful xs c.exchange-none.new.seat.id c.args.seat.now.me.0 (rest c.args.seat.now.me.1) c.requires.alive c.args.part c.args.value c.requires.named k (sym t.slots)),
+      subst (λ me.
+          Allows (Ruled g.S.Served.core xs) k c.exchange-none.new.seat.id me c.args.part (λ _. 0)
+          (λ _. Gives g.S.Served.core (step k c.args.part 0 0 none) me 0))
+          (sym e.3)
+          (gives_turn g.S.Served.core g.S.Served.lawful xs c.exchange-none.new.seat.id c.args.seat.now.me.0
+          (rest c.args.seat.now.me.1) c.requires.alive c.args.part c.args.value c.requires.named k (sym t.slots)),
     )

@@ -10,9 +10,16 @@ index-requires g c =
     let m = c.in_two-one in
     let n = c.args.count in
     let e : c.close-parts.result.items ≡ 2 * n ∷ n ∷ [] =
-    two_end n c.in_ok-table.pass.view c.split-one.new.pass.view c.split-two.new.pass.view c.join.new.pass.view c.join-2.new.pass.view c.split-one.result.view c.split-two.result.view m.result.0.view m.result.1.view c.close-parts.result.items c.ranges.count.fits
-    (c.in_ok-table.ensures.opens ∙ ap new_view c.in_ok-from_array.ensures.items) c.split-one.ensures.counted c.split-one.ensures.new c.split-two.ensures.counted c.split-two.ensures.new
-    m.ensures.first.1 m.ensures.second.1 c.join.ensures.joined c.join-2.ensures.joined (record { own = k.own; joined = k.joined; no_others = k.no_others }) k.parts in
+    two_end n c.in_ok-table.pass.view c.split-one.new.pass.view c.split-two.new.pass.view c.join.new.pass.view
+    c.join-2.new.pass.view c.split-one.result.view c.split-two.result.view m.result.0.view m.result.1.view
+    c.close-parts.result.items c.ranges.count.fits
+    (c.in_ok-table.ensures.opens ∙ ap new_view c.in_ok-from_array.ensures.items) c.split-one.ensures.counted
+    c.split-one.ensures.new c.split-two.ensures.counted c.split-two.ensures.new
+    m.ensures.first.1 m.ensures.second.1 c.join.ensures.joined c.join-2.ensures.joined (record {
+      own = k.own;
+      joined = k.joined;
+      no_others = k.no_others;
+    }) k.parts in
     omega (arith, c.close-parts.result.ok.0, ap length e)
 
 pub index-requires-2 : goal.index-requires-2
@@ -21,9 +28,16 @@ index-requires-2 g c =
     let m = c.in_two-one in
     let n = c.args.count in
     let e : c.close-parts.result.items ≡ 2 * n ∷ n ∷ [] =
-    two_end n c.in_ok-table.pass.view c.split-one.new.pass.view c.split-two.new.pass.view c.join.new.pass.view c.join-2.new.pass.view c.split-one.result.view c.split-two.result.view m.result.0.view m.result.1.view c.close-parts.result.items c.ranges.count.fits
-    (c.in_ok-table.ensures.opens ∙ ap new_view c.in_ok-from_array.ensures.items) c.split-one.ensures.counted c.split-one.ensures.new c.split-two.ensures.counted c.split-two.ensures.new
-    m.ensures.first.1 m.ensures.second.1 c.join.ensures.joined c.join-2.ensures.joined (record { own = k.own; joined = k.joined; no_others = k.no_others }) k.parts in
+    two_end n c.in_ok-table.pass.view c.split-one.new.pass.view c.split-two.new.pass.view c.join.new.pass.view
+    c.join-2.new.pass.view c.split-one.result.view c.split-two.result.view m.result.0.view m.result.1.view
+    c.close-parts.result.items c.ranges.count.fits
+    (c.in_ok-table.ensures.opens ∙ ap new_view c.in_ok-from_array.ensures.items) c.split-one.ensures.counted
+    c.split-one.ensures.new c.split-two.ensures.counted c.split-two.ensures.new
+    m.ensures.first.1 m.ensures.second.1 c.join.ensures.joined c.join-2.ensures.joined (record {
+      own = k.own;
+      joined = k.joined;
+      no_others = k.no_others;
+    }) k.parts in
     omega (arith, c.close-parts.result.ok.0, ap length e)
 
 pub returns : goal.returns
@@ -32,7 +46,16 @@ returns g c =
     let m = c.in_two-one in
     let n = c.args.count in
     let e : c.close-parts.result.items ≡ 2 * n ∷ n ∷ [] =
-    two_end n c.in_ok-table.pass.view c.split-one.new.pass.view c.split-two.new.pass.view c.join.new.pass.view c.join-2.new.pass.view c.split-one.result.view c.split-two.result.view m.result.0.view m.result.1.view c.close-parts.result.items c.ranges.count.fits
-    (c.in_ok-table.ensures.opens ∙ ap new_view c.in_ok-from_array.ensures.items) c.split-one.ensures.counted c.split-one.ensures.new c.split-two.ensures.counted c.split-two.ensures.new
-    m.ensures.first.1 m.ensures.second.1 c.join.ensures.joined c.join-2.ensures.joined (record { own = k.own; joined = k.joined; no_others = k.no_others }) k.parts in
-    (c.index.ensures ∙ ap (λ xs. slice_index_or xs 0 c.index.result.now) e, c.index-2.ensures ∙ ap (λ xs. slice_index_or xs 1 c.index-2.result.now) e)
+    two_end n c.in_ok-table.pass.view c.split-one.new.pass.view c.split-two.new.pass.view c.join.new.pass.view
+    c.join-2.new.pass.view c.split-one.result.view c.split-two.result.view m.result.0.view m.result.1.view
+    c.close-parts.result.items c.ranges.count.fits
+    (c.in_ok-table.ensures.opens ∙ ap new_view c.in_ok-from_array.ensures.items) c.split-one.ensures.counted
+    c.split-one.ensures.new c.split-two.ensures.counted c.split-two.ensures.new
+    m.ensures.first.1 m.ensures.second.1 c.join.ensures.joined c.join-2.ensures.joined (record {
+      own = k.own;
+      joined = k.joined;
+      no_others = k.no_others;
+    }) k.parts in (
+      c.index.ensures ∙ ap (λ xs. slice_index_or xs 0 c.index.result.now) e,
+      c.index-2.ensures ∙ ap (λ xs. slice_index_or xs 1 c.index-2.result.now) e,
+    )

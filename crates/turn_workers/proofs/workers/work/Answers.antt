@@ -9,5 +9,7 @@ pub acts-preserved : goal.acts-preserved
 acts-preserved g c =
     record {
       here = c.make.ensures.here ∙ c.acts.invariant.here;
-      made = made_more c.args.act c.acts.counter c.args.pass.view c.acts.pass.view c.make.new.pass.view c.acts.invariant.made c.make.ensures.made;
+      made =
+          made_more c.args.act c.acts.counter c.args.pass.view c.acts.pass.view c.make.new.pass.view
+          c.acts.invariant.made c.make.ensures.made;
     }

@@ -29,7 +29,8 @@ loop-x-preserved c =
           | inr left ↦ c.loop-x.invariant.all.each b man lb left own
           | inl before ↦ elim (has_or_not more b) [
             | inl both ↦ absurd (out (Has-and_both old more b before both))
-            | inr left ↦ attack-of _ by c.square_of.result c.args.s (let l : c.square_of.result < 64 = search rules in l)
+            | inr left ↦
+                attack-of _ by c.square_of.result c.args.s (let l : c.square_of.result < 64 = search rules in l)
                 (c.stops-set.ensures.each b man lb left own strikes_here)
           ]
         ];

@@ -12,7 +12,11 @@ returns c =
       from = λ t h. elim h [ inl a ↦ Has-or_left one.from two.from t a | inr b ↦ Has-or_right one.from two.from t b ];
       answers = λ t out. elim (has_or_not one.answers t) [
         | inr left ↦ inl left
-        | inl a ↦ elim (has_or_not two.answers t) [ inr left ↦ inr left | inl b ↦ absurd (out (Has-and_both one.answers two.answers t a b)) ]
+        | inl a ↦
+            elim (has_or_not two.answers t) [
+              | inr left ↦ inr left
+              | inl b ↦ absurd (out (Has-and_both one.answers two.answers t a b))
+            ]
       ];
       safe = λ e. or_parts one.in_check two.in_check (sym c.either.ensures ∙ e);
       check = λ e. or_cases one.in_check two.in_check (sym c.either.ensures ∙ e);

@@ -19,7 +19,8 @@ loop-s-preserved c =
         | inl same ↦
             let from : Strikes c.args.men.now c.args.c Queen c.square_of.result t =
             subst (λ (y : ℕ). Strikes c.args.men.now c.args.c Queen y t) (same ∙ sym c.square_of.ensures) strikes in
-            Has-or_right old q t (((c.queen_squares-set.ensures c.args.men.now c.args.c c.occupied-occupied.ensures).each t lt).1 from)
+            Has-or_right old q t
+            (((c.queen_squares-set.ensures c.args.men.now c.args.c c.occupied-occupied.ensures).each t lt).1 from)
         | inr other ↦ elim other [
           | inl before ↦ Has-or_left old q t (c.loop-s.invariant.each x t before lt here strikes)
           | inr after ↦ absurd (c.next_square-s-in-loop-s.ensures.first x (omega (arith, after)) less here)

@@ -16,9 +16,12 @@ returns c =
       each = λ b man lb out own strikes.
           let other : x ≢ b = λ e. out ((c.with_square.ensures b lb).1 (inr (sym e))) in
           elim (has_or_not c.queen_squares.result b) [
-            | inr left ↦ stops-near P c.args.c s x b man c.requires ls lx lb own other (λ h. left ((near.each b lb).1 h)) strikes
+            | inr left ↦
+                stops-near P c.args.c s x b man c.requires ls lx lb own other (λ h. left ((near.each b lb).1 h)) strikes
             | inl seen ↦ stops-far P c.args.c s x b man c.requires ls lx lb own other
-                (λ h. out ((c.with_square.ensures b lb).1 (inl (Has-and_both c.queen_squares.result c.queen_squares-2.result b seen ((far.each b lb).1 h)))))
+                (λ h.
+                out ((c.with_square.ensures b lb).1
+                (inl (Has-and_both c.queen_squares.result c.queen_squares-2.result b seen ((far.each b lb).1 h)))))
                 strikes
           ];
     }

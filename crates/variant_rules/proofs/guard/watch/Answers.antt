@@ -13,9 +13,12 @@ returns-then-checkers-ne0 c = record {
   pinned = record { each = λ a la own bare. bit_at_ones 64 a la };
   answers = c.answers.ensures;
   safe = λ e. absurd (true≢false e);
-  check = λ e. (struck-is c.args.men.now (opposite c.args.c) c.args.s c.strikers-checkers.result c.strikers-checkers.type_inv
-      (subst (λ (x : Colour). IsStrikerSet c.args.men.now x c.args.s c.strikers-checkers.result) c.opposite-enemy.ensures
-      (c.strikers-checkers.ensures c.args.men.now c.side.ensures c.occupied.ensures))).0 (some-not c.strikers-checkers.result c.if-checkers-ne0.true);
+  check = λ e.
+      (struck-is c.args.men.now (opposite c.args.c) c.args.s c.strikers-checkers.result c.strikers-checkers.type_inv
+      (subst (λ (x : Colour). IsStrikerSet c.args.men.now x c.args.s c.strikers-checkers.result)
+      c.opposite-enemy.ensures
+      (c.strikers-checkers.ensures c.args.men.now c.side.ensures c.occupied.ensures))).0
+      (some-not c.strikers-checkers.result c.if-checkers-ne0.true);
 }
 
 pub pinned-requires-clause-safe : goal.pinned-requires-clause-safe
@@ -24,7 +27,8 @@ pinned-requires-clause-safe c attacked =
     let checkers = c.strikers-checkers.result in
     let all = subst (λ (x : Colour). IsStrikerSet P x c.args.s checkers) c.opposite-enemy.ensures
     (c.strikers-checkers.ensures P c.side.ensures c.occupied.ensures) in
-    true≢false (sym ((struck-is P (opposite c.args.c) c.args.s checkers c.strikers-checkers.type_inv all).1 attacked) ∙ ap (λ (x : ℕ). not (nat_eq x 0)) c.if-checkers-ne0.false)
+    true≢false (sym ((struck-is P (opposite c.args.c) c.args.s checkers c.strikers-checkers.type_inv all).1 attacked)
+    ∙ ap (λ (x : ℕ). not (nat_eq x 0)) c.if-checkers-ne0.false)
 
 pub returns : goal.returns
 returns c =
@@ -36,6 +40,8 @@ returns c =
       pinned = c.pinned.ensures;
       answers = record { each = λ b man lb out own. absurd (out (bit_at_ones 64 b lb)) };
       safe = λ e attacked.
-          true≢false (sym ((struck-is P (opposite c.args.c) c.args.s checkers c.strikers-checkers.type_inv all).1 attacked) ∙ ap (λ (x : ℕ). not (nat_eq x 0)) c.if-checkers-ne0.false);
+          true≢false (sym
+          ((struck-is P (opposite c.args.c) c.args.s checkers c.strikers-checkers.type_inv all).1 attacked)
+          ∙ ap (λ (x : ℕ). not (nat_eq x 0)) c.if-checkers-ne0.false);
       check = λ e. absurd (true≢false (sym e));
     }

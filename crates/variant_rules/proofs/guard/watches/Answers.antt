@@ -34,10 +34,12 @@ loop-s-preserved c =
       pinned = λ s less held. elim (cases_order s c.loop-s.s) [
         | inl same ↦ record {
           each = λ a la own bare.
-              both.from a (inr (one.pinned.each a la own (subst (λ (x : ℕ). IsBare P k x a) (same ∙ sym same_square) bare)));
+              both.from a
+              (inr (one.pinned.each a la own (subst (λ (x : ℕ). IsBare P k x a) (same ∙ sym same_square) bare)));
         }
         | inr other ↦ elim other [
-          | inl before ↦ record { each = λ a la own bare. both.from a (inl ((old.pinned s before held).each a la own bare)) }
+          | inl before ↦
+              record { each = λ a la own bare. both.from a (inl ((old.pinned s before held).each a la own bare)) }
           | inr after ↦ absurd (c.next_square-s-in-loop-s.ensures.first s (omega (arith, after)) less held)
         ]
       ];
@@ -55,7 +57,8 @@ loop-s-preserved c =
       ];
       safe = λ calm s less held. elim (cases_order s c.loop-s.s) [
         | inl same ↦ λ attacked.
-            one.safe (both.safe calm).1 (subst (λ (x : ℕ). IsAttacked P (opposite k) x) (same ∙ sym same_square) attacked)
+            one.safe (both.safe calm).1
+            (subst (λ (x : ℕ). IsAttacked P (opposite k) x) (same ∙ sym same_square) attacked)
         | inr other ↦ elim other [
           | inl before ↦ old.safe (both.safe calm).0 s before held
           | inr after ↦ absurd (c.next_square-s-in-loop-s.ensures.first s (omega (arith, after)) less held)
@@ -85,10 +88,13 @@ returns c =
     let kings = c.side-kings.result.kings in
     record {
       kings = λ s ls held. all.kings s (king-bit P k kings s c.side-kings.ensures.kings ls held);
-      pinned = λ s ls held. all.pinned s (omega (arith, ls, end)) (king-bit P k kings s c.side-kings.ensures.kings ls held);
+      pinned = λ s ls held.
+          all.pinned s (omega (arith, ls, end)) (king-bit P k kings s c.side-kings.ensures.kings ls held);
       answers = all.answers;
       safe = λ calm. record {
-        safe = λ s ls check. all.safe calm s (omega (arith, ls, end)) (king-bit P k kings s c.side-kings.ensures.kings ls check.0) check.1;
+        safe = λ s ls check.
+            all.safe calm s (omega (arith, ls, end)) (king-bit P k kings s c.side-kings.ensures.kings ls check.0)
+            check.1;
       };
       check = λ e safe. let there = all.check e in safe.safe there.0 there.1.square (there.1.held, there.1.attacked);
     }

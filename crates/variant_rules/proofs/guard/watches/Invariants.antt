@@ -10,7 +10,8 @@ abbrev pub invariant-loop-s : goal.invariant-loop-s
 invariant-loop-s l = record {
   kings : (t : ℕ) → Has l.kings t → Has l.guard.from t;
   pinned : (s : ℕ) → s < l.s → Has l.kings s → ArePinned l.fn.men l.fn.c s l.guard.from;
-  answers : (b : ℕ) (man : Option Man) → b < 64 → ¬ Has l.guard.answers b → IsHeldBy l.fn.c man → (s : ℕ) × IsUnanswered l.fn.men l.fn.c b man s;
+  answers : (b : ℕ) (man : Option Man) → b < 64 → ¬ Has l.guard.answers b → IsHeldBy l.fn.c man
+      → (s : ℕ) × IsUnanswered l.fn.men l.fn.c b man s;
   safe : l.guard.in_check ≡ false → (s : ℕ) → s < l.s → Has l.kings s → ¬ IsAttacked l.fn.men (opposite l.fn.c) s;
   check : l.guard.in_check ≡ true → (s : ℕ) × IsKingAttacked l.fn.men l.fn.c s;
   here : l.s < 64 → Has l.kings l.s;

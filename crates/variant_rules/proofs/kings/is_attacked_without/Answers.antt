@@ -14,7 +14,9 @@ returns c =
     let Q = slice_set P a None in
     let e = c.opposite-enemy.ensures in
     let side = c.side.result in
-    let men = gone-enemies P c.args.c a side c.requires.squares la c.requires.held (subst (λ (x : Colour). AreMenOf P x side) e c.side.ensures) in
+    let men =
+    gone-enemies P c.args.c a side c.requires.squares la c.requires.held
+    (subst (λ (x : Colour). AreMenOf P x side) e c.side.ensures) in
     let all = c.written.ensures is_some P None c.requires.squares c.occupied.ensures refl in
     subst (λ (x : Colour). IsTrue c.is_struck.result ↔ IsAttacked Q x c.args.b) e
     (c.is_struck.ensures Q (subst (λ (x : Colour). AreMenOf Q x side) (sym e) men) all)

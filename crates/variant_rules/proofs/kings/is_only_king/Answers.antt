@@ -25,6 +25,7 @@ returns c none =
         | inr other ↦
             let there : IsHeldAs k King (slice_index_or (slice_set P a None) s None) =
             subst (λ (man : Option Man). IsHeldAs k King man) (sym (at-unwritten P a s None other)) held in
-            absurd (omega (arith, king-bit (slice_set P a None) k left s all ls there, ap (λ x. bit_at x s) empty, bit_at-zero s))
+            absurd (omega
+            (arith, king-bit (slice_set P a None) k left s all ls there, ap (λ x. bit_at x s) empty, bit_at-zero s))
       ];
     }

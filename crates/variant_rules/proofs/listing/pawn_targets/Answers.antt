@@ -10,5 +10,6 @@ returns-in-Some c =
 
 pub returns-in-None : goal.returns-in-None
 returns-in-None c =
-    subst (λ (e : Option ℕ). AreTargets c.args.men.now e c.args.c Pawn c.args.a c.reach_of-set.result) (sym c.in-None.is)
+    subst (λ (e : Option ℕ). AreTargets c.args.men.now e c.args.c Pawn c.args.a c.reach_of-set.result)
+    (sym c.in-None.is)
     (record { each = c.reach_of-set.ensures.each })

@@ -8,7 +8,8 @@ use Rattle.variant_rules.proofs.listing.with_passed.Goals as goal
 pub returns-then-has_square : goal.returns-then-has_square
 returns-then-has_square c P all =
     let struck = (c.pawn_squares.ensures P).each c.args.s c.has_square.ensures.within in
-    let strikes : Strikes P c.args.c Pawn c.args.a c.args.s = struck.0 (c.has_square.ensures.value.0 c.if-has_square.true) in
+    let strikes : Strikes P c.args.c Pawn c.args.a c.args.s =
+    struck.0 (c.has_square.ensures.value.0 c.if-has_square.true) in
     record {
       each = λ t lt.
           let e = passed-adds P c.args.c c.args.a c.args.s t in
@@ -31,7 +32,8 @@ returns-else-has_square c P all =
             λ r. elim (e.1 r) [
               | inl old ↦ (all.each t lt).1 old
               | inr new ↦ absurd (true≢false (sym (c.has_square.ensures.value.1
-                  (struck.1 (subst (λ (x : ℕ). Strikes P c.args.c Pawn c.args.a x) new.0 new.1))) ∙ c.if-has_square.false))
+                  (struck.1 (subst (λ (x : ℕ). Strikes P c.args.c Pawn c.args.a x) new.0 new.1)))
+                  ∙ c.if-has_square.false))
             ],
           );
     }

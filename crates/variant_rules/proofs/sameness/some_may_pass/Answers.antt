@@ -10,4 +10,5 @@ returns-then-may_pass c =
 
 pub returns : goal.returns
 returns c =
-    sym (none_passes (may_pass c.args.p.now c.args.to) (λ k less. c.loop-n.invariant k (omega (arith, less, c.loop-n-test.false, c.loop-n.auto))))
+    sym (none_passes (may_pass c.args.p.now c.args.to)
+    (λ k less. c.loop-n.invariant k (omega (arith, less, c.loop-n-test.false, c.loop-n.auto))))

@@ -10,6 +10,7 @@ returns-in-Some c =
     let here = ap (slice_set c.args.self.now c.args.s) (sym c.in-Some.is) in
     elim c.if-is_some.branch [
       | then-is_some w ↦
-          c.put.ensures ∙ ap come (w.self-is ∙ w.lift.ensures.left) ∙ set-set c.args.self.now c.args.s _ (Some c.in-Some.m) ∙ here
+          c.put.ensures ∙ ap come (w.self-is ∙ w.lift.ensures.left)
+          ∙ set-set c.args.self.now c.args.s _ (Some c.in-Some.m) ∙ here
       | else-is_some w ↦ c.put.ensures ∙ ap come w.self-is ∙ here
     ]

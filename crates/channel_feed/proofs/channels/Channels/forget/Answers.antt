@@ -7,7 +7,9 @@ use Rattle.channel_feed.proofs.channels.Channels.forget.Goals as goal
 
 -- a player without a row is in no channel
 in_none : (c : Then-is_none) → channels_of c.self.inside.rows c.args.who ≡ 0
-in_none c = sym (c.self.invariant c.args.who) ∙ uncounted c.self.inside.counts c.args.who c.remove.result c.remove.ensures.removed c.if-is_none.ensures
+in_none c =
+    sym (c.self.invariant c.args.who)
+    ∙ uncounted c.self.inside.counts c.args.who c.remove.result c.remove.ensures.removed c.if-is_none.ensures
 
 pub invariant_of-self : goal.invariant_of-self
 invariant_of-self c other =
@@ -17,7 +19,8 @@ invariant_of-self c other =
 
 pub returns-then-is_none : goal.returns-then-is_none
 returns-then-is_none c =
-    sym (without_player-absent c.self.inside.rows c.args.who (in_none c)) ∙ ap (without_player c.args.who) c.self.view_is
+    sym (without_player-absent c.self.inside.rows c.args.who (in_none c))
+    ∙ ap (without_player c.args.who) c.self.view_is
 
 pub invariant_of-self-2 : goal.invariant_of-self-2
 invariant_of-self-2 c other =

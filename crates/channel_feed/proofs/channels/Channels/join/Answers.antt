@@ -11,5 +11,6 @@ push-requires c =
     let who = c.args.who in
     let channel = c.args.channel in
     find-absent (λ row. (who == row.who) && (channel == row.channel)) c.self.inside.rows
-    ((λ j. list_any (λ row. nat_eq_equiv.symm who row.who j && nat_eq_equiv.symm channel row.channel j) c.self.inside.rows)
+    ((λ j.
+    list_any (λ row. nat_eq_equiv.symm who row.who j && nat_eq_equiv.symm channel row.channel j) c.self.inside.rows)
     ∙ ap (λ rows. is_in rows who channel) c.self.view_is ∙ sym c.has.ensures ∙ c.if-has.false)

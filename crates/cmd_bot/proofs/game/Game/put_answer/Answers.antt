@@ -9,4 +9,5 @@ returns c =
     let inside = c.self.inside in
     let old = c.args.out.now.items in
     c.in_ok-extend_from_slice.ensures.items ∙ ap (λ l. old ++ l) (c.as_slice.ensures.value ∙ c.in_ok-text.ensures.text)
-    ∙ ap (λ (p : Position). old ++ answer_of c.args.depth p) (stands_at inside.position inside.moves c.args.self.now c.self.invariant.1 c.self.view_is)
+    ∙ ap (λ (p : Position). old ++ answer_of c.args.depth p)
+    (stands_at inside.position inside.moves c.args.self.now c.self.invariant.1 c.self.view_is)

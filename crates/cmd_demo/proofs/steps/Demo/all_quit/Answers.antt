@@ -7,6 +7,8 @@ loop-place-init c = record { gone = none_quits c.args.self.now; moment = c.requi
 
 pub loop-place-preserved : goal.loop-place-preserved
 loop-place-preserved c = record {
-  gone = one_quits c.loop-place.place c.args.self.now c.loop-place.self c.say.new.self c.loop-place.invariant.gone c.in_ok-say.ensures;
+  gone =
+      one_quits c.loop-place.place c.args.self.now c.loop-place.self c.say.new.self c.loop-place.invariant.gone
+      c.in_ok-say.ensures;
   moment = subst (λ (m : ℕ). m ≤ 8000000) (sym c.in_ok-say.ensures.moment) c.loop-place.invariant.moment;
 }

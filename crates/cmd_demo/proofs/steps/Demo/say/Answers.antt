@@ -8,4 +8,5 @@ take-requires-clause-fits c = (c.in_ok-event.ensures 0).fits
 
 pub returns : goal.returns
 returns c =
-    subst (λ (event : ScriptEvent). OnOk c.take.result (Comes c.args.session event c.args.self.now c.take.new.self)) (c.in_ok-event.ensures 0).event_is c.take.ensures
+    subst (λ (event : ScriptEvent). OnOk c.take.result (Comes c.args.session event c.args.self.now c.take.new.self))
+    (c.in_ok-event.ensures 0).event_is c.take.ensures

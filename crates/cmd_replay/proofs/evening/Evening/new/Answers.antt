@@ -8,6 +8,7 @@ use Rattle.cmd_replay.proofs.evening.Evening.new.Goals as goal
 
 pub returns : goal.returns
 returns c =
-    let evening : EveningState = record { server = c.in_ok-new-2.field-0; order = None; moment = 0; memories = c.in_ok-new_sessions.field-0 } in
+    let evening : EveningState =
+    record { server = c.in_ok-new-2.field-0; order = None; moment = 0; memories = c.in_ok-new_sessions.field-0 } in
     let opens : (lobby : LobbyState) → ServerState = λ lobby. record { opening = opened lobby; log = [] } in
     reached_none evening (c.in_ok-new-2.ensures ∙ ap opens c.in_ok-new.ensures) refl refl c.in_ok-new_sessions.ensures

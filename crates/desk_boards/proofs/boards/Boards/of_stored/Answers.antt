@@ -15,6 +15,11 @@ returns-clause-replays c =
     let spelled : IsGame game = c.is_game.ensures.0 c.if-not-is_game.false in
     let four : AreFour game.terms.variant game.names =
     subst (AreFour game.terms.variant) c.as_slice.ensures (c.are_four.ensures.0 c.if-not-are_four.false) in
-    IfOk-weaker c.replay.result (λ (boards : Option (List Board)). boards ≡ replayed game.terms game.halves c.args.moment) (λ (boards : Option (List Board)). IsSome boards ↔ Replays game)
-    (λ boards same. subst (λ (o : Option (List Board)). IsSome o ↔ Replays game) (sym same) (replays_where game c.args.moment spelled four))
-    (subst (λ (halves : List Half). IfOk c.replay.result (λ boards. boards ≡ replayed game.terms halves c.args.moment)) c.as_slice-2.ensures c.replay.ensures)
+    IfOk-weaker c.replay.result
+    (λ (boards : Option (List Board)). boards ≡ replayed game.terms game.halves c.args.moment)
+    (λ (boards : Option (List Board)). IsSome boards ↔ Replays game)
+    (λ boards same.
+    subst (λ (o : Option (List Board)). IsSome o ↔ Replays game) (sym same)
+    (replays_where game c.args.moment spelled four))
+    (subst (λ (halves : List Half). IfOk c.replay.result (λ boards. boards ≡ replayed game.terms halves c.args.moment))
+    c.as_slice-2.ensures c.replay.ensures)

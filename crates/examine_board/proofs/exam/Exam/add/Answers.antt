@@ -5,7 +5,8 @@ use Rattle.examine_board.specs.Play.{uncharged}
 use Rattle.examine_board.proofs.exam.Exam.add.Goals as goal
 
 pub push-requires-clause-lies : goal.push-requires-clause-lies
-push-requires-clause-lies c = subst (λ (e : ExamState). MayLie e.terms e.list (uncharged c.args.what)) (sym c.cut.ensures.after) c.requires.lies
+push-requires-clause-lies c =
+    subst (λ (e : ExamState). MayLie e.terms e.list (uncharged c.args.what)) (sym c.cut.ensures.after) c.requires.lies
 
 pub push-requires-clause-room : goal.push-requires-clause-room
 push-requires-clause-room c =

@@ -8,9 +8,12 @@ pub invariant_of-self : goal.invariant_of-self
 invariant_of-self c =
     let i = c.self.inside in
     let shared = c.len-self-inside.ensures in
-    let all : take c.len-self-inside.result i.stored ++ c.truncate.new.self ≡ i.stored = (λ j. take (shared j) i.stored ++ c.truncate.ensures j) ∙ whole i.stored in
-    let within : i.point ≤ length i.stored = subst (λ (e : ExamState). e.point ≤ length e.stored) (sym c.self.view_is) c.requires.within in
-    let same : take i.point (take i.shared i.stored ++ i.branch) ≡ take i.point i.stored = subst (λ (e : ExamState). present e ≡ take e.point e.stored) (sym c.self.view_is) c.requires.same in
+    let all : take c.len-self-inside.result i.stored ++ c.truncate.new.self ≡ i.stored =
+    (λ j. take (shared j) i.stored ++ c.truncate.ensures j) ∙ whole i.stored in
+    let within : i.point ≤ length i.stored =
+    subst (λ (e : ExamState). e.point ≤ length e.stored) (sym c.self.view_is) c.requires.within in
+    let same : take i.point (take i.shared i.stored ++ i.branch) ≡ take i.point i.stored =
+    subst (λ (e : ExamState). present e ≡ take e.point e.stored) (sym c.self.view_is) c.requires.same in
     let many = ap length all in
     record {
       shared = omega (arith, shared);
@@ -25,5 +28,7 @@ invariant_of-self c =
 pub returns : goal.returns
 returns c =
     let i = c.self.inside in
-    let all : take c.len-self-inside.result i.stored ++ c.truncate.new.self ≡ i.stored = (λ j. take (c.len-self-inside.ensures j) i.stored ++ c.truncate.ensures j) ∙ whole i.stored in
-    (λ j. record { terms = i.terms; names = i.names; stored = i.stored; list = all j; point = i.point }) ∙ ap (λ (e : ExamState). record e { list = e.stored }) c.self.view_is
+    let all : take c.len-self-inside.result i.stored ++ c.truncate.new.self ≡ i.stored =
+    (λ j. take (c.len-self-inside.ensures j) i.stored ++ c.truncate.ensures j) ∙ whole i.stored in
+    (λ j. record { terms = i.terms; names = i.names; stored = i.stored; list = all j; point = i.point })
+    ∙ ap (λ (e : ExamState). record e { list = e.stored }) c.self.view_is

@@ -32,4 +32,5 @@ returns-clause-after c =
     let from = ap (λ (x : ExamState). x.point) c.go_on.view_is in
     let many : c.args.n ≤ length e.list - e.point = omega (arith, point, c.len.ensures, c.if-left-n.false) in
     let steps : c.from-n.result ≡ c.args.n = c.from-n.ensures in
-    c.go_on-2.ensures ∙ (λ i. record e { point = from i + steps i }) ∙ sym (ap (left_by e) (forwarded-made e c.args.n many))
+    c.go_on-2.ensures ∙ (λ i. record e { point = from i + steps i })
+    ∙ sym (ap (left_by e) (forwarded-made e c.args.n many))

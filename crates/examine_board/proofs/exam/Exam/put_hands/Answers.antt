@@ -10,10 +10,14 @@ returns-in_ok-push-2 c =
     let e = c.args.self.now in
     let has : has_drops c.self.inside.terms.variant ≡ true = sym c.has_drops.ensures ∙ c.if-not-has_drops.false in
     let both : c.both.result.0.now ∷ c.in-Some.second.now ∷ [] ≡ boards_after e.terms (present e) =
-    subst (λ (x : ExamState). c.both.result.0.now ∷ c.in-Some.second.now ∷ [] ≡ boards_after x.terms (present x)) c.self.view_is
-    (ap (λ o. c.both.result.0.now ∷ option_to_list (option_copied o)) (sym c.in-Some.is) ∙ sym c.both.ensures ∙ c.self.invariant.boards) in
-    hands_of_two e c.args.lines.now c.push.new.self c.push-in-Some.new.self c.in_ok-hands_line.field-0 c.in_ok-hands_line-2.field-0 c.both.result.0.now c.in-Some.second.now both
-    (subst (λ (x : ExamState). has_drops x.terms.variant ≡ true) c.self.view_is has) c.in_ok-hands_line.ensures c.in_ok-hands_line-2.ensures c.in_ok-push.ensures.ok c.in_ok-push-2.ensures.ok
+    subst (λ (x : ExamState). c.both.result.0.now ∷ c.in-Some.second.now ∷ [] ≡ boards_after x.terms (present x))
+    c.self.view_is
+    (ap (λ o. c.both.result.0.now ∷ option_to_list (option_copied o)) (sym c.in-Some.is) ∙ sym c.both.ensures
+    ∙ c.self.invariant.boards) in
+    hands_of_two e c.args.lines.now c.push.new.self c.push-in-Some.new.self c.in_ok-hands_line.field-0
+    c.in_ok-hands_line-2.field-0 c.both.result.0.now c.in-Some.second.now both
+    (subst (λ (x : ExamState). has_drops x.terms.variant ≡ true) c.self.view_is has) c.in_ok-hands_line.ensures
+    c.in_ok-hands_line-2.ensures c.in_ok-push.ensures.ok c.in_ok-push-2.ensures.ok
 
 pub returns-in_default : goal.returns-in_default
 returns-in_default c =
@@ -21,6 +25,8 @@ returns-in_default c =
     let has : has_drops c.self.inside.terms.variant ≡ true = sym c.has_drops.ensures ∙ c.if-not-has_drops.false in
     let one : c.both.result.0.now ∷ [] ≡ boards_after e.terms (present e) =
     subst (λ (x : ExamState). c.both.result.0.now ∷ [] ≡ boards_after x.terms (present x)) c.self.view_is
-    (ap (λ o. c.both.result.0.now ∷ option_to_list (option_copied o)) (sym c.in_default.is) ∙ sym c.both.ensures ∙ c.self.invariant.boards) in
+    (ap (λ o. c.both.result.0.now ∷ option_to_list (option_copied o)) (sym c.in_default.is) ∙ sym c.both.ensures
+    ∙ c.self.invariant.boards) in
     hands_of_one e c.args.lines.now c.push.new.self c.in_ok-hands_line.field-0 c.both.result.0.now one
-    (subst (λ (x : ExamState). has_drops x.terms.variant ≡ true) c.self.view_is has) c.in_ok-hands_line.ensures c.in_ok-push.ensures.ok
+    (subst (λ (x : ExamState). has_drops x.terms.variant ≡ true) c.self.view_is has) c.in_ok-hands_line.ensures
+    c.in_ok-push.ensures.ok

@@ -13,7 +13,9 @@ invariant_of-self c =
       shared = c.self.invariant.shared;
       few = c.self.invariant.few;
       point = omega arith;
-      boards = c.rewind.ensures ∙ ap (λ (bs : List Board). map rewound bs) c.self.invariant.boards ∙ boards_rewound i.terms (take i.point (take i.shared i.stored ++ i.branch));
+      boards =
+          c.rewind.ensures ∙ ap (λ (bs : List Board). map rewound bs) c.self.invariant.boards
+          ∙ boards_rewound i.terms (take i.point (take i.shared i.stored ++ i.branch));
       stored = c.self.invariant.stored;
       list = c.self.invariant.list;
       names = c.self.invariant.names;

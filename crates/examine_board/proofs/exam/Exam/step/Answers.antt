@@ -11,26 +11,38 @@ use Rattle.desk_boards.proofs.Replayed.{chargeable}
 pub lay-requires-clause-there : goal.lay-requires-clause-there
 lay-requires-clause-there c =
     let i = c.self.inside in
-    let lies = subst (λ (e : ExamState). MayLie e.terms (take i.point e.list) c.half-half.result) (sym c.self.view_is) c.half-half.ensures.lies in
-    lay_board i.terms (take i.point (take i.shared i.stored ++ i.branch)) c.half-half.result c.in-Some.board i.boards (sym c.of.ensures ∙ c.in-Some.is) lies c.self.invariant.boards
+    let lies =
+    subst (λ (e : ExamState). MayLie e.terms (take i.point e.list) c.half-half.result) (sym c.self.view_is)
+    c.half-half.ensures.lies in
+    lay_board i.terms (take i.point (take i.shared i.stored ++ i.branch)) c.half-half.result c.in-Some.board i.boards
+    (sym c.of.ensures ∙ c.in-Some.is) lies c.self.invariant.boards
 
 pub lay-requires-clause-allowed : goal.lay-requires-clause-allowed
 lay-requires-clause-allowed c =
     let i = c.self.inside in
-    let lies = subst (λ (e : ExamState). MayLie e.terms (take i.point e.list) c.half-half.result) (sym c.self.view_is) c.half-half.ensures.lies in
-    lay_allowed i.terms (take i.point (take i.shared i.stored ++ i.branch)) c.half-half.result c.in-Some.board i.boards (sym c.of.ensures ∙ c.in-Some.is) lies c.self.invariant.boards
+    let lies =
+    subst (λ (e : ExamState). MayLie e.terms (take i.point e.list) c.half-half.result) (sym c.self.view_is)
+    c.half-half.ensures.lies in
+    lay_allowed i.terms (take i.point (take i.shared i.stored ++ i.branch)) c.half-half.result c.in-Some.board i.boards
+    (sym c.of.ensures ∙ c.in-Some.is) lies c.self.invariant.boards
 
 pub lay-requires-clause-room : goal.lay-requires-clause-room
 lay-requires-clause-room c =
     let i = c.self.inside in
-    let lies = subst (λ (e : ExamState). MayLie e.terms (take i.point e.list) c.half-half.result) (sym c.self.view_is) c.half-half.ensures.lies in
-    lay_room i.terms (take i.point (take i.shared i.stored ++ i.branch)) c.half-half.result c.in-Some.board i.boards (sym c.of.ensures ∙ c.in-Some.is) lies c.self.invariant.boards
+    let lies =
+    subst (λ (e : ExamState). MayLie e.terms (take i.point e.list) c.half-half.result) (sym c.self.view_is)
+    c.half-half.ensures.lies in
+    lay_room i.terms (take i.point (take i.shared i.stored ++ i.branch)) c.half-half.result c.in-Some.board i.boards
+    (sym c.of.ensures ∙ c.in-Some.is) lies c.self.invariant.boards
 
 pub lay-requires-clause-short : goal.lay-requires-clause-short
 lay-requires-clause-short c =
     let i = c.self.inside in
-    let lies = subst (λ (e : ExamState). MayLie e.terms (take i.point e.list) c.half-half.result) (sym c.self.view_is) c.half-half.ensures.lies in
-    lay_short i.terms (take i.point (take i.shared i.stored ++ i.branch)) c.half-half.result c.in-Some.board i.boards (sym c.of.ensures ∙ c.in-Some.is) lies c.self.invariant.boards
+    let lies =
+    subst (λ (e : ExamState). MayLie e.terms (take i.point e.list) c.half-half.result) (sym c.self.view_is)
+    c.half-half.ensures.lies in
+    lay_short i.terms (take i.point (take i.shared i.stored ++ i.branch)) c.half-half.result c.in-Some.board i.boards
+    (sym c.of.ensures ∙ c.in-Some.is) lies c.self.invariant.boards
 
 pub lay-requires-clause-sound : goal.lay-requires-clause-sound
 lay-requires-clause-sound c = chargeable c.half-half.result.charge c.half-half.ensures.lies.charge
@@ -40,9 +52,13 @@ invariant_of-self c =
     let i = c.self.inside in
     let list : List Half = take i.shared i.stored ++ i.branch in
     let h : Half = c.half-half.result in
-    let lies = subst (λ (e : ExamState). MayLie e.terms (take i.point e.list) h) (sym c.self.view_is) c.half-half.ensures.lies in
-    let there : slice_get list i.point ≡ Some h = subst (λ (e : ExamState). slice_get e.list i.point ≡ Some h) (sym c.self.view_is) c.half-half.ensures.half in
-    let new = laid i.terms (take i.point list) h c.in-Some.board i.boards (sym c.of.ensures ∙ c.in-Some.is) lies c.self.invariant.boards c.lay.new.self c.lay.ensures.after in
+    let lies =
+    subst (λ (e : ExamState). MayLie e.terms (take i.point e.list) h) (sym c.self.view_is) c.half-half.ensures.lies in
+    let there : slice_get list i.point ≡ Some h =
+    subst (λ (e : ExamState). slice_get e.list i.point ≡ Some h) (sym c.self.view_is) c.half-half.ensures.half in
+    let new =
+    laid i.terms (take i.point list) h c.in-Some.board i.boards (sym c.of.ensures ∙ c.in-Some.is) lies
+    c.self.invariant.boards c.lay.new.self c.lay.ensures.after in
     let low = slice_get_within list i.point h there in
     record {
       shared = c.self.invariant.shared;

@@ -18,4 +18,5 @@ invariant_of-result-2 c =
 pub returns : goal.returns
 returns c =
     let e = sym c.make_ascii_lowercase.ensures.after in
-    subst (λ (field : List ℕ). take c.self.inside.len field ≡ key_of c.args.self.now) e ((HoldsHandle-lowercase _ _ c.self.invariant).1 ∙ ap key_of c.self.view_is)
+    subst (λ (field : List ℕ). take c.self.inside.len field ≡ key_of c.args.self.now) e
+    ((HoldsHandle-lowercase _ _ c.self.invariant).1 ∙ ap key_of c.self.view_is)

@@ -6,7 +6,8 @@ pub invariant_of-self-2 : goal.invariant_of-self-2
 invariant_of-self-2 c =
     let long : c.len.result ≡ length c.self.inside.bytes.items = search rules in
     let end = c.len.result + length c.args.line.now in
-    AreEnds-pushed c.self.inside.bytes.items c.args.line.now c.self.inside.ends.items _ _ end c.self.invariant c.requires
+    AreEnds-pushed c.self.inside.bytes.items c.args.line.now c.self.inside.ends.items _ _ end c.self.invariant
+    c.requires
     c.in_ok-extend_from_slice.ensures.items
     (c.push_reserved.ensures.items ∙ ap (λ (l : List ℕ). l ++ end ∷ []) c.reserve.ensures.items)
     (ap (λ (n : ℕ). n + length c.args.line.now) long)

@@ -32,7 +32,17 @@ use Rattle.chess_model.proofs.LegalLists.{IsLegal-append}
 pub make-undo-requires : goal.make-undo-requires
 make-undo-requires c =
     let i = c.self.inside in
-    let e = position_of-stands i.position (record { number = i.number; terms = i.terms; list = i.list; begin = i.begin; kept = i.kept; played = i.played; resumed = i.resumed; all = made i.all }) c.self.invariant.stands c.self.invariant.variant
+    let e =
+    position_of-stands i.position (record {
+      number = i.number;
+      terms = i.terms;
+      list = i.list;
+      begin = i.begin;
+      kept = i.kept;
+      played = i.played;
+      resumed = i.resumed;
+      all = made i.all;
+    }) c.self.invariant.stands c.self.invariant.variant
     ∙ ap position_of c.self.view_is in
     subst (λ (p : Position). Allowed p c.args.half.now.what) (sym e) c.requires.allowed
 
@@ -40,25 +50,45 @@ make-undo-requires c =
 pub charge_clocks-requires-clause-white_room : goal.charge_clocks-requires-clause-white_room
 charge_clocks-requires-clause-white_room c = λ white.
     let is_mover = ap (λ (b : Board). mover_after b.list) c.self.view_is ∙ sym c.to_move-mover.ensures ∙ white in
-    let few : length c.self.inside.list < 1200 = omega (arith, c.self.invariant.counted, ap (λ (b : Board). b.played) c.self.view_is) in
-    subst (λ (k : Ledger). length k.charges < 600) (sym c.self.invariant.white) (has_room White c.self.inside.list is_mover few)
+    let few : length c.self.inside.list < 1200 =
+    omega (arith, c.self.invariant.counted, ap (λ (b : Board). b.played) c.self.view_is) in
+    subst (λ (k : Ledger). length k.charges < 600) (sym c.self.invariant.white)
+    (has_room White c.self.inside.list is_mover few)
 
 pub charge_clocks-requires-clause-black_room : goal.charge_clocks-requires-clause-black_room
 charge_clocks-requires-clause-black_room c = λ black.
     let is_mover = ap (λ (b : Board). mover_after b.list) c.self.view_is ∙ sym c.to_move-mover.ensures ∙ black in
-    let few : length c.self.inside.list < 1200 = omega (arith, c.self.invariant.counted, ap (λ (b : Board). b.played) c.self.view_is) in
-    subst (λ (k : Ledger). length k.charges < 600) (sym c.self.invariant.black) (has_room Black c.self.inside.list is_mover few)
+    let few : length c.self.inside.list < 1200 =
+    omega (arith, c.self.invariant.counted, ap (λ (b : Board). b.played) c.self.view_is) in
+    subst (λ (k : Ledger). length k.charges < 600) (sym c.self.invariant.black)
+    (has_room Black c.self.inside.list is_mover few)
 
 pub returns-clause-captured : goal.returns-clause-captured
 returns-clause-captured c =
     let i = c.self.inside in
     let same : i.position ≡ position_of c.args.self.now =
-    position_of-stands i.position (record { number = i.number; terms = i.terms; list = i.list; begin = i.begin; kept = i.kept; played = i.played; resumed = i.resumed; all = made i.all }) c.self.invariant.stands c.self.invariant.variant
+    position_of-stands i.position (record {
+      number = i.number;
+      terms = i.terms;
+      list = i.list;
+      begin = i.begin;
+      kept = i.kept;
+      played = i.played;
+      resumed = i.resumed;
+      all = made i.all;
+    }) c.self.invariant.stands c.self.invariant.variant
     ∙ ap position_of c.self.view_is in
     c.captured.ensures ∙ c.make-undo.ensures.captured ∙ ap (λ (p : Position). taken p.men c.args.half.now.what) same
 
 pub push-requires-3 : goal.push-requires-3
-push-requires-3 c = omega (arith, c.self.invariant.others, c.self.invariant.counted, ap (λ (b : Board). b.played) c.self.view_is, c.requires.room)
+push-requires-3 c =
+    omega (
+      arith,
+      c.self.invariant.others,
+      c.self.invariant.counted,
+      ap (λ (b : Board). b.played) c.self.view_is,
+      c.requires.room,
+    )
 
 pub invariant_of-self : goal.invariant_of-self
 unfolding position_of
@@ -70,16 +100,22 @@ invariant_of-self c =
     let v : Variant = i.terms.variant in
     let T : List HalfMove = made i.all in
     let one : HalfMove = half_move i.number half in
-    let is_mover : mover_after i.list ≡ c.to_move-mover.result = ap (λ (b : Board). mover_after b.list) c.self.view_is ∙ sym c.to_move-mover.ensures in
+    let is_mover : mover_after i.list ≡ c.to_move-mover.result =
+    ap (λ (b : Board). mover_after b.list) c.self.view_is ∙ sym c.to_move-mover.ensures in
     let grown : c.push-2.new.self ≡ i.list ++ half ∷ [] = c.push-2.ensures in
     let more : made c.push-3.new.self ≡ T ++ one ∷ [] =
-    ap made c.push-3.ensures ∙ map-append (λ (h : Made). record { board = h.board; what = h.what }) i.all (record { board = i.number; what = half.what } ∷ []) in
-    let old : i.position ≡ position_after v T i.number = c.self.invariant.stands.same ∙ ap (λ w. position_after w T i.number) c.self.invariant.variant in
+    ap made c.push-3.ensures
+    ∙ map-append (λ (h : Made). record { board = h.board; what = h.what }) i.all
+    (record { board = i.number; what = half.what } ∷ []) in
+    let old : i.position ≡ position_after v T i.number =
+    c.self.invariant.stands.same ∙ ap (λ w. position_after w T i.number) c.self.invariant.variant in
     let now : position_after v T i.number ≡ position_of c.args.self.now = ap position_of c.self.view_is in
-    let allowed : Allowed (position_after v T i.number) half.what = subst (λ (p : Position). Allowed p half.what) (sym now) c.requires.allowed in
+    let allowed : Allowed (position_after v T i.number) half.what =
+    subst (λ (p : Position). Allowed p half.what) (sym now) c.requires.allowed in
     let variant : q.variant ≡ v = c.make-undo.ensures.variant ∙ c.self.invariant.variant in
     let stands : Stands q (T ++ one ∷ []) i.number = c.make-undo.ensures.stands T i.number c.self.invariant.stands in
-    let new : q ≡ position_after v (T ++ one ∷ []) i.number = stands.same ∙ ap (λ w. position_after w (T ++ one ∷ []) i.number) variant in
+    let new : q ≡ position_after v (T ++ one ∷ []) i.number =
+    stands.same ∙ ap (λ w. position_after w (T ++ one ∷ []) i.number) variant in
     let shown : step.shown ≡ shown_of (position_after v T i.number) half.what =
     c.shown-shown.ensures ∙ ap (λ (p : Position). shown_of p half.what) (c.position.ensures ∙ sym now) in
     record {
@@ -87,28 +123,61 @@ invariant_of-self c =
       first = c.self.invariant.first;
       second = c.self.invariant.second;
       variant = variant;
-      legal = subst (λ (U : List HalfMove). IsLegal v U) (sym more) (IsLegal-append v T one c.self.invariant.legal allowed);
-      own = ap (moves_of i.number) more ∙ moves_of-same i.number T half.what ∙ ap (λ (ms : List Move). ms ++ half.what ∷ []) c.self.invariant.own
-          ∙ sym (map-append (λ (p : Played). p.what) i.list (half ∷ [])) ∙ ap (map (λ (p : Played). p.what)) (sym grown);
-      alone = λ h. more ∙ ap (λ (U : List HalfMove). U ++ one ∷ []) (c.self.invariant.alone h) ∙ sym (half_moves-append i.number i.list half) ∙ ap (half_moves i.number) (sym grown);
-      others = omega (arith, c.self.invariant.others, ap length grown, ap length c.push-3.ensures, length-append i.list (half ∷ []), length-append i.all (record { board = i.number; what = half.what } ∷ []));
-      white = c.charge_clocks.ensures.white ∙ clock_of-append i.terms White c.to_move-mover.result i.list half i.white c.self.invariant.white is_mover ∙ ap (clock_of i.terms White) (sym grown);
-      black = c.charge_clocks.ensures.black ∙ clock_of-append i.terms Black c.to_move-mover.result i.list half i.black c.self.invariant.black is_mover ∙ ap (clock_of i.terms Black) (sym grown);
+      legal =
+          subst (λ (U : List HalfMove). IsLegal v U) (sym more) (IsLegal-append v T one c.self.invariant.legal allowed);
+      own =
+          ap (moves_of i.number) more ∙ moves_of-same i.number T half.what
+          ∙ ap (λ (ms : List Move). ms ++ half.what ∷ []) c.self.invariant.own
+          ∙ sym (map-append (λ (p : Played). p.what) i.list (half ∷ []))
+          ∙ ap (map (λ (p : Played). p.what)) (sym grown);
+      alone = λ h.
+          more ∙ ap (λ (U : List HalfMove). U ++ one ∷ []) (c.self.invariant.alone h)
+          ∙ sym (half_moves-append i.number i.list half) ∙ ap (half_moves i.number) (sym grown);
+      others =
+          omega (
+            arith,
+            c.self.invariant.others,
+            ap length grown,
+            ap length c.push-3.ensures,
+            length-append i.list (half ∷ []),
+            length-append i.all (record { board = i.number; what = half.what } ∷ []),
+          );
+      white =
+          c.charge_clocks.ensures.white
+          ∙ clock_of-append i.terms White c.to_move-mover.result i.list half i.white c.self.invariant.white is_mover
+          ∙ ap (clock_of i.terms White) (sym grown);
+      black =
+          c.charge_clocks.ensures.black
+          ∙ clock_of-append i.terms Black c.to_move-mover.result i.list half i.black c.self.invariant.black is_mover
+          ∙ ap (clock_of i.terms Black) (sym grown);
       sound = subst (All (λ (p : Played). IfSome p.charge IsChargeable)) (sym grown)
           (All-append (λ (p : Played). IfSome p.charge IsChargeable) i.list (half ∷ []) c.self.invariant.sound
           (All-one (λ (p : Played). IfSome p.charge IsChargeable) half c.requires.sound));
       kept = tt;
-      each = omega (arith, c.self.invariant.each, ap length grown, ap length c.push.ensures, length-append i.list (half ∷ []), length-append i.steps (step ∷ []));
+      each =
+          omega (
+            arith,
+            c.self.invariant.each,
+            ap length grown,
+            ap length c.push.ensures,
+            length-append i.list (half ∷ []),
+            length-append i.steps (step ∷ []),
+          );
       shown = ap (λ (l : List Step). option_map (λ s. s.shown) (slice_get l (length l - 1))) c.push.ensures
           ∙ shown-append v i.number T i.list i.steps half step shown
           ∙ ap (λ (U : List HalfMove). last_shown v i.number U (i.list ++ half ∷ [])) (sym more)
           ∙ ap (λ (l : List Played). last_shown v i.number (made c.push-3.new.self) l) (sym grown);
       steps = λ h.
           let before : T ≡ half_moves i.number i.list = c.self.invariant.alone h in
-          let after : T ++ one ∷ [] ≡ half_moves i.number (i.list ++ half ∷ []) = ap (λ (U : List HalfMove). U ++ one ∷ []) before ∙ sym (half_moves-append i.number i.list half) in
-          let undo : IsUndoOf step.undo (position_after v (half_moves i.number i.list) i.number) (position_after v (half_moves i.number (i.list ++ half ∷ [])) i.number) =
-          subst (λ (p : Position). IsUndoOf step.undo p (position_after v (half_moves i.number (i.list ++ half ∷ [])) i.number)) (old ∙ ap (λ (U : List HalfMove). position_after v U i.number) before)
-          (subst (λ (p : Position). IsUndoOf step.undo i.position p) (new ∙ ap (λ (U : List HalfMove). position_after v U i.number) after) c.make-undo.ensures.undo) in
+          let after : T ++ one ∷ [] ≡ half_moves i.number (i.list ++ half ∷ []) =
+          ap (λ (U : List HalfMove). U ++ one ∷ []) before ∙ sym (half_moves-append i.number i.list half) in
+          let undo : IsUndoOf step.undo (position_after v (half_moves i.number i.list) i.number)
+          (position_after v (half_moves i.number (i.list ++ half ∷ [])) i.number) =
+          subst (λ (p : Position).
+          IsUndoOf step.undo p (position_after v (half_moves i.number (i.list ++ half ∷ [])) i.number))
+          (old ∙ ap (λ (U : List HalfMove). position_after v U i.number) before)
+          (subst (λ (p : Position). IsUndoOf step.undo i.position p)
+          (new ∙ ap (λ (U : List HalfMove). position_after v U i.number) after) c.make-undo.ensures.undo) in
           subst (λ (l : List Played). AreSteps v i.number l c.push.new.self) (sym grown)
           (subst (AreSteps v i.number (i.list ++ half ∷ [])) (sym c.push.ensures)
           (AreSteps-append v i.number i.list i.steps half step (c.self.invariant.steps h) undo

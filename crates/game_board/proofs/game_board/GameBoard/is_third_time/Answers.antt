@@ -15,9 +15,12 @@ unfolding position_of
 last_same-requires-clause-stands c =
     let b = c.args.self.now in
     let alone : b.all ≡ half_moves b.number b.list =
-    subst (λ (x : Board). x.terms.variant ≢ Bughouse → x.all ≡ half_moves x.number x.list) c.self.view_is c.self.invariant.alone (not_pair b.terms.variant c.requires) in
+    subst (λ (x : Board). x.terms.variant ≢ Bughouse → x.all ≡ half_moves x.number x.list) c.self.view_is
+    c.self.invariant.alone (not_pair b.terms.variant c.requires) in
     let many : c.len.result ≡ length b.list = c.len.ensures.value ∙ ap (λ (x : Board). length x.list) c.self.view_is in
-    c.duplicate-past.ensures ∙ c.position.ensures ∙ ap (λ (T : List HalfMove). position_after b.terms.variant T b.number) alone ∙ sym (position_at-all b.terms.variant b.number b.list)
+    c.duplicate-past.ensures ∙ c.position.ensures
+    ∙ ap (λ (T : List HalfMove). position_after b.terms.variant T b.number) alone
+    ∙ sym (position_at-all b.terms.variant b.number b.list)
     ∙ ap (position_at b.terms.variant b.number b.list) (sym many)
 
 pub returns-in-Some : goal.returns-in-Some
@@ -25,20 +28,31 @@ unfolding position_of
 returns-in-Some c =
     let b = c.args.self.now in
     let alone : b.all ≡ half_moves b.number b.list =
-    subst (λ (x : Board). x.terms.variant ≢ Bughouse → x.all ≡ half_moves x.number x.list) c.self.view_is c.self.invariant.alone (not_pair b.terms.variant c.requires) in
-    let is : position_of b ≡ position_after b.terms.variant (half_moves b.number b.list) b.number = ap (λ (T : List HalfMove). position_after b.terms.variant T b.number) alone in
+    subst (λ (x : Board). x.terms.variant ≢ Bughouse → x.all ≡ half_moves x.number x.list) c.self.view_is
+    c.self.invariant.alone (not_pair b.terms.variant c.requires) in
+    let is : position_of b ≡ position_after b.terms.variant (half_moves b.number b.list) b.number =
+    ap (λ (T : List HalfMove). position_after b.terms.variant T b.number) alone in
     let many : c.len.result ≡ length b.list = c.len.ensures.value ∙ ap (λ (x : Board). length x.list) c.self.view_is in
     let found = c.in-Some.ensures.found in
     let before : c.in-Some.second < length b.list = omega (arith, found.0, many) in
-    let same = subst (λ (q : Position). IsTrue (same_position q (position_at b.terms.variant b.number b.list c.in-Some.second))) is
+    let same =
+    subst (λ (q : Position). IsTrue (same_position q (position_at b.terms.variant b.number b.list c.in-Some.second))) is
     (subst (λ (q : Position). IsTrue (same_position (position_of b) q)) found.2 found.1) in
     c.is_some.ensures
     ∙ third_by b.terms.variant b.number b.list c.in-Some.second before same
-    (λ j from to h. c.in-Some.ensures.last j from (omega (arith, to, many)) (subst (λ (q : Position). IsTrue (same_position q (position_at b.terms.variant b.number b.list j))) (sym is) h))
+    (λ j from to h.
+    c.in-Some.ensures.last j from (omega (arith, to, many))
+    (subst (λ (q : Position). IsTrue (same_position q (position_at b.terms.variant b.number b.list j))) (sym is) h))
     c.last_same-in-Some.result c.last_same-in-Some.new.past
-    (subst (λ (q : Position). IfSome c.last_same-in-Some.result (λ k. (k < c.in-Some.second) × IsTrue (same_position q c.last_same-in-Some.new.past)
-    × (c.last_same-in-Some.new.past ≡ position_at b.terms.variant b.number b.list k))) is c.last_same-in-Some.ensures.found)
-    (subst (λ (q : Position). IfNone c.last_same-in-Some.result ((j : ℕ) → j < c.in-Some.second → ¬ IsTrue (same_position q (position_at b.terms.variant b.number b.list j)))) is
+    (subst (λ (q : Position).
+    IfSome c.last_same-in-Some.result
+    (λ k. (k < c.in-Some.second) × IsTrue (same_position q c.last_same-in-Some.new.past)
+    × (c.last_same-in-Some.new.past ≡ position_at b.terms.variant b.number b.list k))) is
+    c.last_same-in-Some.ensures.found)
+    (subst (λ (q : Position).
+    IfNone c.last_same-in-Some.result
+    ((j : ℕ) → j < c.in-Some.second → ¬ IsTrue (same_position q (position_at b.terms.variant b.number b.list j))))
+    is
     c.last_same-in-Some.ensures.none)
     ∙ ap (λ (T : List HalfMove). is_threefold b.terms.variant T b.number) (sym alone)
 
@@ -47,9 +61,13 @@ unfolding position_of
 returns-in-None c =
     let b = c.args.self.now in
     let alone : b.all ≡ half_moves b.number b.list =
-    subst (λ (x : Board). x.terms.variant ≢ Bughouse → x.all ≡ half_moves x.number x.list) c.self.view_is c.self.invariant.alone (not_pair b.terms.variant c.requires) in
-    let is : position_of b ≡ position_after b.terms.variant (half_moves b.number b.list) b.number = ap (λ (T : List HalfMove). position_after b.terms.variant T b.number) alone in
+    subst (λ (x : Board). x.terms.variant ≢ Bughouse → x.all ≡ half_moves x.number x.list) c.self.view_is
+    c.self.invariant.alone (not_pair b.terms.variant c.requires) in
+    let is : position_of b ≡ position_after b.terms.variant (half_moves b.number b.list) b.number =
+    ap (λ (T : List HalfMove). position_after b.terms.variant T b.number) alone in
     let many : c.len.result ≡ length b.list = c.len.ensures.value ∙ ap (λ (x : Board). length x.list) c.self.view_is in
     sym (ap (λ (T : List HalfMove). is_threefold b.terms.variant T b.number) alone ∙
-    is_not_third b.terms.variant b.number b.list (λ first second order before one two. c.in-None.ensures.none second (omega (arith, before, many))
-    (subst (λ (q : Position). IsTrue (same_position q (position_at b.terms.variant b.number b.list second))) (sym is) two)))
+    is_not_third b.terms.variant b.number b.list
+    (λ first second order before one two. c.in-None.ensures.none second (omega (arith, before, many))
+    (subst (λ (q : Position). IsTrue (same_position q (position_at b.terms.variant b.number b.list second))) (sym is)
+    two)))

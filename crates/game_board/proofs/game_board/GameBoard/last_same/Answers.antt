@@ -21,13 +21,23 @@ unmake-requires c =
     let k = c.loop-k.k in
     let step : Step = get_or c.as_slice.result.now (k - 1) c.index-as_slice-k.result in
     let all : AreSteps b.terms.variant b.number b.list i.steps =
-    subst (λ (x : Board). x.terms.variant ≢ Bughouse → AreSteps x.terms.variant x.number x.list i.steps) c.self.view_is c.self.invariant.steps (not_pair b.terms.variant c.requires.claims) in
+    subst (λ (x : Board). x.terms.variant ≢ Bughouse → AreSteps x.terms.variant x.number x.list i.steps) c.self.view_is
+    c.self.invariant.steps (not_pair b.terms.variant c.requires.claims) in
     let within : k - 1 < length c.as_slice.result.now =
-    omega (arith, ap length c.as_slice.ensures.items, all.each, c.requires.within, c.loop-k.invariant.within, c.loop-k-test.true) in
+    omega (
+      arith,
+      ap length c.as_slice.ensures.items,
+      all.each,
+      c.requires.within,
+      c.loop-k.invariant.within,
+      c.loop-k-test.true,
+    ) in
     let kept : slice_get i.steps (k - 1) ≡ Some step =
-    ap (λ (l : List Step). slice_get l (k - 1)) (sym c.as_slice.ensures.items) ∙ slice_get-get_or c.as_slice.result.now (k - 1) c.index-as_slice-k.result within in (
+    ap (λ (l : List Step). slice_get l (k - 1)) (sym c.as_slice.ensures.items)
+    ∙ slice_get-get_or c.as_slice.result.now (k - 1) c.index-as_slice-k.result within in (
       position_at b.terms.variant b.number b.list (k - 1),
-      undo_at b.terms.variant b.number b.list i.steps k step c.loop-k.past all (omega (arith, c.loop-k-test.true)) kept c.loop-k.invariant.past,
+      undo_at b.terms.variant b.number b.list i.steps k step c.loop-k.past all (omega (arith, c.loop-k-test.true)) kept
+          c.loop-k.invariant.past,
     )
 
 pub returns-then-is_same_position-clause-found : goal.returns-then-is_same_position-clause-found
@@ -37,15 +47,26 @@ returns-then-is_same_position-clause-found c =
     let k = c.loop-k.k in
     let step : Step = get_or c.as_slice.result.now (k - 1) c.index-as_slice-k.result in
     let all : AreSteps b.terms.variant b.number b.list i.steps =
-    subst (λ (x : Board). x.terms.variant ≢ Bughouse → AreSteps x.terms.variant x.number x.list i.steps) c.self.view_is c.self.invariant.steps (not_pair b.terms.variant c.requires.claims) in
+    subst (λ (x : Board). x.terms.variant ≢ Bughouse → AreSteps x.terms.variant x.number x.list i.steps) c.self.view_is
+    c.self.invariant.steps (not_pair b.terms.variant c.requires.claims) in
     let within : k - 1 < length c.as_slice.result.now =
-    omega (arith, ap length c.as_slice.ensures.items, all.each, c.requires.within, c.loop-k.invariant.within, c.loop-k-test.true) in
+    omega (
+      arith,
+      ap length c.as_slice.ensures.items,
+      all.each,
+      c.requires.within,
+      c.loop-k.invariant.within,
+      c.loop-k-test.true,
+    ) in
     let kept : slice_get i.steps (k - 1) ≡ Some step =
-    ap (λ (l : List Step). slice_get l (k - 1)) (sym c.as_slice.ensures.items) ∙ slice_get-get_or c.as_slice.result.now (k - 1) c.index-as_slice-k.result within in
+    ap (λ (l : List Step). slice_get l (k - 1)) (sym c.as_slice.ensures.items)
+    ∙ slice_get-get_or c.as_slice.result.now (k - 1) c.index-as_slice-k.result within in
     let undo : IsUndoOf step.undo (position_at b.terms.variant b.number b.list (k - 1)) c.loop-k.past =
-    undo_at b.terms.variant b.number b.list i.steps k step c.loop-k.past all (omega (arith, c.loop-k-test.true)) kept c.loop-k.invariant.past in (
+    undo_at b.terms.variant b.number b.list i.steps k step c.loop-k.past all (omega (arith, c.loop-k-test.true)) kept
+    c.loop-k.invariant.past in (
       omega (arith, c.loop-k.invariant.within, c.loop-k-test.true),
-      ap (λ (p : Position). same_position p c.unmake.new.self) (sym c.position.ensures) ∙ sym c.if-is_same_position.ensures,
+      ap (λ (p : Position). same_position p c.unmake.new.self) (sym c.position.ensures)
+          ∙ sym c.if-is_same_position.ensures,
       c.unmake.ensures (position_at b.terms.variant b.number b.list (k - 1)) undo,
     )
 
@@ -56,22 +77,35 @@ loop-k-preserved c =
     let k = c.loop-k.k in
     let step : Step = get_or c.as_slice.result.now (k - 1) c.index-as_slice-k.result in
     let all : AreSteps b.terms.variant b.number b.list i.steps =
-    subst (λ (x : Board). x.terms.variant ≢ Bughouse → AreSteps x.terms.variant x.number x.list i.steps) c.self.view_is c.self.invariant.steps (not_pair b.terms.variant c.requires.claims) in
+    subst (λ (x : Board). x.terms.variant ≢ Bughouse → AreSteps x.terms.variant x.number x.list i.steps) c.self.view_is
+    c.self.invariant.steps (not_pair b.terms.variant c.requires.claims) in
     let within : k - 1 < length c.as_slice.result.now =
-    omega (arith, ap length c.as_slice.ensures.items, all.each, c.requires.within, c.loop-k.invariant.within, c.loop-k-test.true) in
+    omega (
+      arith,
+      ap length c.as_slice.ensures.items,
+      all.each,
+      c.requires.within,
+      c.loop-k.invariant.within,
+      c.loop-k-test.true,
+    ) in
     let kept : slice_get i.steps (k - 1) ≡ Some step =
-    ap (λ (l : List Step). slice_get l (k - 1)) (sym c.as_slice.ensures.items) ∙ slice_get-get_or c.as_slice.result.now (k - 1) c.index-as_slice-k.result within in
+    ap (λ (l : List Step). slice_get l (k - 1)) (sym c.as_slice.ensures.items)
+    ∙ slice_get-get_or c.as_slice.result.now (k - 1) c.index-as_slice-k.result within in
     let undo : IsUndoOf step.undo (position_at b.terms.variant b.number b.list (k - 1)) c.loop-k.past =
-    undo_at b.terms.variant b.number b.list i.steps k step c.loop-k.past all (omega (arith, c.loop-k-test.true)) kept c.loop-k.invariant.past in
+    undo_at b.terms.variant b.number b.list i.steps k step c.loop-k.past all (omega (arith, c.loop-k-test.true)) kept
+    c.loop-k.invariant.past in
     let past = c.unmake.ensures (position_at b.terms.variant b.number b.list (k - 1)) undo in
     let other : same_position (position_of b) (position_at b.terms.variant b.number b.list (k - 1)) ≡ false =
-    ap (same_position (position_of b)) (sym past) ∙ ap (λ (p : Position). same_position p c.unmake.new.self) (sym c.position.ensures)
+    ap (same_position (position_of b)) (sym past)
+    ∙ ap (λ (p : Position). same_position p c.unmake.new.self) (sym c.position.ensures)
     ∙ sym c.if-is_same_position.ensures in
     record {
       within = omega (arith, c.loop-k.invariant.within);
       past = past;
       none = λ j from to same. elim (cases_eq j (k - 1)) [
-        | inl here ↦ unlike (sym same ∙ (ap (λ n. same_position (position_of b) (position_at b.terms.variant b.number b.list n)) here ∙ other))
+        | inl here ↦
+            unlike (sym same
+            ∙ (ap (λ n. same_position (position_of b) (position_at b.terms.variant b.number b.list n)) here ∙ other))
         | inr later ↦ c.loop-k.invariant.none j (omega (arith, from, later)) to same
       ];
     }

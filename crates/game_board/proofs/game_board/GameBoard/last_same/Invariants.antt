@@ -9,7 +9,8 @@ abbrev pub invariant-loop-k : goal.invariant-loop-k
 invariant-loop-k l = record {
   within : l.k ≤ l.from;
   past : l.past ≡ position_at l.self.terms.variant l.self.number l.self.list l.k;
-  none : (j : ℕ) → l.k ≤ j → j < l.from → ¬ IsTrue (same_position (position_of l.self) (position_at l.self.terms.variant l.self.number l.self.list j));
+  none : (j : ℕ) → l.k ≤ j → j < l.from
+      → ¬ IsTrue (same_position (position_of l.self) (position_at l.self.terms.variant l.self.number l.self.list j));
 }
 
 abbrev pub decreases-loop-k : goal.decreases-loop-k

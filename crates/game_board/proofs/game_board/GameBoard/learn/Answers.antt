@@ -30,7 +30,8 @@ give-requires-clause-not_king c =
     let legal : IsLegal Bughouse T = subst (λ (w : Variant). IsLegal w T) pair c.self.invariant.legal in
     let there : position_after Bughouse T (other_board i.number) ≡ partner_position c.args.self.now =
     ap (λ (w : Variant). position_after w T (other_board i.number)) (sym pair) ∙ ap partner_position c.self.view_is in
-    let allowed : Allowed (position_after Bughouse T (other_board i.number)) c.args.what = subst (λ (p : Position). Allowed p c.args.what) (sym there) c.requires.allowed in
+    let allowed : Allowed (position_after Bughouse T (other_board i.number)) c.args.what =
+    subst (λ (p : Position). Allowed p c.args.what) (sym there) c.requires.allowed in
     let man_is : c.args.man ≡ taken (position_after Bughouse T (other_board i.number)).men c.args.what =
     c.requires.captured ∙ sym (ap (λ (p : Position). taken p.men c.args.what) there) in
     not_king_if T (other_board i.number) c.args.what c.args.man legal allowed man_is
@@ -43,17 +44,29 @@ give-requires-clause-room c =
     let legal : IsLegal Bughouse T = subst (λ (w : Variant). IsLegal w T) pair c.self.invariant.legal in
     let there : position_after Bughouse T (other_board i.number) ≡ partner_position c.args.self.now =
     ap (λ (w : Variant). position_after w T (other_board i.number)) (sym pair) ∙ ap partner_position c.self.view_is in
-    let allowed : Allowed (position_after Bughouse T (other_board i.number)) c.args.what = subst (λ (p : Position). Allowed p c.args.what) (sym there) c.requires.allowed in
+    let allowed : Allowed (position_after Bughouse T (other_board i.number)) c.args.what =
+    subst (λ (p : Position). Allowed p c.args.what) (sym there) c.requires.allowed in
     let man_is : c.args.man ≡ taken (position_after Bughouse T (other_board i.number)).men c.args.what =
     c.requires.captured ∙ sym (ap (λ (p : Position). taken p.men c.args.what) there) in
-    let old : i.position ≡ position_after Bughouse T i.number = c.self.invariant.stands.same ∙ ap (λ (w : Variant). position_after w T i.number) (c.self.invariant.variant ∙ pair) in
-    room_if i.position T i.number c.args.what c.args.man old c.self.invariant.first c.self.invariant.second legal allowed man_is
+    let old : i.position ≡ position_after Bughouse T i.number =
+    c.self.invariant.stands.same
+    ∙ ap (λ (w : Variant). position_after w T i.number) (c.self.invariant.variant ∙ pair) in
+    room_if i.position T i.number c.args.what c.args.man old c.self.invariant.first c.self.invariant.second legal
+    allowed man_is
 
 pub push-requires : goal.push-requires
 push-requires c =
     let i = c.self.inside in
     let many : length (made i.all) ≡ length i.all = length-made i.all in
-    omega (arith, c.requires.room, many, ap (λ (b : Board). length b.all) c.self.view_is, ap (λ (b : Board). length b.list) c.self.view_is, c.self.invariant.counted, c.self.invariant.most)
+    omega (
+      arith,
+      c.requires.room,
+      many,
+      ap (λ (b : Board). length b.all) c.self.view_is,
+      ap (λ (b : Board). length b.list) c.self.view_is,
+      c.self.invariant.counted,
+      c.self.invariant.most,
+    )
 
 pub invariant_of-self : goal.invariant_of-self
 invariant_of-self c =
@@ -63,24 +76,35 @@ invariant_of-self c =
     let legal : IsLegal Bughouse T = subst (λ (w : Variant). IsLegal w T) pair c.self.invariant.legal in
     let there : position_after Bughouse T (other_board i.number) ≡ partner_position c.args.self.now =
     ap (λ (w : Variant). position_after w T (other_board i.number)) (sym pair) ∙ ap partner_position c.self.view_is in
-    let allowed : Allowed (position_after Bughouse T (other_board i.number)) c.args.what = subst (λ (p : Position). Allowed p c.args.what) (sym there) c.requires.allowed in
+    let allowed : Allowed (position_after Bughouse T (other_board i.number)) c.args.what =
+    subst (λ (p : Position). Allowed p c.args.what) (sym there) c.requires.allowed in
     let man_is : c.args.man ≡ taken (position_after Bughouse T (other_board i.number)).men c.args.what =
     c.requires.captured ∙ sym (ap (λ (p : Position). taken p.men c.args.what) there) in
     let v : Variant = i.terms.variant in
     let far : HalfMove = record { board = other_board i.number; what = c.args.what } in
     let more : made c.push.new.self ≡ T ++ far ∷ [] =
-    ap made c.push.ensures ∙ map-append (λ (h : Made). record { board = h.board; what = h.what }) i.all (record { board = other_board i.number; what = c.args.what } ∷ []) in
+    ap made c.push.ensures
+    ∙ map-append (λ (h : Made). record { board = h.board; what = h.what }) i.all
+    (record { board = other_board i.number; what = c.args.what } ∷ []) in
     let stands : Stands c.give.new.position (T ++ far ∷ []) i.number =
     subst (λ (q : Position). Stands q (T ++ far ∷ []) i.number) (sym c.give.ensures)
-    (Stands-other i.position T i.number c.args.what c.args.man (c.self.invariant.variant ∙ pair) man_is c.self.invariant.stands) in
+    (Stands-other i.position T i.number c.args.what c.args.man (c.self.invariant.variant ∙ pair) man_is
+    c.self.invariant.stands) in
     let many : length (made i.all) ≡ length i.all = length-made i.all in
     record {
       stands = subst (λ (U : List HalfMove). Stands c.give.new.position U i.number) (sym more) stands;
       first = c.self.invariant.first;
       second = c.self.invariant.second;
-      variant = ap (λ (q : Position). q.variant) c.give.ensures ∙ with_captured-variant i.position c.args.man ∙ c.self.invariant.variant;
-      legal = subst (IsLegal v) (sym more) (subst (λ (w : Variant). IsLegal w (T ++ far ∷ [])) (sym pair) (IsLegal-append Bughouse T far legal allowed));
-      own = ap (moves_of i.number) more ∙ moves_of-other (other_board i.number) i.number T c.args.what (boards_differ i.number) ∙ c.self.invariant.own;
+      variant =
+          ap (λ (q : Position). q.variant) c.give.ensures ∙ with_captured-variant i.position c.args.man
+          ∙ c.self.invariant.variant;
+      legal =
+          subst (IsLegal v) (sym more)
+          (subst (λ (w : Variant). IsLegal w (T ++ far ∷ [])) (sym pair) (IsLegal-append Bughouse T far legal allowed));
+      own =
+          ap (moves_of i.number) more
+          ∙ moves_of-other (other_board i.number) i.number T c.args.what (boards_differ i.number)
+          ∙ c.self.invariant.own;
       alone = λ h. absurd (h pair);
       others = omega (
         arith,
@@ -97,8 +121,12 @@ invariant_of-self c =
       kept = c.self.invariant.kept;
       each = c.self.invariant.each;
       shown = c.self.invariant.shown
-          ∙ ap (λ (U : List HalfMove). option_map (λ (p : Played). shown_of (position_after v U i.number) p.what) (slice_get i.list (length i.list - 1)))
-          (sym (ap (before_own i.number) more ∙ before_own-other i.number (other_board i.number) T c.args.what (boards_differ i.number)));
+          ∙ ap
+          (λ (U : List HalfMove).
+          option_map (λ (p : Played). shown_of (position_after v U i.number) p.what)
+          (slice_get i.list (length i.list - 1)))
+          (sym (ap (before_own i.number) more
+          ∙ before_own-other i.number (other_board i.number) T c.args.what (boards_differ i.number)));
       steps = λ h. absurd (h pair);
       counted = c.self.invariant.counted;
       most = c.self.invariant.most;

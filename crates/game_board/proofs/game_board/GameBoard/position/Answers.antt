@@ -6,5 +6,14 @@ use Rattle.game_board.proofs.game_board.GameBoard.position.Goals as goal
 pub returns : goal.returns
 returns c =
     let i = c.self.inside in
-    position_of-stands i.position (record { number = i.number; terms = i.terms; list = i.list; begin = i.begin; kept = i.kept; played = i.played; resumed = i.resumed; all = made i.all }) c.self.invariant.stands c.self.invariant.variant
+    position_of-stands i.position (record {
+      number = i.number;
+      terms = i.terms;
+      list = i.list;
+      begin = i.begin;
+      kept = i.kept;
+      played = i.played;
+      resumed = i.resumed;
+      all = made i.all;
+    }) c.self.invariant.stands c.self.invariant.variant
     ∙ ap position_of c.self.view_is

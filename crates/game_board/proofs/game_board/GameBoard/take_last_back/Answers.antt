@@ -25,16 +25,21 @@ unmake-requires c =
     let before : List Step = c.pop-2.new.self in
     let half : Played = c.in-Some.half in
     let step : Step = c.in-Some-pop.step in
-    let single : i.terms.variant ≢ Bughouse = λ e. c.requires.variant (sym (ap (λ (b : Board). b.terms.variant) c.self.view_is) ∙ e) in
+    let single : i.terms.variant ≢ Bughouse = λ e.
+    c.requires.variant (sym (ap (λ (b : Board). b.terms.variant) c.self.view_is) ∙ e) in
     let alone : made i.all ≡ half_moves i.number i.list = c.self.invariant.alone single in
     let steps : AreSteps i.terms.variant i.number (rest ++ half ∷ []) (before ++ step ∷ []) =
     subst (λ (l : List Played). AreSteps i.terms.variant i.number l (before ++ step ∷ [])) c.in-Some.ensures.last
     (subst (AreSteps i.terms.variant i.number i.list) c.in-Some-pop.ensures.last (c.self.invariant.steps single)) in
     let now : i.position ≡ position_after i.terms.variant (half_moves i.number (rest ++ half ∷ [])) i.number =
-    position_after-stands i.position i.terms.variant i.number i.list (subst (λ (T : List HalfMove). Stands i.position T i.number) alone c.self.invariant.stands) c.self.invariant.variant
-    ∙ ap (λ (l : List Played). position_after i.terms.variant (half_moves i.number l) i.number) c.in-Some.ensures.last in (
+    position_after-stands i.position i.terms.variant i.number i.list
+    (subst (λ (T : List HalfMove). Stands i.position T i.number) alone c.self.invariant.stands) c.self.invariant.variant
+    ∙ ap (λ (l : List Played). position_after i.terms.variant (half_moves i.number l) i.number)
+    c.in-Some.ensures.last in (
       position_after i.terms.variant (half_moves i.number rest) i.number,
-      subst (λ (q : Position). IsUndoOf step.undo (position_after i.terms.variant (half_moves i.number rest) i.number) q) (sym now)
+      subst
+          (λ (q : Position). IsUndoOf step.undo (position_after i.terms.variant (half_moves i.number rest) i.number) q)
+          (sym now)
           (last_undo i.terms.variant i.number rest half before step steps),
     )
 
@@ -44,8 +49,10 @@ take_charge_off-requires-clause-white_has c =
     let rest : List Played = c.pop.new.self in
     let half : Played = c.in-Some.half in
     let to_move : c.to_move.result ≡ mover_after (rest ++ half ∷ []) =
-    c.to_move.ensures ∙ sym (ap (λ (b : Board). mover_after b.list) c.self.view_is) ∙ ap mover_after c.in-Some.ensures.last in
-    has_charge i.terms White c.opposite-mover.result rest half i.white (c.self.invariant.white ∙ ap (clock_of i.terms White) c.in-Some.ensures.last)
+    c.to_move.ensures ∙ sym (ap (λ (b : Board). mover_after b.list) c.self.view_is)
+    ∙ ap mover_after c.in-Some.ensures.last in
+    has_charge i.terms White c.opposite-mover.result rest half i.white
+    (c.self.invariant.white ∙ ap (clock_of i.terms White) c.in-Some.ensures.last)
     (last_mover rest half c.to_move.result c.opposite-mover.result to_move c.opposite-mover.ensures)
 
 pub take_charge_off-requires-clause-black_has : goal.take_charge_off-requires-clause-black_has
@@ -54,8 +61,10 @@ take_charge_off-requires-clause-black_has c =
     let rest : List Played = c.pop.new.self in
     let half : Played = c.in-Some.half in
     let to_move : c.to_move.result ≡ mover_after (rest ++ half ∷ []) =
-    c.to_move.ensures ∙ sym (ap (λ (b : Board). mover_after b.list) c.self.view_is) ∙ ap mover_after c.in-Some.ensures.last in
-    has_charge i.terms Black c.opposite-mover.result rest half i.black (c.self.invariant.black ∙ ap (clock_of i.terms Black) c.in-Some.ensures.last)
+    c.to_move.ensures ∙ sym (ap (λ (b : Board). mover_after b.list) c.self.view_is)
+    ∙ ap mover_after c.in-Some.ensures.last in
+    has_charge i.terms Black c.opposite-mover.result rest half i.black
+    (c.self.invariant.black ∙ ap (clock_of i.terms Black) c.in-Some.ensures.last)
     (last_mover rest half c.to_move.result c.opposite-mover.result to_move c.opposite-mover.ensures)
 
 pub invariant_of-self-2 : goal.invariant_of-self-2
@@ -65,31 +74,42 @@ invariant_of-self-2 c =
     let before : List Step = c.pop-2.new.self in
     let half : Played = c.in-Some.half in
     let step : Step = c.in-Some-pop.step in
-    let single : i.terms.variant ≢ Bughouse = λ e. c.requires.variant (sym (ap (λ (b : Board). b.terms.variant) c.self.view_is) ∙ e) in
+    let single : i.terms.variant ≢ Bughouse = λ e.
+    c.requires.variant (sym (ap (λ (b : Board). b.terms.variant) c.self.view_is) ∙ e) in
     let alone : made i.all ≡ half_moves i.number i.list = c.self.invariant.alone single in
     let steps : AreSteps i.terms.variant i.number (rest ++ half ∷ []) (before ++ step ∷ []) =
     subst (λ (l : List Played). AreSteps i.terms.variant i.number l (before ++ step ∷ [])) c.in-Some.ensures.last
     (subst (AreSteps i.terms.variant i.number i.list) c.in-Some-pop.ensures.last (c.self.invariant.steps single)) in
     let now : i.position ≡ position_after i.terms.variant (half_moves i.number (rest ++ half ∷ [])) i.number =
-    position_after-stands i.position i.terms.variant i.number i.list (subst (λ (T : List HalfMove). Stands i.position T i.number) alone c.self.invariant.stands) c.self.invariant.variant
-    ∙ ap (λ (l : List Played). position_after i.terms.variant (half_moves i.number l) i.number) c.in-Some.ensures.last in
+    position_after-stands i.position i.terms.variant i.number i.list
+    (subst (λ (T : List HalfMove). Stands i.position T i.number) alone c.self.invariant.stands) c.self.invariant.variant
+    ∙ ap (λ (l : List Played). position_after i.terms.variant (half_moves i.number l) i.number)
+    c.in-Some.ensures.last in
     let back : c.unmake.new.self ≡ position_after i.terms.variant (half_moves i.number rest) i.number =
     c.unmake.ensures (position_after i.terms.variant (half_moves i.number rest) i.number)
-    (subst (λ (q : Position). IsUndoOf step.undo (position_after i.terms.variant (half_moves i.number rest) i.number) q) (sym now)
+    (subst (λ (q : Position). IsUndoOf step.undo (position_after i.terms.variant (half_moves i.number rest) i.number) q)
+    (sym now)
     (last_undo i.terms.variant i.number rest half before step steps)) in
     let legal : IsLegal i.terms.variant (half_moves i.number rest) =
-    IsLegal-shorter i.terms.variant i.number rest half (subst (λ (l : List Played). IsLegal i.terms.variant (half_moves i.number l)) c.in-Some.ensures.last (subst (IsLegal i.terms.variant) alone c.self.invariant.legal)) in
+    IsLegal-shorter i.terms.variant i.number rest half
+    (subst (λ (l : List Played). IsLegal i.terms.variant (half_moves i.number l)) c.in-Some.ensures.last
+    (subst (IsLegal i.terms.variant) alone c.self.invariant.legal)) in
     let left : made c.pop-made.new.self ≡ half_moves i.number rest =
-    ap made c.pop-made.ensures.rest ∙ made_left i.number i.all rest half (alone ∙ ap (half_moves i.number) c.in-Some.ensures.last) in
-    let own : moves_of i.number (made c.pop-made.new.self) ≡ map (λ (p : Played). p.what) rest = ap (moves_of i.number) left ∙ moves_of-half_moves i.number rest in
-    let shorter : AreSteps i.terms.variant i.number rest before = AreSteps-shorter i.terms.variant i.number rest half before step steps in
+    ap made c.pop-made.ensures.rest
+    ∙ made_left i.number i.all rest half (alone ∙ ap (half_moves i.number) c.in-Some.ensures.last) in
+    let own : moves_of i.number (made c.pop-made.new.self) ≡ map (λ (p : Played). p.what) rest =
+    ap (moves_of i.number) left ∙ moves_of-half_moves i.number rest in
+    let shorter : AreSteps i.terms.variant i.number rest before =
+    AreSteps-shorter i.terms.variant i.number rest half before step steps in
     let to_move : c.to_move.result ≡ mover_after (rest ++ half ∷ []) =
-    c.to_move.ensures ∙ sym (ap (λ (b : Board). mover_after b.list) c.self.view_is) ∙ ap mover_after c.in-Some.ensures.last in
+    c.to_move.ensures ∙ sym (ap (λ (b : Board). mover_after b.list) c.self.view_is)
+    ∙ ap mover_after c.in-Some.ensures.last in
     let is_mover = last_mover rest half c.to_move.result c.opposite-mover.result to_move c.opposite-mover.ensures in
     let many : length i.list ≡ length rest + 1 = ap length c.in-Some.ensures.last ∙ length-append rest (half ∷ []) in
     record {
       stands = subst (λ (T : List HalfMove). Stands c.unmake.new.self T i.number) (sym left)
-          (subst (λ (q : Position). Stands q (half_moves i.number rest) i.number) (sym back) (Stands-legal i.terms.variant i.number rest legal));
+          (subst (λ (q : Position). Stands q (half_moves i.number rest) i.number) (sym back)
+          (Stands-legal i.terms.variant i.number rest legal));
       first = c.self.invariant.first;
       second = c.self.invariant.second;
       variant = ap (λ (q : Position). q.variant) back;
@@ -101,10 +121,17 @@ invariant_of-self-2 c =
       each = shorter.each;
       shown = last_shown-steps i.terms.variant i.number rest before shorter
           ∙ ap (λ (T : List HalfMove). last_shown i.terms.variant i.number T rest) (sym left);
-      white = c.take_charge_off.ensures.white ∙ clock_of-shorter i.terms White c.opposite-mover.result rest half i.white (c.self.invariant.white ∙ ap (clock_of i.terms White) c.in-Some.ensures.last) is_mover;
-      black = c.take_charge_off.ensures.black ∙ clock_of-shorter i.terms Black c.opposite-mover.result rest half i.black (c.self.invariant.black ∙ ap (clock_of i.terms Black) c.in-Some.ensures.last) is_mover;
+      white =
+          c.take_charge_off.ensures.white
+          ∙ clock_of-shorter i.terms White c.opposite-mover.result rest half i.white
+          (c.self.invariant.white ∙ ap (clock_of i.terms White) c.in-Some.ensures.last) is_mover;
+      black =
+          c.take_charge_off.ensures.black
+          ∙ clock_of-shorter i.terms Black c.opposite-mover.result rest half i.black
+          (c.self.invariant.black ∙ ap (clock_of i.terms Black) c.in-Some.ensures.last) is_mover;
       sound = λ k d h. subst (λ (p : Played). IfSome p.charge IsChargeable) (get_or_append_left rest (half ∷ []) d k h)
-          (subst (All (λ (p : Played). IfSome p.charge IsChargeable)) c.in-Some.ensures.last c.self.invariant.sound k d (omega (arith, h, length-append rest (half ∷ []))));
+          (subst (All (λ (p : Played). IfSome p.charge IsChargeable)) c.in-Some.ensures.last c.self.invariant.sound k d
+          (omega (arith, h, length-append rest (half ∷ []))));
       kept = c.self.invariant.kept;
       steps = λ h. shorter;
       counted = omega (arith, many, c.self.invariant.counted);

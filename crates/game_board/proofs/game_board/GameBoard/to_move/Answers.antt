@@ -7,5 +7,14 @@ pub returns : goal.returns
 returns c =
     let i = c.self.inside in
     c.to_move.ensures
-    ∙ to_move-stands i.position (record { number = i.number; terms = i.terms; list = i.list; begin = i.begin; kept = i.kept; played = i.played; resumed = i.resumed; all = made i.all }) c.self.invariant.stands c.self.invariant.variant c.self.invariant.own
+    ∙ to_move-stands i.position (record {
+      number = i.number;
+      terms = i.terms;
+      list = i.list;
+      begin = i.begin;
+      kept = i.kept;
+      played = i.played;
+      resumed = i.resumed;
+      all = made i.all;
+    }) c.self.invariant.stands c.self.invariant.variant c.self.invariant.own
     ∙ ap to_move c.self.view_is

@@ -12,5 +12,8 @@ returns-clause-ok c =
     let w = c.try_run.new.pass in
     let timed : Timed = record { moment = c.args.moment; act = c.args.act } in
     subst (λ (r : Ran). CameTo c.args.pass.now timed r (pass_state w c.pass.inside.short)) (sym c.ran_of.ensures)
-    (subst (λ (p : PassState). CameTo p timed (ran_of c.in_ok-tried.tried c.try_run.new.reply) (pass_state w c.pass.inside.short)) c.pass.view_is
-    (came c.pass.inside.pass w e.same c.pass.invariant.whole c.pass.inside.short timed c.in_ok-tried.tried c.try_run.new.reply c.in_ok-tried.ensures.ok))
+    (subst (λ (p : PassState).
+    CameTo p timed (ran_of c.in_ok-tried.tried c.try_run.new.reply) (pass_state w c.pass.inside.short))
+    c.pass.view_is
+    (came c.pass.inside.pass w e.same c.pass.invariant.whole c.pass.inside.short timed c.in_ok-tried.tried
+    c.try_run.new.reply c.in_ok-tried.ensures.ok))

@@ -9,5 +9,6 @@ together-requires-clause-both c =
     let act = c.args.act.now.act in
     let one = c.deref_mut.ensures.value ∙ c.one.view_is in
     let two = c.deref_mut-2.ensures.value ∙ c.two.view_is in
-    lends_second lent.0 c.args.session act c.deref_mut.result.now c.deref_mut-2.result.now lent.1 lent.2 c.requires.fits.act (lent.3 ∙ ap Some (sym one))
+    lends_second lent.0 c.args.session act c.deref_mut.result.now c.deref_mut-2.result.now lent.1 lent.2
+    c.requires.fits.act (lent.3 ∙ ap Some (sym one))
     (ap (λ p. second_part p c.args.session act) one ∙ lent.4) (lent.5 ∙ ap Some (sym two))

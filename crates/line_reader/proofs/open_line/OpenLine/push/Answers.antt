@@ -8,4 +8,7 @@ returns-then-self-lt-ROOM-clause-grown c =
     ∙ ap (λ (l : List ℕ). take 1034 (l ++ c.args.byte ∷ [])) c.self.view_is
 
 pub returns-else-self-lt-ROOM-clause-grown : goal.returns-else-self-lt-ROOM-clause-grown
-returns-else-self-lt-ROOM-clause-grown c = full_stays c.args.self.now c.args.byte (omega (arith, c.self.invariant.1, sym (ap length c.self.view_is), length-take c.self.inside.len c.self.inside.bytes))
+returns-else-self-lt-ROOM-clause-grown c =
+    full_stays c.args.self.now c.args.byte
+    (omega
+    (arith, c.self.invariant.1, sym (ap length c.self.view_is), length-take c.self.inside.len c.self.inside.bytes))

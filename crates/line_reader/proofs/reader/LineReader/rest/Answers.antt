@@ -7,7 +7,12 @@ use Rattle.std.proofs.lemmas.Result.{IfOk-weaker}
 
 pub returns : goal.returns
 returns c =
-    IfOk-weaker c.read_rest.result (λ rest. rest ≡ rest_reading c.bytes.result.now) (λ rest. rest ≡ rest_of c.args.self.now [])
-    (λ rest e. e ∙ rest_all c.self.inside.cutter c.duplicate-cutter.result c.pass_all.new.cutter c.self.inside.looked_at c.self.inside.fed.items c.as_slice.result.now c.bytes.result.now c.args.self.now
-    c.self.view_is c.duplicate-cutter.ensures c.as_slice.ensures.value c.pass_all.ensures c.bytes.ensures.kept c.bytes.ensures.bytes)
+    IfOk-weaker c.read_rest.result (λ rest. rest ≡ rest_reading c.bytes.result.now)
+    (λ rest. rest ≡ rest_of c.args.self.now [])
+    (λ rest e.
+    e
+    ∙ rest_all c.self.inside.cutter c.duplicate-cutter.result c.pass_all.new.cutter c.self.inside.looked_at
+    c.self.inside.fed.items c.as_slice.result.now c.bytes.result.now c.args.self.now
+    c.self.view_is c.duplicate-cutter.ensures c.as_slice.ensures.value c.pass_all.ensures c.bytes.ensures.kept
+    c.bytes.ensures.bytes)
     c.read_rest.ensures

@@ -11,5 +11,6 @@ returns-clause-seated c =
     let seats : length players ≡ c.args.self.now.offers.seats =
     sym c.self.invariant.seated ∙ ap (λ (g : GameState). g.offers.seats) c.self.view_is in
     let below : IfSome c.number.result (λ seat. seat < length players) =
-    subst (λ (o : Option ℕ). IfSome o (λ seat. seat < length players)) (sym c.number.ensures) (seat_number-below c.args.session players) in
+    subst (λ (o : Option ℕ). IfSome o (λ seat. seat < length players)) (sym c.number.ensures)
+    (seat_number-below c.args.session players) in
     subst (λ (n : ℕ). IfSome c.number.result (λ seat. seat < n)) seats below

@@ -6,7 +6,8 @@ pub loop-place-preserved : goal.loop-place-preserved
 loop-place-preserved g c =
     let next = c.next.ensures.steps in
     let place = c.loop-place._place in
-    let left : drop place c.args.self.now ≡ c.in-Some.item.now ∷ c.next.new.self = sym c.loop-place.invariant.left ∙ search rules in
+    let left : drop place c.args.self.now ≡ c.in-Some.item.now ∷ c.next.new.self =
+    sym c.loop-place.invariant.left ∙ search rules in
     record {
       copied = c.in_ok-push.ensures.ok
           ∙ ap (λ zs. zs ++ c.in_ok-duplicate.field-0 ∷ []) c.loop-place.invariant.copied

@@ -4,7 +4,8 @@ use Rattle.lobby_shelf.proofs.cells.Cells.retain.Given as goal
 
 abbrev pub invariant-loop-item : goal.invariant-loop-item
 invariant-loop-item g l = record {
-  kept : l.self-inside.items ++ filter (g.P.Predicate.passes l.test) l.rest ≡ filter (g.P.Predicate.passes l.test) l.fn.self;
+  kept : l.self-inside.items ++ filter (g.P.Predicate.passes l.test) l.rest
+      ≡ filter (g.P.Predicate.passes l.test) l.fn.self;
   few : length l.self-inside.items + length l.rest ≤ l.count;
 }
 

@@ -14,8 +14,10 @@ invariant_of-self c =
       made = c.self.inside.made;
       requests = c.self.inside.requests;
     } in
-    let unused = subst (λ (s : ShelfState). is_used s.games c.args.number ≡ false) (sym c.self.view_is) c.requires.unused in
+    let unused =
+    subst (λ (s : ShelfState). is_used s.games c.args.number ≡ false) (sym c.self.view_is) c.requires.unused in
     let room = subst (λ (s : ShelfState). length s.games < most_stored) (sym c.self.view_is) c.requires.room in
     subst (λ (games : List Shelved). IsShelf (record shelf { games = games })) (sym c.insert.ensures)
-    (IsShelf-with_stored shelf c.args.number c.args.game c.requires.positive c.ranges.number.fits unused room c.requires.replays
+    (IsShelf-with_stored shelf c.args.number c.args.game c.requires.positive c.ranges.number.fits unused room
+    c.requires.replays
     c.self.invariant)

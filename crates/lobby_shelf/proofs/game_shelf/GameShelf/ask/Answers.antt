@@ -17,7 +17,8 @@ invariant_of-self c =
     } in
     let new : Request = record { by = c.args.by; game = c.args.game } in
     let same : c.append.new.self ≡ shelf.requests ++ new ∷ [] =
-    request_behind shelf.requests c.asking.inside.cell c.append.new.self new c.asking.invariant (c.asking.view_is ∙ c.requires.request) c.append.ensures in
+    request_behind shelf.requests c.asking.inside.cell c.append.new.self new c.asking.invariant
+    (c.asking.view_is ∙ c.requires.request) c.append.ensures in
     let there = subst (λ (s : ShelfState). is_used s.games c.args.game ≡ true) (sym c.self.view_is) c.requires.stored in
     let none : asks shelf c.args.by c.args.game ≡ false =
     ap (λ (s : ShelfState). asks s c.args.by c.args.game) c.self.view_is ∙ sym c.if-asks.ensures in

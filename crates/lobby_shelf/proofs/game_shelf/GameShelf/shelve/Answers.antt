@@ -23,14 +23,18 @@ invariant_of-self c =
       requests = c.self.inside.requests;
     } in
     let game = c.args.saving.game in
-    let order : c.args.saving.order ≡ game_order shelf game = c.requires.order ∙ ap (λ (s : ShelfState). game_order s game) (sym c.self.view_is) in
+    let order : c.args.saving.order ≡ game_order shelf game =
+    c.requires.order ∙ ap (λ (s : ShelfState). game_order s game) (sym c.self.view_is) in
     let orders : c.append.new.self ≡ shelf.orders ++ game_order shelf game ∷ [] =
-    order_behind shelf.orders c.order.inside.cell c.append.new.self (game_order shelf game) c.order.invariant (c.order.view_is ∙ order) c.append.ensures in
+    order_behind shelf.orders c.order.inside.cell c.append.new.self (game_order shelf game) c.order.invariant
+    (c.order.view_is ∙ order) c.append.ensures in
     let games : c.insert.new.self ≡ with_game (record { number = next_number shelf.games; game = game }) shelf.games =
     c.insert.ensures
     ∙ ap (λ (n : ℕ). with_game (record { number = n; game = game }) shelf.games) c.next_number-number.ensures.number in
     let place = subst (λ (s : ShelfState). length s.games < most_stored) (sym c.self.view_is) c.requires.place in
-    subst (λ (rows : List Shelved). IsShelf (record shelf { games = rows; orders = c.append.new.self; made = shelf.made + 1 })) (sym games)
+    subst (λ (rows : List Shelved).
+    IsShelf (record shelf { games = rows; orders = c.append.new.self; made = shelf.made + 1 }))
+    (sym games)
     (subst (λ (rows : List Order). IsShelf (record shelf {
       games = with_game (record { number = next_number shelf.games; game = game }) shelf.games;
       orders = rows;

@@ -18,9 +18,11 @@ invariant_of-self c =
       requests = c.self.inside.requests;
     } in
     let number = c.args.number in
-    let order : c.args.saving ≡ removal_order shelf number = c.requires.order ∙ ap (λ (s : ShelfState). removal_order s number) (sym c.self.view_is) in
+    let order : c.args.saving ≡ removal_order shelf number =
+    c.requires.order ∙ ap (λ (s : ShelfState). removal_order s number) (sym c.self.view_is) in
     let orders : c.append.new.self ≡ shelf.orders ++ removal_order shelf number ∷ [] =
-    order_behind shelf.orders c.saving.inside.cell c.append.new.self (removal_order shelf number) c.saving.invariant (c.saving.view_is ∙ order) c.append.ensures in
+    order_behind shelf.orders c.saving.inside.cell c.append.new.self (removal_order shelf number) c.saving.invariant
+    (c.saving.view_is ∙ order) c.append.ensures in
     subst (λ (rows : List Shelved). IsShelf (record shelf {
       games = rows;
       orders = c.append.new.self;

@@ -24,7 +24,8 @@ returns-then-row-number c =
     let lookup = c.in_ok-row.ensures.lookup in
     let at : slice_get c.args.self.now c.place.result ≡ Some c.in_ok-row.row.now =
     subst (λ l. slice_get l c.place.result ≡ Some c.in_ok-row.row.now) same
-    (slice_get_read c.deref.result.now (length c.deref.result.now) c.place.result c.in_ok-row.row.now refl (ltb-true _ _ (sym lookup.0)) lookup.1) in
+    (slice_get_read c.deref.result.now (length c.deref.result.now) c.place.result c.in_ok-row.row.now refl
+    (ltb-true _ _ (sym lookup.0)) lookup.1) in
     let found = subst (λ r. FoundAt c.args.number c.args.self.now r) at
     (subst (λ k. FoundAt c.args.number c.args.self.now (slice_get c.args.self.now k)) (sym c.place.ensures.place)
     (found_at c.args.number 0 c.args.self.now rise)) in
@@ -37,7 +38,8 @@ returns-else-row-number c =
     let lookup = c.in_ok-row.ensures.lookup in
     let at : slice_get c.args.self.now c.place.result ≡ Some c.in_ok-row.row.now =
     subst (λ l. slice_get l c.place.result ≡ Some c.in_ok-row.row.now) same
-    (slice_get_read c.deref.result.now (length c.deref.result.now) c.place.result c.in_ok-row.row.now refl (ltb-true _ _ (sym lookup.0)) lookup.1) in
+    (slice_get_read c.deref.result.now (length c.deref.result.now) c.place.result c.in_ok-row.row.now refl
+    (ltb-true _ _ (sym lookup.0)) lookup.1) in
     let found = subst (λ r. FoundAt c.args.number c.args.self.now r) at
     (subst (λ k. FoundAt c.args.number c.args.self.now (slice_get c.args.self.now k)) (sym c.place.ensures.place)
     (found_at c.args.number 0 c.args.self.now rise)) in

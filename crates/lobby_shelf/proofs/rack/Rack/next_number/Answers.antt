@@ -21,7 +21,9 @@ loop-low-preserved-then-row-middle c =
     let all = ap (λ (l : List Shelved). length l) c.self.view_is in
     let here : seen.number ≡ middle + 1 = c.if-row-middle.true in
     let at : seen.number ≡ (get_or games middle seen).number = ap (λ (row : Shelved). row.number) c.index-row.ensures in
-    let behind = gap_behind number_of (2 ^ 64) 0 games middle seen c.self.invariant.order (omega (arith, test, within, all)) (omega (arith, here, at)) in
+    let behind =
+    gap_behind number_of (2 ^ 64) 0 games middle seen c.self.invariant.order (omega (arith, test, within, all))
+    (omega (arith, here, at)) in
     let same = ap next_number c.self.view_is in
     record { within = within; least = omega (arith, behind, same); most = c.loop-low.invariant.most }
 
@@ -35,9 +37,15 @@ loop-low-preserved c =
     let all = ap (λ (l : List Shelved). length l) c.self.view_is in
     let at : seen.number ≡ (get_or games middle seen).number = ap (λ (row : Shelved). row.number) c.index-row.ensures in
     let before = gap_before number_of 0 games middle seen (omega (arith, test, within, all))
-    (λ e. c.if-row-middle.false (let same : (get_or games middle seen).number ≡ 0 + 1 + middle = e in omega (arith, at, same))) in
+    (λ e.
+    c.if-row-middle.false
+    (let same : (get_or games middle seen).number ≡ 0 + 1 + middle = e in omega (arith, at, same))) in
     let same = ap next_number c.self.view_is in
-    record { within = omega (arith, test, within); least = c.loop-low.invariant.least; most = omega (arith, before, same) }
+    record {
+      within = omega (arith, test, within);
+      least = c.loop-low.invariant.least;
+      most = omega (arith, before, same);
+    }
 
 pub returns-clause-number : goal.returns-clause-number
 returns-clause-number c =

@@ -26,7 +26,9 @@ remove-requires c =
     let at : c.place-place.result ≡ length (filter (is_below n) games) =
     c.place-place.ensures.place ∙ ap (λ (l : List Shelved). length (filter (is_below n) l)) (sym c.self.view_is) in
     let found = c.get.ensures ∙ ap (find (has_number n)) (sym c.self.view_is) in
-    let within = (removed_at games n c.place-place.result c.get.result c.self.invariant.order found (ap not (c.is_none.ensures ∙ ap not c.if-is_none.false)) at).0 in
+    let within =
+    (removed_at games n c.place-place.result c.get.result c.self.invariant.order found
+    (ap not (c.is_none.ensures ∙ ap not c.if-is_none.false)) at).0 in
     omega (arith, len, within)
 
 pub remove-requires-2 : goal.remove-requires-2
@@ -34,11 +36,14 @@ remove-requires-2 c =
     let games = c.self.inside.games.items in
     let n = c.args.number in
     let marks_len : vec_len c.self.inside.marks ≡ length c.self.inside.marks.items = search rules in
-    let marked = marks_len ∙ ap (λ (l : List PlayerMarks). length l) c.self.invariant.marks ∙ length-map games marks_row in
+    let marked =
+    marks_len ∙ ap (λ (l : List PlayerMarks). length l) c.self.invariant.marks ∙ length-map games marks_row in
     let at : c.place-place.result ≡ length (filter (is_below n) games) =
     c.place-place.ensures.place ∙ ap (λ (l : List Shelved). length (filter (is_below n) l)) (sym c.self.view_is) in
     let found = c.get.ensures ∙ ap (find (has_number n)) (sym c.self.view_is) in
-    let within = (removed_at games n c.place-place.result c.get.result c.self.invariant.order found (ap not (c.is_none.ensures ∙ ap not c.if-is_none.false)) at).0 in
+    let within =
+    (removed_at games n c.place-place.result c.get.result c.self.invariant.order found
+    (ap not (c.is_none.ensures ∙ ap not c.if-is_none.false)) at).0 in
     omega (arith, marked, within)
 
 pub returns : goal.returns
@@ -49,7 +54,8 @@ returns c =
     c.place-place.ensures.place ∙ ap (λ (l : List Shelved). length (filter (is_below n) l)) (sym c.self.view_is) in
     let found = c.get.ensures ∙ ap (find (has_number n)) (sym c.self.view_is) in
     c.remove.ensures.items
-    ∙ (removed_at games n c.place-place.result c.get.result c.self.invariant.order found (ap not (c.is_none.ensures ∙ ap not c.if-is_none.false)) at).1
+    ∙ (removed_at games n c.place-place.result c.get.result c.self.invariant.order found
+    (ap not (c.is_none.ensures ∙ ap not c.if-is_none.false)) at).1
     ∙ ap (without_game n) c.self.view_is
 
 pub invariant_of-self : goal.invariant_of-self
@@ -60,7 +66,8 @@ invariant_of-self c =
     c.place-place.ensures.place ∙ ap (λ (l : List Shelved). length (filter (is_below n) l)) (sym c.self.view_is) in
     let found = c.get.ensures ∙ ap (find (has_number n)) (sym c.self.view_is) in
     let gone = c.remove.ensures.items
-    ∙ (removed_at games n c.place-place.result c.get.result c.self.invariant.order found (ap not (c.is_none.ensures ∙ ap not c.if-is_none.false)) at).1 in
+    ∙ (removed_at games n c.place-place.result c.get.result c.self.invariant.order found
+    (ap not (c.is_none.ensures ∙ ap not c.if-is_none.false)) at).1 in
     let shorter = c.remove.ensures.len in
     let within = c.self.invariant.within in
     let fewer = c.remove-2.ensures.len in
@@ -68,7 +75,8 @@ invariant_of-self c =
     record {
       within = omega (arith, shorter, within);
       room = subst (λ (n : ℕ). most_stored ≤ n) (sym c.remove.ensures.capacity) c.self.invariant.room;
-      order = subst AreInOrder (sym gone) (RiseAbove-filter (λ row. not (has_number n row)) 0 games c.self.invariant.order);
+      order =
+          subst AreInOrder (sym gone) (RiseAbove-filter (λ row. not (has_number n row)) 0 games c.self.invariant.order);
       marks = c.remove-2.ensures.items
           ∙ ap (λ l. remove l c.place-place.result) c.self.invariant.marks
           ∙ remove-map marks_row games c.place-place.result

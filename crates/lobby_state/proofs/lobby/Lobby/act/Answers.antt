@@ -8,7 +8,8 @@ use Rattle.lobby_state.proofs.lobby.Lobby.act.Goals as goal
 pub invariant_of-self : goal.invariant_of-self
 invariant_of-self c =
     let lobby = c.self.inside.roster in
-    holds_taken IsWellFormed lobby (lobby_effect lobby c.args.session c.args.act.now) c.act.new.self c.act.result c.self.invariant
+    holds_taken IsWellFormed lobby (lobby_effect lobby c.args.session c.args.act.now) c.act.new.self c.act.result
+    c.self.invariant
     (λ none. (keeps_act lobby c.args.session c.args.act.now).kept.formed c.requires none c.self.invariant) c.act.ensures
 
 pub act-requires-clause-numbers : goal.act-requires-clause-numbers

@@ -25,8 +25,10 @@ put_name-requires-clause-new c =
 -- where there is no memory for the name, the member is taken back
 back : (c : Joined-remove) → c.remove.new.self ≡ c.self.inside.rows
 back c =
-    c.remove.ensures.rest ∙ ap (filter (λ (other : Member). not (c.args.member.session == other.session))) c.in_ok-push.ensures.ok
-    ∙ taken_back c.self.inside.rows c.args.member (ap (find (is_session c.args.member.session)) c.self.view_is ∙ c.requires.session)
+    c.remove.ensures.rest
+    ∙ ap (filter (λ (other : Member). not (c.args.member.session == other.session))) c.in_ok-push.ensures.ok
+    ∙ taken_back c.self.inside.rows c.args.member
+    (ap (find (is_session c.args.member.session)) c.self.view_is ∙ c.requires.session)
 
 pub invariant_of-self-in-Err : goal.invariant_of-self-in-Err
 invariant_of-self-in-Err c = record {
@@ -40,9 +42,17 @@ returns-in-Err-clause-err c = back c ∙ c.self.view_is
 
 pub invariant_of-self-in_default : goal.invariant_of-self-in_default
 invariant_of-self-in_default c = record {
-  within = omega (arith, ap length c.in_ok-push.ensures.ok, length-push c.self.inside.rows c.args.member, ap length c.self.view_is, c.requires.room);
+  within =
+      omega (
+        arith,
+        ap length c.in_ok-push.ensures.ok,
+        length-push c.self.inside.rows c.args.member,
+        ap length c.self.view_is,
+        c.requires.room,
+      );
   names = c.in_default.ensures.ok ∙ ap (with_row (row_of c.args.member)) c.self.invariant.names
       ∙ sym (with_rows-push [] c.self.inside.rows c.args.member) ∙ ap (with_rows []) (sym c.in_ok-push.ensures.ok);
   apart = subst AreNamedApart (sym c.in_ok-push.ensures.ok)
-      (apart-push c.self.inside.rows c.args.member c.self.invariant.apart (ap (find (has_handle (key_of c.args.member.name))) c.self.view_is ∙ c.requires.handle));
+      (apart-push c.self.inside.rows c.args.member c.self.invariant.apart
+      (ap (find (has_handle (key_of c.args.member.name))) c.self.view_is ∙ c.requires.handle));
 }

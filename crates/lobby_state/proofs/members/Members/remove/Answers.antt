@@ -14,8 +14,10 @@ invariant_of-self c =
     let left = fewer (λ (member : Member). not (c.args.session == member.session)) c.self.inside.rows in
     record {
       within = omega (arith, ap length c.remove.ensures.rest, left, c.self.invariant.within);
-      names = c.retain.ensures ∙ ap (filter (λ (row : NameRow). not (c.args.session == row.session))) c.self.invariant.names
+      names =
+          c.retain.ensures ∙ ap (filter (λ (row : NameRow). not (c.args.session == row.session))) c.self.invariant.names
           ∙ filter-with_rows (λ row. not (c.args.session == row.session)) [] c.self.inside.rows none_in_order
           ∙ ap (with_rows []) (sym c.remove.ensures.rest);
-      apart = subst AreNamedApart (sym c.remove.ensures.rest) (apart-filter _ c.self.inside.rows c.self.invariant.apart);
+      apart =
+          subst AreNamedApart (sym c.remove.ensures.rest) (apart-filter _ c.self.inside.rows c.self.invariant.apart);
     }

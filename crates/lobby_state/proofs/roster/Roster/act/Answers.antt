@@ -6,5 +6,6 @@ use Rattle.lobby_state.proofs.roster.Roster.act.Goals as goal
 
 pub returns-in-Enter : goal.returns-in-Enter
 returns-in-Enter c =
-    subst (λ (act : LobbyAct). Takes (lobby_effect c.args.self.now c.args.session act) c.args.self.now c.enter.new.self c.enter.result)
+    subst (λ (act : LobbyAct).
+    Takes (lobby_effect c.args.self.now c.args.session act) c.args.self.now c.enter.new.self c.enter.result)
     (sym c.in-Enter.is) c.enter.ensures

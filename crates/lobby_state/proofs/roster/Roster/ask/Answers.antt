@@ -31,11 +31,19 @@ returns c =
     } in
     let from = c.args.from in
     let to = c.args.to in
-    let ready : c.args.ready ≡ asking_for lobby from to c.args.number = subst (λ (l : LobbyState). c.args.ready ≡ asking_for l from to c.args.number) (sym c.self.view_is) c.requires.is in
+    let ready : c.args.ready ≡ asking_for lobby from to c.args.number =
+    subst (λ (l : LobbyState). c.args.ready ≡ asking_for l from to c.args.number) (sym c.self.view_is) c.requires.is in
     let lines : c.in-Asking.lines ≡ with_one_more (ask_line lobby from) (waiting_of lobby to) =
-    same_lines c.in-Asking.request (record { by = from; game = c.args.number }) c.in-Asking.lines (with_one_more (ask_line lobby from) (waiting_of lobby to)) (sym c.in-Asking.is ∙ ready) in
+    same_lines c.in-Asking.request (record {
+      by = from;
+      game = c.args.number;
+    }) c.in-Asking.lines (with_one_more (ask_line lobby from) (waiting_of lobby to)) (sym c.in-Asking.is ∙ ready) in
     let told : c.put_lines.new.members ≡ change_first (is_session to) (with_line (ask_line lobby from)) lobby.members =
     c.put_lines.ensures ∙ lines-put (ask_line lobby from) c.in-Asking.lines (is_session to) lobby.members lines in
     ap (λ (members : List Member). record lobby { members = members; shelf = c.ask.new.self }) told
-    ∙ ap (λ (shelf : ShelfState). record lobby { members = change_first (is_session to) (with_line (ask_line lobby from)) lobby.members; shelf = shelf }) c.ask.ensures
+    ∙ ap
+    (λ (shelf : ShelfState).
+    record lobby
+    { members = change_first (is_session to) (with_line (ask_line lobby from)) lobby.members; shelf = shelf })
+    c.ask.ensures
     ∙ ap (λ (l : LobbyState). asked_of l from to c.args.number) c.self.view_is

@@ -10,4 +10,6 @@ pub returns : goal.returns
 returns c =
     let p = λ (row : NameRow). is_in c.self.inside.channels row.session c.args.channel in
     subst (λ (names : List (List ℕ)). IfOk c.lines_in.result (λ lines. lines ≡ names))
-    (ap (λ rows. map name_of (filter p rows)) c.names.ensures ∙ names_that p c.self.inside.members ∙ ap (λ l. in_channel_lines l c.args.channel) c.self.view_is) c.lines_in.ensures
+    (ap (λ rows. map name_of (filter p rows)) c.names.ensures ∙ names_that p c.self.inside.members
+    ∙ ap (λ l. in_channel_lines l c.args.channel) c.self.view_is)
+    c.lines_in.ensures

@@ -8,4 +8,5 @@ pub saving_of_removal-requires-clause-positive : goal.saving_of_removal-requires
 saving_of_removal-requires-clause-positive c =
     let lobby = c.args.self.now in
     let can = subst (λ (plan : Plan). IsPlanned lobby plan) c.in-Resume.is c.requires.planned in
-    used-positive lobby.shelf.games c.in-Resume.number c.requires.formed.shelf.sound.numbers (used-stored lobby.shelf.games c.in-Resume.number can.game can.lies)
+    used-positive lobby.shelf.games c.in-Resume.number c.requires.formed.shelf.sound.numbers
+    (used-stored lobby.shelf.games c.in-Resume.number can.game can.lies)

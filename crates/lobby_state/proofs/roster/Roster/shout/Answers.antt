@@ -8,5 +8,6 @@ say-requires-clause-wording c = IsWording-shouts
 
 pub returns : goal.returns
 returns c =
-    shouts c.args.self.now c.say.new.self c.args.session c.in_ok-told.told c.args.text.now c.bytes.result.now c.in-Some.caller.now
+    shouts c.args.self.now c.say.new.self c.args.session c.in_ok-told.told c.args.text.now c.bytes.result.now
+    c.in-Some.caller.now
     (sym c.in-Some.ensures) c.in_ok-told.ensures.told c.bytes.ensures.bytes c.in_ok-told.ensures.ok

@@ -7,4 +7,5 @@ use Rattle.lobby_state.proofs.roster.Roster.who_lines.Goals as goal
 pub returns : goal.returns
 returns c =
     subst (λ (names : List (List ℕ)). IfOk c.lines_of.result (λ lines. lines ≡ names))
-    (ap (map name_of) c.names.ensures ∙ names_in_order c.self.inside.members ∙ ap who_lines c.self.view_is) c.lines_of.ensures
+    (ap (map name_of) c.names.ensures ∙ names_in_order c.self.inside.members ∙ ap who_lines c.self.view_is)
+    c.lines_of.ensures

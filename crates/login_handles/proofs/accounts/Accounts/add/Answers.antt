@@ -20,5 +20,7 @@ invariant_of-self-2 c =
     ap (λ (l : List Account). account_of l (key_of c.args.name)) c.self.view_is
     ∙ ap (account_of c.args.self.now) (sym c.key.ensures)
     ∙ no_account _ _ c.get.ensures (sym c.is_some.ensures ∙ c.if-is_some.false) in
-    subst AreAccounts (sym (c.in_ok-push.ensures.ok))
-    (HasOneEach-append rows _ c.self.invariant.0 found, length-one_more rows _ (omega (arith, c.if-len-ge-MOST.false, c.len.ensures)))
+    subst AreAccounts (sym (c.in_ok-push.ensures.ok)) (
+      HasOneEach-append rows _ c.self.invariant.0 found,
+      length-one_more rows _ (omega (arith, c.if-len-ge-MOST.false, c.len.ensures)),
+    )

@@ -6,7 +6,8 @@ use Rattle.memory_edges.proofs.Tables.{IsAscending-without, from_sorted-without}
 use Rattle.memory_edges.proofs.mem_keeper.MemKeeperKeeper.remove.Goals as goal
 
 pub invariant_of-self-2 : goal.invariant_of-self-2
-invariant_of-self-2 c = subst IsAscending (sym c.remove_pair.ensures) (IsAscending-without c.args.key.now _ c.self.invariant)
+invariant_of-self-2 c =
+    subst IsAscending (sym c.remove_pair.ensures) (IsAscending-without c.args.key.now _ c.self.invariant)
 
 pub returns-clause-removed : goal.returns-clause-removed
 returns-clause-removed c =

@@ -8,7 +8,8 @@ pub unwrap-requires : goal.unwrap-requires
 unwrap-requires c =
     let text = take c.self.inside.len c.self.inside.bytes in
     let some : 0 < length text = subst (λ (t : List ℕ). 0 < length t) (sym c.self.view_is) c.requires in
-    c.of.ensures.readable.1 (IsMoveText-from_shows text some (omega (arith, length-take c.self.inside.len c.self.inside.bytes)) c.self.invariant.1)
+    c.of.ensures.readable.1 (IsMoveText-from_shows text some
+    (omega (arith, length-take c.self.inside.len c.self.inside.bytes)) c.self.invariant.1)
 
 pub returns-clause-unbroken : goal.returns-clause-unbroken
 returns-clause-unbroken c =

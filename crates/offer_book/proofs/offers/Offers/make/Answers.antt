@@ -9,7 +9,9 @@ pub add-requires : goal.add-requires
 add-requires c =
     let book : OfferBook = record { seats = c.self.inside.seats; standing = c.self.inside.rows } in
     let seated = subst (λ (b : OfferBook). c.args.seat < b.seats) (sym c.self.view_is) c.requires.seated in
-    let lacking = subst (λ (b : OfferBook). stands b.standing c.args.seat c.args.offer ≡ false) (sym c.self.view_is) c.requires.lacking in
+    let lacking =
+    subst (λ (b : OfferBook). stands b.standing c.args.seat c.args.offer ≡ false) (sym c.self.view_is)
+    c.requires.lacking in
     AreOffers-few (where_stand (with_offer c.args.seat c.args.offer book.standing) book)
     (AreOffers-with_offer c.args.seat c.args.offer book c.self.invariant seated lacking)
 
@@ -17,7 +19,9 @@ pub invariant_of-self : goal.invariant_of-self
 invariant_of-self c =
     let book : OfferBook = record { seats = c.self.inside.seats; standing = c.self.inside.rows } in
     let seated = subst (λ (b : OfferBook). c.args.seat < b.seats) (sym c.self.view_is) c.requires.seated in
-    let lacking = subst (λ (b : OfferBook). stands b.standing c.args.seat c.args.offer ≡ false) (sym c.self.view_is) c.requires.lacking in
+    let lacking =
+    subst (λ (b : OfferBook). stands b.standing c.args.seat c.args.offer ≡ false) (sym c.self.view_is)
+    c.requires.lacking in
     subst (λ (rows : List StandingOffer). AreOffers (where_stand rows book))
     (sym (c.settle.ensures.after ∙ ap (settled book.seats c.args.offer) c.add.ensures))
     (AreOffers-settled c.args.seat c.args.offer book c.self.invariant seated lacking)

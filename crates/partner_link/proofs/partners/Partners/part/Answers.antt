@@ -5,4 +5,5 @@ use Rattle.partner_link.proofs.partners.Partners.part.Goals as goal
 
 pub invariant_of-self : goal.invariant_of-self
 invariant_of-self c =
-    subst AreLinks (sym c.keep_links.ensures) (AreLinks-filter (λ link. not (is_of c.args.who link)) c.self.inside.links c.self.invariant)
+    subst AreLinks (sym c.keep_links.ensures)
+    (AreLinks-filter (λ link. not (is_of c.args.who link)) c.self.inside.links c.self.invariant)

@@ -11,9 +11,12 @@ returns-clause-next c =
     let none = c.in_default.is in
     let advanced = c.advance-2.ensures in
     let none_found : c.in_ok-game.field-0.game ≡ None = cc in
-    let new_is : c.advance-2.new.self ≡ facing c.read.new.self (drop c.in_ok-game.field-0.read c.args.self.now.rest) = cc in
+    let new_is : c.advance-2.new.self ≡ facing c.read.new.self (drop c.in_ok-game.field-0.read c.args.self.now.rest) =
+    cc in
     subst (λ (step : PgnStep). IsNext c.args.self.now step c.advance-2.new.self) (sym c.told-step.ensures)
-    (none_is_next c.args.self.now c.advance-2.new.self c.in_ok-game.field-0.game c.read.new.self (drop c.in_ok-game.field-0.read c.args.self.now.rest)
-    (has_read c.args.self.now c.in_ok-scan.scan c.read.new.self c.rest.result.now c.in_ok-game.field-0.read c.in_ok-game.field-0.game c.in_ok-scan.ensures c.rest.ensures
+    (none_is_next c.args.self.now c.advance-2.new.self c.in_ok-game.field-0.game c.read.new.self
+    (drop c.in_ok-game.field-0.read c.args.self.now.rest)
+    (has_read c.args.self.now c.in_ok-scan.scan c.read.new.self c.rest.result.now c.in_ok-game.field-0.read
+    c.in_ok-game.field-0.game c.in_ok-scan.ensures c.rest.ensures
     c.in_ok-game.ensures.goes_on c.in_ok-game.ensures.all)
     none_found new_is)

@@ -7,18 +7,27 @@ use Rattle.pgn_book.proofs.scan.Scan.read.Goals as goal
 pub returns-in-Some-clause-goes_on : goal.returns-in-Some-clause-goes_on
 returns-in-Some-clause-goes_on c =
     let below : c.loop-read.read < length c.args.bytes.now = search rules in
-    (game_ended (facing c.args.self.now c.args.bytes.now) c.loop-read.self c.take.new.self c.args.bytes.now c.loop-read.read c.in-Some.game
+    (game_ended (facing c.args.self.now c.args.bytes.now) c.loop-read.self c.take.new.self c.args.bytes.now
+    c.loop-read.read c.in-Some.game
     below c.loop-read.invariant.passed
-    (λ rest. subst (λ (given : Option PgnGame). GoesOn (facing c.loop-read.self (get_or c.args.bytes.now c.loop-read.read 0 ∷ rest)) given (facing c.take.new.self rest))
+    (λ rest.
+    subst (λ (given : Option PgnGame).
+    GoesOn (facing c.loop-read.self (get_or c.args.bytes.now c.loop-read.read 0 ∷ rest)) given
+    (facing c.take.new.self rest))
     c.in-Some.is (c.in_ok-given.ensures.goes_on rest))).goes_on
 
 pub loop-read-preserved : goal.loop-read-preserved
 loop-read-preserved c =
     let below : c.loop-read.read < length c.args.bytes.now = search rules in
     record {
-      passed = passed_more (facing c.args.self.now c.args.bytes.now) c.loop-read.self c.take.new.self c.args.bytes.now c.loop-read.read
+      passed =
+          passed_more (facing c.args.self.now c.args.bytes.now) c.loop-read.self c.take.new.self c.args.bytes.now
+          c.loop-read.read
           below c.loop-read.invariant.passed
-          (λ rest. subst (λ (given : Option PgnGame). GoesOn (facing c.loop-read.self (get_or c.args.bytes.now c.loop-read.read 0 ∷ rest)) given (facing c.take.new.self rest))
+          (λ rest.
+          subst (λ (given : Option PgnGame).
+          GoesOn (facing c.loop-read.self (get_or c.args.bytes.now c.loop-read.read 0 ∷ rest)) given
+          (facing c.take.new.self rest))
           c.in_default.is (c.in_ok-given.ensures.goes_on rest));
       within = omega (arith, below);
     }

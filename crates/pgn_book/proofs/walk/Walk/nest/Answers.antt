@@ -9,5 +9,6 @@ returns c =
     let deep : nat_eq c.self.inside.depth 0 ≡ false = grind (arith, nat_tests) in
     let no_open : (c.args.byte == 40) ≡ false = grind (arith, nat_tests) in
     let no_close : (c.args.byte == 41) ≡ false = grind (arith, nat_tests) in
-    nest_at c.self.inside.place c.self.inside.depth c.self.inside.book c.pass_over.new.self c.args.self.now c.args.byte c.pass_over.result c.self.view_is
+    nest_at c.self.inside.place c.self.inside.depth c.self.inside.book c.pass_over.new.self c.args.self.now c.args.byte
+    c.pass_over.result c.self.view_is
     no_open no_close deep c.pass_over.ensures

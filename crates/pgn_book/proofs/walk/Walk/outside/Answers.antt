@@ -8,5 +8,6 @@ pub returns-then-is_sign : goal.returns-then-is_sign
 returns-then-is_sign c =
     let no_glyph : (c.args.byte == 36) ≡ false = grind (arith, nat_tests) in
     let no_quote : (c.args.byte == 34) ≡ false = grind (arith, nat_tests) in
-    sign_at c.self.inside.place c.self.inside.depth c.self.inside.book c.sign.new.self c.args.self.now c.args.byte c.sign.result c.self.view_is c.requires
+    sign_at c.self.inside.place c.self.inside.depth c.self.inside.book c.sign.new.self c.args.self.now c.args.byte
+    c.sign.result c.self.view_is c.requires
     no_glyph no_quote (sym c.is_sign.ensures ∙ c.if-is_sign.true) c.sign.ensures

@@ -7,5 +7,6 @@ use Rattle.pgn_book.proofs.walk.Walk.quote.Goals as goal
 pub returns-then-byte-eq34 : goal.returns-then-byte-eq34
 returns-then-byte-eq34 c =
     let quote : (c.args.byte == 34) ≡ true = grind (arith, nat_tests) in
-    quote_at c.self.inside.place c.self.inside.depth c.self.inside.book c.quote.new.self c.args.self.now c.args.text c.args.byte c.quote.result
+    quote_at c.self.inside.place c.self.inside.depth c.self.inside.book c.quote.new.self c.args.self.now c.args.text
+    c.args.byte c.quote.result
     c.self.view_is quote c.quote.ensures

@@ -12,5 +12,6 @@ returns-clause-on c =
 pub returns-clause-value : goal.returns-clause-value
 unfolding drawn drawn_on
 returns-clause-value c =
-    ap (λ (n : ℕ). n / 8589934592 % c.args.below) (mod-add-mod (c.self.inside.number * 6364136223846793005) 18446744073709551616 1442695040888963407)
+    ap (λ (n : ℕ). n / 8589934592 % c.args.below)
+    (mod-add-mod (c.self.inside.number * 6364136223846793005) 18446744073709551616 1442695040888963407)
     ∙ ap (λ (n : ℕ). drawn n c.args.below) c.self.view_is

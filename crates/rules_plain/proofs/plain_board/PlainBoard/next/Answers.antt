@@ -18,9 +18,21 @@ invariant_of-result c =
       white = c.self.inside.white;
       black = c.self.inside.black;
     } in
-    let allowed : Allowed p c.args.m.now = (let P : Position → Type 0 = λ x. Allowed x c.args.m.now in subst P (sym c.self.view_is) c.requires) in
-    let fewer : all_men (next p c.args.m.now) ≤ all_men p = all_men-next p c.args.m.now c.self.invariant.squares allowed in
+    let allowed : Allowed p c.args.m.now =
+    (let P : Position → Type 0 = λ x. Allowed x c.args.m.now in subst P (sym c.self.view_is) c.requires) in
+    let fewer : all_men (next p c.args.m.now) ≤ all_men p =
+    all_men-next p c.args.m.now c.self.invariant.squares allowed in
     record {
-      squares = ap length c.with_move.ensures ∙ length-place_after p.variant p.men p.to_move c.args.m.now ∙ c.self.invariant.squares;
-      men = omega (arith, fewer, c.self.invariant.men, ap men_on c.with_move.ensures, ap men_in c.hand_next.ensures, ap men_in c.hand_next-2.ensures);
+      squares =
+          ap length c.with_move.ensures ∙ length-place_after p.variant p.men p.to_move c.args.m.now
+          ∙ c.self.invariant.squares;
+      men =
+          omega (
+            arith,
+            fewer,
+            c.self.invariant.men,
+            ap men_on c.with_move.ensures,
+            ap men_in c.hand_next.ensures,
+            ap men_in c.hand_next-2.ensures,
+          );
     }

@@ -11,5 +11,6 @@ invariant_of-self-2 c =
     let old = c.self.inside.rows in
     subst AreChallenges
     (sym (c.in_ok-put_last.ensures.ok
-    ∙ ap (λ (test : Challenge → Bool). filter (λ other. not (test other)) old ++ new ∷ []) (keyed_between new.from new.to)))
+    ∙ ap (λ (test : Challenge → Bool). filter (λ other. not (test other)) old ++ new ∷ [])
+    (keyed_between new.from new.to)))
     (AreChallenges-with new old c.self.invariant)

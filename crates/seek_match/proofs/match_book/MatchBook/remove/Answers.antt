@@ -10,7 +10,8 @@ use Rattle.seek_match.proofs.match_book.MatchBook.remove.Goals as goal
 pub invariant_of-self : goal.invariant_of-self
 invariant_of-self c =
     subst AreChallenges (sym (c.shrink.ensures ∙ c.remove-removed.ensures.rest))
-    (AreChallenges-filter (λ challenge. not ((c.args.from == challenge.from) && (c.args.to == challenge.to))) c.self.inside.rows c.self.invariant)
+    (AreChallenges-filter (λ challenge. not ((c.args.from == challenge.from) && (c.args.to == challenge.to)))
+    c.self.inside.rows c.self.invariant)
 
 pub returns-clause-found : goal.returns-clause-found
 returns-clause-found c =

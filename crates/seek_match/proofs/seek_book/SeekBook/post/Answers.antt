@@ -25,4 +25,5 @@ invariant_of-self-2 c =
     in
     let place : number ≡ 0 + 1 + (number - 1) = omega (arith, c.next_number-number.ensures.positive) in
     let gap : first_gap (0 + 1) rows ≡ number = sym (c.next_number-number.ensures.number ∙ ap next_number same) in
-    subst AreSeeks (sym c.in_ok-insert.ensures.ok) (RiseAbove-insert rows 0 (number - 1) new c.self.invariant place within gap)
+    subst AreSeeks (sym c.in_ok-insert.ensures.ok)
+    (RiseAbove-insert rows 0 (number - 1) new c.self.invariant place within gap)

@@ -7,9 +7,12 @@ use Rattle.serve_core.proofs.settle.Host.settle_all.Given as goal
 
 abbrev pub invariant-loop-worker : goal.invariant-loop-worker
 invariant-loop-worker g l = record {
-  kept : Underway g.C.Clock.shows l.shared.hall.now l.shared.clock.now l.self.supply (g.D.Doorway.tale l.door) l.self.pass l.self.waiting.items;
+  kept : Underway g.C.Clock.shows l.shared.hall.now l.shared.clock.now l.self.supply (g.D.Doorway.tale l.door)
+      l.self.pass l.self.waiting.items;
   same : SameHall l.fn.self.pass l.self.pass;
-  tended : (store : Store) → Tended (stand l.fn.self.pass l.fn.self.supply (g.D.Doorway.tale l.fn.door) store) (stand l.self.pass l.self.supply (g.D.Doorway.tale l.door) store);
+  tended : (store : Store)
+      → Tended (stand l.fn.self.pass l.fn.self.supply (g.D.Doorway.tale l.fn.door) store)
+      (stand l.self.pass l.self.supply (g.D.Doorway.tale l.door) store);
   left : WhereTold (g.D.Doorway.tale l.fn.door) (g.D.Doorway.tale l.door) KeepsLeft;
   faults : g.D.Doorway.faults l.door ≡ g.D.Doorway.faults l.fn.door;
 }

@@ -8,8 +8,10 @@ use Rattle.session_core.specs.Memory.{observed_at}
 use Rattle.session_core.proofs.session_memory.SessionMemory.observed_at.Goals as goal
 
 -- what is found from a number on, where the place of that number is read
-found_from : (desk : ℕ) (rows : List Place) (at : ℕ) (place : Place) (t : Bool) → at < length rows → place ≡ get_or rows at place → (place.desk == desk) ≡ t
-    → find (λ row. row.desk == desk) (drop at rows) ≡ cond t (Some place) (find (λ row. row.desk == desk) (drop (at + 1) rows))
+found_from : (desk : ℕ) (rows : List Place) (at : ℕ) (place : Place) (t : Bool) → at < length rows
+    → place ≡ get_or rows at place → (place.desk == desk) ≡ t
+    → find (λ row. row.desk == desk) (drop at rows)
+    ≡ cond t (Some place) (find (λ row. row.desk == desk) (drop (at + 1) rows))
 found_from desk rows at place t inside read is =
     let p : Place → Bool = λ row. row.desk == desk in
     let rest = drop (at + 1) rows in

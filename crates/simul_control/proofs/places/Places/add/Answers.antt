@@ -8,9 +8,11 @@ invariant_of-self c = HoldsPlaces-add c.self.inside c.args.place c.self.invarian
 
 pub returns-clause-makes : goal.returns-clause-makes
 returns-clause-makes c = (
-  ap (λ b. cond b (Some SimulFull) None) (room-add c.self.inside c.args.place c.args.self.now c.self.view_is c.self.invariant c.if-self-ge-MOST.false),
+  ap (λ b. cond b (Some SimulFull) None)
+      (room-add c.self.inside c.args.place c.args.self.now c.self.view_is c.self.invariant c.if-self-ge-MOST.false),
   places_in-add c.self.inside c.args.place c.args.self.now c.self.view_is c.self.invariant c.if-self-ge-MOST.false,
 )
 
 pub returns-clause-after : goal.returns-clause-after
-returns-clause-after c = after-add c.self.inside c.args.place c.args.self.now c.self.view_is c.self.invariant c.if-self-ge-MOST.false
+returns-clause-after c =
+    after-add c.self.inside c.args.place c.args.self.now c.self.view_is c.self.invariant c.if-self-ge-MOST.false

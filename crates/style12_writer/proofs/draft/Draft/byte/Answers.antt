@@ -10,11 +10,14 @@ pub invariant_of-self : goal.invariant_of-self
 invariant_of-self c =
     let draft = c.self.inside in
     let written : length c.args.self.now ≡ draft.len =
-    ap length (sym c.self.view_is) ∙ length-take-le draft.len draft.bytes (omega (arith, c.self.told, c.self.invariant.within)) in
-    let joined = take_more_set draft.bytes draft.len c.args.byte (omega (arith, written, c.self.told, c.requires.room)) in
+    ap length (sym c.self.view_is)
+    ∙ length-take-le draft.len draft.bytes (omega (arith, c.self.told, c.self.invariant.within)) in
+    let joined =
+    take_more_set draft.bytes draft.len c.args.byte (omega (arith, written, c.self.told, c.requires.room)) in
     record {
       within = omega (arith, written, c.requires.room);
       printable =
           subst (λ (line : List ℕ). IsTrue (list_all is_printable line)) (sym joined)
-          (printable-append (take draft.len draft.bytes) (c.args.byte ∷ []) c.self.invariant.printable (printable-byte c.args.byte c.requires.printable));
+          (printable-append (take draft.len draft.bytes) (c.args.byte ∷ []) c.self.invariant.printable
+          (printable-byte c.args.byte c.requires.printable));
     }

@@ -7,4 +7,5 @@ use Rattle.style12_writer.proofs.draft.Draft.name.Goals as goal
 
 pub text-requires-clause-printable : goal.text-requires-clause-printable
 text-requires-clause-printable c =
-    subst (λ (text : List ℕ). IsTrue (list_all is_printable text)) (sym c.letters.ensures.letters) (printable-letters _ c.letters.ensures.handle.2)
+    subst (λ (text : List ℕ). IsTrue (list_all is_printable text)) (sym c.letters.ensures.letters)
+    (printable-letters _ c.letters.ensures.handle.2)

@@ -7,8 +7,10 @@ use Rattle.style12_writer.proofs.draft.Draft.number.Goals as goal
 
 pub text-requires-clause-printable : goal.text-requires-clause-printable
 text-requires-clause-printable c =
-    subst (λ (text : List ℕ). IsTrue (list_all is_printable text)) (sym (c.as_bytes.ensures.value ∙ c.format.ensures.text)) (printable-decimal _)
+    subst (λ (text : List ℕ). IsTrue (list_all is_printable text))
+    (sym (c.as_bytes.ensures.value ∙ c.format.ensures.text)) (printable-decimal _)
 
 pub returns-clause-text : goal.returns-clause-text
 returns-clause-text c =
-    c.text.ensures.text ∙ ap (λ (text : List ℕ). c.args.self.now ++ text) (c.as_bytes.ensures.value ∙ c.format.ensures.text)
+    c.text.ensures.text
+    ∙ ap (λ (text : List ℕ). c.args.self.now ++ text) (c.as_bytes.ensures.value ∙ c.format.ensures.text)

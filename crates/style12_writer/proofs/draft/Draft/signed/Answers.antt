@@ -7,4 +7,5 @@ use Rattle.style12_writer.proofs.draft.Draft.signed.Goals as goal
 
 pub text-requires-clause-printable : goal.text-requires-clause-printable
 text-requires-clause-printable c =
-    subst (λ (text : List ℕ). IsTrue (list_all is_printable text)) (sym (c.as_bytes.ensures.value ∙ c.format.ensures.text)) (printable-signed_decimal _)
+    subst (λ (text : List ℕ). IsTrue (list_all is_printable text))
+    (sym (c.as_bytes.ensures.value ∙ c.format.ensures.text)) (printable-signed_decimal _)

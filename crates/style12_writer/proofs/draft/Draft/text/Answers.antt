@@ -11,10 +11,12 @@ invariant_of-self c =
     let draft = c.self.inside in
     let text = c.args.text.now in
     let written : length c.args.self.now ≡ draft.len =
-    ap length (sym c.self.view_is) ∙ length-take-le draft.len draft.bytes (omega (arith, c.self.told, c.self.invariant.within)) in
+    ap length (sym c.self.view_is)
+    ∙ length-take-le draft.len draft.bytes (omega (arith, c.self.told, c.self.invariant.within)) in
     let count : length c.copy_from_slice.new.self ≡ length text = ap length c.copy_from_slice.ensures.after in
     let joined =
-    take-put_mid draft.len (draft.len + length text - draft.len) draft.bytes c.copy_from_slice.new.self (draft.len + length text)
+    take-put_mid draft.len (draft.len + length text - draft.len) draft.bytes c.copy_from_slice.new.self
+    (draft.len + length text)
     (omega (arith, count)) (omega (arith, c.self.told, c.self.invariant.within))
     ∙ ap (λ (end : List ℕ). take draft.len draft.bytes ++ end) c.copy_from_slice.ensures.after in
     record {

@@ -12,18 +12,27 @@ failing_ahead-requires g t c =
 pub returns-in_default : goal.returns-in_default
 returns-in_default g t c =
     let p = g.P.Predicate.passes c.args.test.now in
-    let none = asked p c.args.place c.as_slice.result.now c.args.self.now _ _ c.as_slice.ensures.rows c.failing_ahead.ensures c.in_default.is in
+    let none =
+    asked p c.args.place c.as_slice.result.now c.args.self.now _ _ c.as_slice.ensures.rows c.failing_ahead.ensures
+    c.in_default.is in
     sym (all_stay p c.args.place c.args.self.now c.requires none)
 
 pub sift-requires : goal.sift-requires
 sift-requires g t c κs within =
     let p = g.P.Predicate.passes c.args.test.now in
-    let found = asked p c.args.place c.as_slice.result.now c.args.self.now _ _ c.as_slice.ensures.rows c.failing_ahead.ensures c.in-Some.is in
-    let passing = subst (BeginPassing p (c.args.place + c.in-Some.ahead)) (sym c.remove_at.ensures) (pass_before p c.args.place c.args.self.now c.in-Some.ahead _ c.requires found refl) in
+    let found =
+    asked p c.args.place c.as_slice.result.now c.args.self.now _ _ c.as_slice.ensures.rows c.failing_ahead.ensures
+    c.in-Some.is in
+    let passing =
+    subst (BeginPassing p (c.args.place + c.in-Some.ahead)) (sym c.remove_at.ensures)
+    (pass_before p c.args.place c.args.self.now c.in-Some.ahead _ c.requires found refl) in
     (search rules, (search rules, (search rules, (search rules, passing))))
 
 pub returns : goal.returns
 returns g t c =
     let p = g.P.Predicate.passes c.args.test.now in
-    let found = asked p c.args.place c.as_slice.result.now c.args.self.now _ _ c.as_slice.ensures.rows c.failing_ahead.ensures c.in-Some.is in
-    c.sift.ensures ∙ ap (filter p) c.remove_at.ensures ∙ same_stay p c.args.place c.args.self.now c.in-Some.ahead _ c.requires found refl
+    let found =
+    asked p c.args.place c.as_slice.result.now c.args.self.now _ _ c.as_slice.ensures.rows c.failing_ahead.ensures
+    c.in-Some.is in
+    c.sift.ensures ∙ ap (filter p) c.remove_at.ensures
+    ∙ same_stay p c.args.place c.args.self.now c.in-Some.ahead _ c.requires found refl

@@ -12,7 +12,9 @@ use Rattle.tables.proofs.table.Table.change.Goals as goal
 -- the entries are the rows behind their keys, with the one changed
 changed : (g : given.Over) (c : goal.Joined-get_mut g)
     → c.match-get_mut.self-inside.rows.entries
-    ≡ keyed g.T.Keyed.key_of (change_first (has_key g.T.Keyed.key_of g.K.PartialEq.eq c.args.key) (g.C.Change.changed c.args.change.now) (values_of c.self.inside.rows.entries))
+    ≡ keyed g.T.Keyed.key_of
+    (change_first (has_key g.T.Keyed.key_of g.K.PartialEq.eq c.args.key) (g.C.Change.changed c.args.change.now)
+    (values_of c.self.inside.rows.entries))
 changed g c =
     let key_of = g.T.Keyed.key_of in
     let test = g.K.PartialEq.eq c.args.key in
@@ -24,11 +26,15 @@ changed g c =
     elim c.match-get_mut.branch [
       | in-Some w ↦
           (λ j. (w.self-inside-is j).rows.entries) ∙ (c.get_mut.follows.holds w.change.new.item).0
-          ∙ ap (set_value test es) w.change.ensures ∙ ap (λ es. set_value test es (f w.in-Some.row.now)) (sym c.self.invariant)
+          ∙ ap (set_value test es) w.change.ensures
+          ∙ ap (λ es. set_value test es (f w.in-Some.row.now)) (sym c.self.invariant)
           ∙ changed-keyed key_of f c.requires test rows w.in-Some.row.now (looked ∙ ap option_copied_mut w.in-Some.is)
       | in_default w ↦
           (λ j. (w.self-inside-is j).rows.entries) ∙ (λ j. (c.get_mut.follows.holds-at-none j).entries)
-          ∙ sym c.self.invariant ∙ ap (keyed key_of) (sym (change_first-none (has_key key_of g.K.PartialEq.eq c.args.key) f rows (looked ∙ ap option_copied_mut w.in_default.is)))
+          ∙ sym c.self.invariant
+          ∙ ap (keyed key_of)
+          (sym (change_first-none (has_key key_of g.K.PartialEq.eq c.args.key) f rows
+          (looked ∙ ap option_copied_mut w.in_default.is)))
     ]
 
 pub invariant_of-self : goal.invariant_of-self
@@ -37,4 +43,5 @@ invariant_of-self g c = are_keyed g.T.Keyed.key_of _ _ (changed g c)
 pub returns : goal.returns
 returns g c =
     are_rows g.T.Keyed.key_of _ _ (changed g c)
-    ∙ ap (change_first (has_key g.T.Keyed.key_of g.K.PartialEq.eq c.args.key) (g.C.Change.changed c.args.change.now)) c.self.view_is
+    ∙ ap (change_first (has_key g.T.Keyed.key_of g.K.PartialEq.eq c.args.key) (g.C.Change.changed c.args.change.now))
+    c.self.view_is

@@ -11,5 +11,6 @@ returns g c =
     let key_of = g.T.Keyed.key_of in
     let eq = g.K.PartialEq.eq in
     c.contains_key.ensures ∙ ap (λ es. is_some (lookup (eq c.args.key) es)) (sym c.self.invariant)
-    ∙ ap is_some (lookup-keyed key_of (eq c.args.key) _) ∙ ap (λ rows. is_some (find (has_key key_of eq c.args.key) rows)) c.self.view_is
+    ∙ ap is_some (lookup-keyed key_of (eq c.args.key) _)
+    ∙ ap (λ rows. is_some (find (has_key key_of eq c.args.key) rows)) c.self.view_is
     ∙ is_some-find (has_key key_of eq c.args.key) c.args.self.now

@@ -9,7 +9,10 @@ pub invariant_of-self : goal.invariant_of-self
 invariant_of-self g c =
     let key_of = g.T.Keyed.key_of in
     let e = c.shift_remove.ensures in
-    are_keyed key_of _ _ (e.entries ∙ removed-keyed key_of (g.K.PartialEq.eq c.args.key) _ _ c.self.invariant (ap (lookup (g.K.PartialEq.eq c.args.key)) (sym e.entries) ∙ e.updates.1))
+    are_keyed key_of _ _
+    (e.entries
+    ∙ removed-keyed key_of (g.K.PartialEq.eq c.args.key) _ _ c.self.invariant
+    (ap (lookup (g.K.PartialEq.eq c.args.key)) (sym e.entries) ∙ e.updates.1))
 
 pub returns-clause-removed : goal.returns-clause-removed
 returns-clause-removed g c =
@@ -23,5 +26,8 @@ returns-clause-rest g c =
     let key_of = g.T.Keyed.key_of in
     let eq = g.K.PartialEq.eq in
     let e = c.shift_remove.ensures in
-    are_rows key_of _ _ (e.entries ∙ removed-keyed key_of (eq c.args.key) _ _ c.self.invariant (ap (lookup (eq c.args.key)) (sym e.entries) ∙ e.updates.1))
+    are_rows key_of _ _
+    (e.entries
+    ∙ removed-keyed key_of (eq c.args.key) _ _ c.self.invariant
+    (ap (lookup (eq c.args.key)) (sym e.entries) ∙ e.updates.1))
     ∙ ap (filter (λ row. not (has_key key_of eq c.args.key row))) c.self.view_is

@@ -5,7 +5,8 @@ use Rattle.tourney_desk.proofs.tourney.Tourney.number_of.Goals as goal
 
 pub returns-in-Some : goal.returns-in-Some
 returns-in-Some c =
-    place-found (has_key c.args.key) c.args.self.now.players c.in-Some.number (sym c.place_of.ensures.place ∙ c.in-Some.is)
+    place-found (has_key c.args.key) c.args.self.now.players c.in-Some.number
+    (sym c.place_of.ensures.place ∙ c.in-Some.is)
 
 pub returns-in-None : goal.returns-in-None
 returns-in-None c =

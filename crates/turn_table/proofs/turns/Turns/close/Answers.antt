@@ -12,16 +12,21 @@ emptied-requires-clause-there g c =
     let p = c.pass.inside in
     let e = ap (λ s. s.view) c.pass.view_is in
     let r = c.close_with.result in
-    all_there g.S.Served.core g.S.Served.lawful c.self.inside.table.shared.key.value.items p.seat.id p.seat.me.0 (slots_items r.words) (slots_items r.slots) c.pass.invariant.0.alive
-    (ap (λ v. v.number) e ∙ c.requires.first) (ap (λ v. v.held) e ∙ c.requires.idle) (subst AllJoined (sym e) c.requires.all_joined) c.close_with.ensures.values.2
+    all_there g.S.Served.core g.S.Served.lawful c.self.inside.table.shared.key.value.items p.seat.id p.seat.me.0
+    (slots_items r.words) (slots_items r.slots) c.pass.invariant.0.alive
+    (ap (λ v. v.number) e ∙ c.requires.first) (ap (λ v. v.held) e ∙ c.requires.idle)
+    (subst AllJoined (sym e) c.requires.all_joined) c.close_with.ensures.values.2
 
 pub returns-clause-parts : goal.returns-clause-parts
 returns-clause-parts g c =
     let p = c.pass.inside in
     let e = ap (λ s. s.view) c.pass.view_is in
     let r = c.close_with.result in
-    parts_back g.S.Served.core g.S.Served.lawful c.self.inside.table.shared.key.value.items p.seat.id p.seat.me.0 (slots_items r.words) (slots_items r.slots) c.pass.invariant.0.alive
-    (ap (λ v. v.number) e ∙ c.requires.first) (ap (λ v. v.held) e ∙ c.requires.idle) (subst AllJoined (sym e) c.requires.all_joined) c.close_with.ensures.values.2 c.emptied.result.items c.emptied.ensures
+    parts_back g.S.Served.core g.S.Served.lawful c.self.inside.table.shared.key.value.items p.seat.id p.seat.me.0
+    (slots_items r.words) (slots_items r.slots) c.pass.invariant.0.alive
+    (ap (λ v. v.number) e ∙ c.requires.first) (ap (λ v. v.held) e ∙ c.requires.idle)
+    (subst AllJoined (sym e) c.requires.all_joined) c.close_with.ensures.values.2 c.emptied.result.items
+    c.emptied.ensures
     ∙ ap (λ v. state g.S.Served.core v.opening v.seen) e
 
 pub returns-clause-legal : goal.returns-clause-legal
@@ -30,8 +35,10 @@ returns-clause-legal g c =
     let e = ap (λ s. s.view) c.pass.view_is in
     let r = c.close_with.result in
     subst (λ v. Legal g.S.Served.core v.opening v.seen) e
-    (legal_back g.S.Served.core g.S.Served.lawful c.self.inside.table.shared.key.value.items p.seat.id p.seat.me.0 (slots_items r.words) (slots_items r.slots) c.pass.invariant.0.alive
-    (ap (λ v. v.number) e ∙ c.requires.first) (ap (λ v. v.held) e ∙ c.requires.idle) (subst AllJoined (sym e) c.requires.all_joined) c.close_with.ensures.values.2)
+    (legal_back g.S.Served.core g.S.Served.lawful c.self.inside.table.shared.key.value.items p.seat.id p.seat.me.0
+    (slots_items r.words) (slots_items r.slots) c.pass.invariant.0.alive
+    (ap (λ v. v.number) e ∙ c.requires.first) (ap (λ v. v.held) e ∙ c.requires.idle)
+    (subst AllJoined (sym e) c.requires.all_joined) c.close_with.ensures.values.2)
 
 pub returns-clause-own : goal.returns-clause-own
 returns-clause-own g c =
@@ -39,17 +46,22 @@ returns-clause-own g c =
     let e = ap (λ s. s.view) c.pass.view_is in
     let r = c.close_with.result in
     subst (λ v. calls_of 0 v.seen ≡ v.made) e
-    (closed g.S.Served.core g.S.Served.lawful c.self.inside.table.shared.key.value.items p.seat.id p.seat.me.0 (slots_items r.words) (slots_items r.slots) c.pass.invariant.0.alive
-    (ap (λ v. v.number) e ∙ c.requires.first) (ap (λ v. v.held) e ∙ c.requires.idle) (subst AllJoined (sym e) c.requires.all_joined) c.close_with.ensures.values.2).own
+    (closed g.S.Served.core g.S.Served.lawful c.self.inside.table.shared.key.value.items p.seat.id p.seat.me.0
+    (slots_items r.words) (slots_items r.slots) c.pass.invariant.0.alive
+    (ap (λ v. v.number) e ∙ c.requires.first) (ap (λ v. v.held) e ∙ c.requires.idle)
+    (subst AllJoined (sym e) c.requires.all_joined) c.close_with.ensures.values.2).own
 
 pub returns-clause-joined : goal.returns-clause-joined
 returns-clause-joined g c =
     let p = c.pass.inside in
     let e = ap (λ s. s.view) c.pass.view_is in
     let r = c.close_with.result in
-    subst (λ v. (j : Joined g.row.S-Act.Denot g.row.S-Reply.Denot) → In j v.joined → calls_of j.number v.seen ≡ j.calls) e
-    (closed g.S.Served.core g.S.Served.lawful c.self.inside.table.shared.key.value.items p.seat.id p.seat.me.0 (slots_items r.words) (slots_items r.slots) c.pass.invariant.0.alive
-    (ap (λ v. v.number) e ∙ c.requires.first) (ap (λ v. v.held) e ∙ c.requires.idle) (subst AllJoined (sym e) c.requires.all_joined) c.close_with.ensures.values.2).joined
+    subst (λ v. (j : Joined g.row.S-Act.Denot g.row.S-Reply.Denot) → In j v.joined → calls_of j.number v.seen ≡ j.calls)
+    e
+    (closed g.S.Served.core g.S.Served.lawful c.self.inside.table.shared.key.value.items p.seat.id p.seat.me.0
+    (slots_items r.words) (slots_items r.slots) c.pass.invariant.0.alive
+    (ap (λ v. v.number) e ∙ c.requires.first) (ap (λ v. v.held) e ∙ c.requires.idle)
+    (subst AllJoined (sym e) c.requires.all_joined) c.close_with.ensures.values.2).joined
 
 pub returns-clause-no_others : goal.returns-clause-no_others
 returns-clause-no_others g c =
@@ -57,5 +69,7 @@ returns-clause-no_others g c =
     let e = ap (λ s. s.view) c.pass.view_is in
     let r = c.close_with.result in
     subst (λ v. (m : ℕ) → v.splits < m → calls_of m v.seen ≡ []) e
-    (closed g.S.Served.core g.S.Served.lawful c.self.inside.table.shared.key.value.items p.seat.id p.seat.me.0 (slots_items r.words) (slots_items r.slots) c.pass.invariant.0.alive
-    (ap (λ v. v.number) e ∙ c.requires.first) (ap (λ v. v.held) e ∙ c.requires.idle) (subst AllJoined (sym e) c.requires.all_joined) c.close_with.ensures.values.2).others
+    (closed g.S.Served.core g.S.Served.lawful c.self.inside.table.shared.key.value.items p.seat.id p.seat.me.0
+    (slots_items r.words) (slots_items r.slots) c.pass.invariant.0.alive
+    (ap (λ v. v.number) e ∙ c.requires.first) (ap (λ v. v.held) e ∙ c.requires.idle)
+    (subst AllJoined (sym e) c.requires.all_joined) c.close_with.ensures.values.2).others

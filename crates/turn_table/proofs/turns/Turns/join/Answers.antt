@@ -16,9 +16,11 @@ join_seat-requires g c =
     let other_idle = ap (λ s. s.view.held) c.other.view_is ∙ c.requires.other_idle in (
       here,
       other_here,
-      no_slot g.S.Served.core q.seat.table_id.slots q.number q.splits q.last q.before q.seat.me c.other.invariant other_idle,
+      no_slot g.S.Served.core q.seat.table_id.slots q.number q.splits q.last q.before q.seat.me c.other.invariant
+          other_idle,
       omega (arith, c.self.invariant.0),
-      joins g.S.Served.core g.S.Served.lawful c.self.inside.table.shared.key.value.items p.seat.id p.seat.me.0 q.seat.id q.seat.me.0 c.pass.invariant.0.alive c.other.invariant.0.alive idle other_idle,
+      joins g.S.Served.core g.S.Served.lawful c.self.inside.table.shared.key.value.items p.seat.id p.seat.me.0 q.seat.id
+          q.seat.me.0 c.pass.invariant.0.alive c.other.invariant.0.alive idle other_idle,
     )
 
 pub invariant_of-pass : goal.invariant_of-pass
@@ -27,6 +29,9 @@ invariant_of-pass g c =
     let w = c.other.inside.seat.me.0 in
     let e = c.join_seat.ensures in
     let m' = c.look.new.seat.me in
-    let told : LooksOn g.S.Served.core (merged p.seat.me.0 w, p.seat.me.1) m' = subst (λ me. LooksOn g.S.Served.core me m') e.2 c.look.ensures.looked in
-    subst (λ (n : ℕ). Sound g.S.Served.core n p.number p.splits p.last p.before m') (ap (λ z. z.slots) (sym (c.look.ensures.same.0 ∙ e.0)))
-    (sound_joined g.S.Served.core p.seat.table_id.slots p.number p.splits p.last p.before p.seat.me c.pass.invariant w m' told)
+    let told : LooksOn g.S.Served.core (merged p.seat.me.0 w, p.seat.me.1) m' =
+    subst (λ me. LooksOn g.S.Served.core me m') e.2 c.look.ensures.looked in
+    subst (λ (n : ℕ). Sound g.S.Served.core n p.number p.splits p.last p.before m')
+    (ap (λ z. z.slots) (sym (c.look.ensures.same.0 ∙ e.0)))
+    (sound_joined g.S.Served.core p.seat.table_id.slots p.number p.splits p.last p.before p.seat.me c.pass.invariant w
+    m' told)

@@ -7,5 +7,7 @@ pub invariant_of-pass : goal.invariant_of-pass
 invariant_of-pass g c =
     let p = c.pass.inside in
     let e = c.look.ensures in
-    subst (λ (n : ℕ). Sound g.S.Served.core n p.number p.splits p.last p.before c.look.new.seat.me) (ap (λ z. z.slots) (sym e.same.0))
-    (sound_looked g.S.Served.core p.seat.table_id.slots p.number p.splits p.last p.before p.seat.me c.pass.invariant c.look.new.seat.me e.looked)
+    subst (λ (n : ℕ). Sound g.S.Served.core n p.number p.splits p.last p.before c.look.new.seat.me)
+    (ap (λ z. z.slots) (sym e.same.0))
+    (sound_looked g.S.Served.core p.seat.table_id.slots p.number p.splits p.last p.before p.seat.me c.pass.invariant
+    c.look.new.seat.me e.looked)

@@ -6,4 +6,5 @@ pub returns : goal.returns
 returns c =
     let out = c.args.out.now.items in
     c.in_ok-push.ensures.items
-    ∙ ap (λ x. out ++ x) (sym (if_allowed-yes c.args.self.now c.args.m.now c.requires.is_move (c.requires.safe c.if-tried.false)))
+    ∙ ap (λ x. out ++ x)
+    (sym (if_allowed-yes c.args.self.now c.args.m.now c.requires.is_move (c.requires.safe c.if-tried.false)))

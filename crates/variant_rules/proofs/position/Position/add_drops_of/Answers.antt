@@ -23,7 +23,8 @@ loop-t-init c =
     record {
       done = sym (ap (λ x. out ++ x) (drops-start p c.args.k n (λ t less.
           if_allowed-not p (Drop c.args.k t)
-          (c.free_squares-free.ensures c.args.k t (omega (arith, less, within)) (c.next_square-t.ensures.first t (omega arith) less))))
+          (c.free_squares-free.ensures c.args.k t (omega (arith, less, within))
+          (c.next_square-t.ensures.first t (omega arith) less))))
           ∙ append-nil out);
       here = c.next_square-t.ensures.found;
       within = within;
@@ -38,11 +39,13 @@ loop-t-preserved c =
     let next = c.next_square-t-in-loop-t.ensures in
     let within : n ≤ 64 = next.within in
     let more = drops-step p k t n (next-more t n c.loop-t-test.true next.from within) (λ u from less.
-    if_allowed-not p (Drop k u) (c.free_squares-free.ensures k u (omega (arith, less, within)) (next.first u from less)))
+    if_allowed-not p (Drop k u)
+    (c.free_squares-free.ensures k u (omega (arith, less, within)) (next.first u from less)))
     ∙ ap (λ (u : ℕ). drops_below p k t ++ if_allowed p (Drop k u)) (sym c.square_of.ensures) in
     record {
       done = c.in_ok-add_drop.ensures
-          ∙ appended c.args.out.now.items (drops_below p k t) (if_allowed p (Drop k c.square_of.result)) (drops_below p k n)
+          ∙ appended c.args.out.now.items (drops_below p k t) (if_allowed p (Drop k c.square_of.result))
+          (drops_below p k n)
           c.loop-t.out.items c.loop-t.invariant.done more;
       here = next.found;
       within = within;

@@ -14,4 +14,6 @@ pub returns : goal.returns
 returns c =
     let out = c.args.out.now.items in
     c.in_ok-push.ensures.items
-    ∙ ap (λ x. out ++ x) (sym (if_allowed-yes c.args.self.now c.args.m.now c.requires.is_move (c.is_safe_after.ensures.0 c.if-not-is_safe_after.false)))
+    ∙ ap (λ x. out ++ x)
+    (sym (if_allowed-yes c.args.self.now c.args.m.now c.requires.is_move
+    (c.is_safe_after.ensures.0 c.if-not-is_safe_after.false)))

@@ -14,7 +14,8 @@ returns-then-not-king_may_go c =
     let b = c.args.b in
     let out = c.args.out.now.items in
     sym (ap (λ x. out ++ x) (other_between p King a b c.requires.held king-apart
-    ∙ if_allowed-unsafe p (Plain a b None) (λ s. absurd (true≢false (sym (c.king_may_go.ensures.1 s) ∙ c.if-not-king_may_go.true))))
+    ∙ if_allowed-unsafe p (Plain a b None)
+    (λ s. absurd (true≢false (sym (c.king_may_go.ensures.1 s) ∙ c.if-not-king_may_go.true))))
     ∙ append-nil out)
 
 pub returns : goal.returns
@@ -25,7 +26,8 @@ returns c =
     let out = c.args.out.now.items in
     let la : c.args.a < 64 = search rules in
     let lb : c.args.b < 64 = search rules in
-    let move = move_of p King a b None la lb c.requires.held c.requires.reached (plain_has p.to_move King b king-apart) in
+    let move =
+    move_of p King a b None la lb c.requires.held c.requires.reached (plain_has p.to_move King b king-apart) in
     c.in_ok-push.ensures.items ∙ ap (λ m. out ++ m ∷ []) c.going.ensures
     ∙ ap (λ x. out ++ x) (sym (other_between p King a b c.requires.held king-apart
     ∙ if_allowed-yes p (Plain a b None) move (c.king_may_go.ensures.0 c.if-not-king_may_go.false)))

@@ -8,7 +8,9 @@ pub loop-b-init : goal.loop-b-init
 loop-b-init c =
     let out = c.args.out.now.items in
     record {
-      done = sym (ap (λ x. out ++ x) (goals-start c.args.self.now c.args.k c.args.a c.goals-goals.result c.next_square-b.result
+      done =
+          sym
+          (ap (λ x. out ++ x) (goals-start c.args.self.now c.args.k c.args.a c.goals-goals.result c.next_square-b.result
           c.goals-goals.ensures c.next_square-b.ensures.within c.next_square-b.ensures.first) ∙ append-nil out);
       here = c.next_square-b.ensures.found;
       within = c.next_square-b.ensures.within;
@@ -26,7 +28,8 @@ loop-b-preserved c =
     ∙ ap (λ (t : ℕ). moves_from_below p a b ++ moves_between p a t) (sym c.square_of.ensures) in
     record {
       done = c.in_ok-add_moves.ensures
-          ∙ appended c.args.out.now.items (moves_from_below p a b) (moves_between p a c.square_of.result) (moves_from_below p a n)
+          ∙ appended c.args.out.now.items (moves_from_below p a b) (moves_between p a c.square_of.result)
+          (moves_from_below p a n)
           c.loop-b.out.items c.loop-b.invariant.done more;
       here = next.found;
       within = next.within;

@@ -13,7 +13,8 @@ add-requires c =
     let b = c.args.b in
     let la : c.args.a < 64 = search rules in
     let lb : c.args.b < 64 = search rules in
-    let move = move_of p k a b None la lb c.requires.held c.requires.reached (plain_has p.to_move k b c.requires.other) in
+    let move =
+    move_of p k a b None la lb c.requires.held c.requires.reached (plain_has p.to_move k b c.requires.other) in
     record {
       is_move = subst (λ (m : Move). IsMove p m) (sym c.going.ensures) move;
       safe = λ e. subst (λ (m : Move). IsSafeAfter p m) (sym c.going.ensures)
@@ -24,4 +25,5 @@ pub returns : goal.returns
 returns c =
     let p = c.args.self.now in
     c.in_ok-add.ensures ∙ ap (λ (m : Move). c.args.out.now.items ++ if_allowed p m) c.going.ensures
-    ∙ ap (λ x. c.args.out.now.items ++ x) (sym (other_between p c.args.k c.args.a c.args.b c.requires.held c.requires.other))
+    ∙ ap (λ x. c.args.out.now.items ++ x)
+    (sym (other_between p c.args.k c.args.a c.args.b c.requires.held c.requires.other))

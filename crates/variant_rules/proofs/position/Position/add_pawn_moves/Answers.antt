@@ -17,7 +17,8 @@ add-requires-clause-safe c e =
     let before : rank_of c.args.b ≢ last_rank p.to_move =
     λ h. true≢false (sym (c.is_on_last_rank.ensures.1 h) ∙ c.if-is_on_last_rank.false) in
     let move = move_of p Pawn c.args.a c.args.b None la lb c.requires.held c.requires.reached (inr (before, refl)) in
-    subst (λ (m : Move). IsSafeAfter p m) (sym c.going.ensures) ((c.pawn_is_tried-tries.ensures c.requires.safe e).safe None move)
+    subst (λ (m : Move). IsSafeAfter p m) (sym c.going.ensures)
+    ((c.pawn_is_tried-tries.ensures c.requires.safe e).safe None move)
 
 pub returns : goal.returns
 returns c =

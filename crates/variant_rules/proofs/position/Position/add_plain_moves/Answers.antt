@@ -9,7 +9,8 @@ use Rattle.variant_rules.proofs.MoveLemmas.{nothing_from, next-more, appended}
 use Rattle.variant_rules.proofs.position.Position.add_plain_moves.Goals as goal
 use Rattle.bitboard_core.proofs.BitsLemmas.{Has-held}
 
-empty : (p : Position) (own k : ℕ) → IsSetOf (is_held_by p.to_move) p.men own → k < 64 → ¬ Has own k → moves_from_below p k 64 ≡ []
+empty : (p : Position) (own k : ℕ) → IsSetOf (is_held_by p.to_move) p.men own → k < 64 → ¬ Has own k
+    → moves_from_below p k 64 ≡ []
 empty p own k all lk out = nothing_from p k (λ h. out ((Has-held p.men p.to_move own k all lk).1 h))
 
 pub loop-a-init : goal.loop-a-init
@@ -20,7 +21,8 @@ loop-a-init c =
     let within : n ≤ 64 = c.next_square-a.ensures.within in
     record {
       done = sym (ap (λ x. out ++ x) (plain-start p n (λ k less.
-          empty p c.own_squares-own.result k c.own_squares-own.ensures (omega (arith, less, within)) (c.next_square-a.ensures.first k (omega arith) less)))
+          empty p c.own_squares-own.result k c.own_squares-own.ensures (omega (arith, less, within))
+          (c.next_square-a.ensures.first k (omega arith) less)))
           ∙ append-nil out);
       here = c.next_square-a.ensures.found;
       within = within;
@@ -38,7 +40,8 @@ loop-a-preserved c =
     ∙ ap (λ (t : ℕ). plain_moves_below p a ++ moves_from_below p t 64) (sym c.square_of.ensures) in
     record {
       done = c.in_ok-add_moves_from.ensures
-          ∙ appended c.args.out.now.items (plain_moves_below p a) (moves_from_below p c.square_of.result 64) (plain_moves_below p n)
+          ∙ appended c.args.out.now.items (plain_moves_below p a) (moves_from_below p c.square_of.result 64)
+          (plain_moves_below p n)
           c.loop-a.out.items c.loop-a.invariant.done more;
       here = next.found;
       within = within;

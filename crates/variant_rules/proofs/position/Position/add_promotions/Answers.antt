@@ -13,7 +13,9 @@ add-requires-clause-safe c e =
     let p = c.args.self.now in
     let la : c.args.a < 64 = search rules in
     let lb : c.args.b < 64 = search rules in
-    let move = move_of p Pawn c.args.a c.args.b (Some Queen) la lb c.requires.held c.requires.reached (inl (c.requires.last, tt)) in
+    let move =
+    move_of p Pawn c.args.a c.args.b (Some Queen) la lb c.requires.held c.requires.reached
+    (inl (c.requires.last, tt)) in
     subst (λ (m : Move). IsSafeAfter p m) (sym c.promoting.ensures) ((c.requires.safe e).safe (Some Queen) move)
 
 pub add-requires-2-clause-safe : goal.add-requires-2-clause-safe
@@ -21,7 +23,8 @@ add-requires-2-clause-safe c e =
     let p = c.args.self.now in
     let la : c.args.a < 64 = search rules in
     let lb : c.args.b < 64 = search rules in
-    let move = move_of p Pawn c.args.a c.args.b (Some Rook) la lb c.requires.held c.requires.reached (inl (c.requires.last, tt)) in
+    let move =
+    move_of p Pawn c.args.a c.args.b (Some Rook) la lb c.requires.held c.requires.reached (inl (c.requires.last, tt)) in
     subst (λ (m : Move). IsSafeAfter p m) (sym c.promoting-2.ensures) ((c.requires.safe e).safe (Some Rook) move)
 
 pub add-requires-3-clause-safe : goal.add-requires-3-clause-safe
@@ -29,7 +32,9 @@ add-requires-3-clause-safe c e =
     let p = c.args.self.now in
     let la : c.args.a < 64 = search rules in
     let lb : c.args.b < 64 = search rules in
-    let move = move_of p Pawn c.args.a c.args.b (Some Bishop) la lb c.requires.held c.requires.reached (inl (c.requires.last, tt)) in
+    let move =
+    move_of p Pawn c.args.a c.args.b (Some Bishop) la lb c.requires.held c.requires.reached
+    (inl (c.requires.last, tt)) in
     subst (λ (m : Move). IsSafeAfter p m) (sym c.promoting-3.ensures) ((c.requires.safe e).safe (Some Bishop) move)
 
 pub add-requires-4-clause-safe : goal.add-requires-4-clause-safe
@@ -37,7 +42,9 @@ add-requires-4-clause-safe c e =
     let p = c.args.self.now in
     let la : c.args.a < 64 = search rules in
     let lb : c.args.b < 64 = search rules in
-    let move = move_of p Pawn c.args.a c.args.b (Some Knight) la lb c.requires.held c.requires.reached (inl (c.requires.last, tt)) in
+    let move =
+    move_of p Pawn c.args.a c.args.b (Some Knight) la lb c.requires.held c.requires.reached
+    (inl (c.requires.last, tt)) in
     subst (λ (m : Move). IsSafeAfter p m) (sym c.promoting-4.ensures) ((c.requires.safe e).safe (Some Knight) move)
 
 pub returns : goal.returns
@@ -47,7 +54,8 @@ returns c =
     let b = c.args.b in
     let o = c.args.out.now.items in
     four-times o c.add.new.out.items c.add-2.new.out.items c.add-3.new.out.items c.add-4.new.out.items
-    (if_allowed p (Plain a b (Some Queen))) (if_allowed p (Plain a b (Some Rook))) (if_allowed p (Plain a b (Some Bishop))) (if_allowed p (Plain a b (Some Knight)))
+    (if_allowed p (Plain a b (Some Queen))) (if_allowed p (Plain a b (Some Rook)))
+    (if_allowed p (Plain a b (Some Bishop))) (if_allowed p (Plain a b (Some Knight)))
     _
     (c.in_ok-add.ensures ∙ ap (λ (m : Move). o ++ if_allowed p m) c.promoting.ensures)
     (c.in_ok-add-2.ensures ∙ ap (λ (m : Move). c.add.new.out.items ++ if_allowed p m) c.promoting-2.ensures)

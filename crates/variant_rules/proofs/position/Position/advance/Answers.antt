@@ -19,9 +19,21 @@ invariant_of-self c =
       white = b.white;
       black = b.black;
     } in
-    let allowed : Allowed p c.args.m.now = subst (λ (x : Position). Allowed x c.args.m.now) (sym c.self.view_is) c.requires in
-    let fewer : all_men (next p c.args.m.now) ≤ all_men p = all_men-next p c.args.m.now c.self.invariant.squares allowed in
+    let allowed : Allowed p c.args.m.now =
+    subst (λ (x : Position). Allowed x c.args.m.now) (sym c.self.view_is) c.requires in
+    let fewer : all_men (next p c.args.m.now) ≤ all_men p =
+    all_men-next p c.args.m.now c.self.invariant.squares allowed in
     record {
-      squares = ap length c.change_men.ensures ∙ length-place_after p.variant p.men p.to_move c.args.m.now ∙ c.self.invariant.squares;
-      men = λ other. omega (arith, fewer, c.self.invariant.men other, ap men_on c.change_men.ensures, ap men_in c.hand_next-white.ensures, ap men_in c.hand_next-black.ensures);
+      squares =
+          ap length c.change_men.ensures ∙ length-place_after p.variant p.men p.to_move c.args.m.now
+          ∙ c.self.invariant.squares;
+      men = λ other.
+          omega (
+            arith,
+            fewer,
+            c.self.invariant.men other,
+            ap men_on c.change_men.ensures,
+            ap men_in c.hand_next-white.ensures,
+            ap men_in c.hand_next-black.ensures,
+          );
     }

@@ -9,7 +9,9 @@ pub returns-then-not-has_drops : goal.returns-then-not-has_drops
 returns-then-not-has_drops c = (
   λ e. absurd (true≢false (sym e)),
   λ h. absurd (no-variant c.args.self.now (λ v.
-      true≢false (sym (c.has_drops.ensures.1 (subst (λ (x : Position). HasDrops x.variant) (sym c.self.view_is) v)) ∙ c.if-not-has_drops.true)) h),
+      true≢false (sym (c.has_drops.ensures.1 (subst (λ (x : Position). HasDrops x.variant) (sym c.self.view_is) v))
+      ∙ c.if-not-has_drops.true))
+      h),
 )
 
 pub returns-then-can_drop_kind : goal.returns-then-can_drop_kind
@@ -28,7 +30,9 @@ pub returns : goal.returns
 returns c = (
   λ e. c.can_drop_kind-5.ensures.some e,
   λ h. true_from_ne_false c.can_drop_kind-5.result (λ f.
-      five-kinds c.args.self.now (c.can_drop_kind.ensures.none c.if-can_drop_kind.false) (c.can_drop_kind-2.ensures.none c.if-can_drop_kind-2.false)
-      (c.can_drop_kind-3.ensures.none c.if-can_drop_kind-3.false) (c.can_drop_kind-4.ensures.none c.if-can_drop_kind-4.false)
+      five-kinds c.args.self.now (c.can_drop_kind.ensures.none c.if-can_drop_kind.false)
+      (c.can_drop_kind-2.ensures.none c.if-can_drop_kind-2.false)
+      (c.can_drop_kind-3.ensures.none c.if-can_drop_kind-3.false)
+      (c.can_drop_kind-4.ensures.none c.if-can_drop_kind-4.false)
       (c.can_drop_kind-5.ensures.none f) h),
 )

@@ -5,16 +5,20 @@ use Rattle.variant_rules.proofs.StateLemmas.{can-move, five-none}
 use Rattle.variant_rules.proofs.position.Position.can_go.Goals as goal
 
 pub returns-then-may_go-clause-some : goal.returns-then-may_go-clause-some
-returns-then-may_go-clause-some c e = can-move c.args.self.now c.args.a c.args.b None (c.may_go.ensures.0 c.if-may_go.true)
+returns-then-may_go-clause-some c e =
+    can-move c.args.self.now c.args.a c.args.b None (c.may_go.ensures.0 c.if-may_go.true)
 
 pub returns-then-may_go-2-clause-some : goal.returns-then-may_go-2-clause-some
-returns-then-may_go-2-clause-some c e = can-move c.args.self.now c.args.a c.args.b (Some Queen) (c.may_go-2.ensures.0 c.if-may_go-2.true)
+returns-then-may_go-2-clause-some c e =
+    can-move c.args.self.now c.args.a c.args.b (Some Queen) (c.may_go-2.ensures.0 c.if-may_go-2.true)
 
 pub returns-then-may_go-3-clause-some : goal.returns-then-may_go-3-clause-some
-returns-then-may_go-3-clause-some c e = can-move c.args.self.now c.args.a c.args.b (Some Rook) (c.may_go-3.ensures.0 c.if-may_go-3.true)
+returns-then-may_go-3-clause-some c e =
+    can-move c.args.self.now c.args.a c.args.b (Some Rook) (c.may_go-3.ensures.0 c.if-may_go-3.true)
 
 pub returns-then-may_go-4-clause-some : goal.returns-then-may_go-4-clause-some
-returns-then-may_go-4-clause-some c e = can-move c.args.self.now c.args.a c.args.b (Some Bishop) (c.may_go-4.ensures.0 c.if-may_go-4.true)
+returns-then-may_go-4-clause-some c e =
+    can-move c.args.self.now c.args.a c.args.b (Some Bishop) (c.may_go-4.ensures.0 c.if-may_go-4.true)
 
 pub returns-clause-some : goal.returns-clause-some
 returns-clause-some c e = can-move c.args.self.now c.args.a c.args.b (Some Knight) (c.may_go-5.ensures.0 e)

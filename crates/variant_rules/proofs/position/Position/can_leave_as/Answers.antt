@@ -18,10 +18,15 @@ loop-b-preserved c =
     let p = c.args.self.now in
     let a = c.args.a in
     let next = c.next_square-b-in-loop-b.ensures in
-    let here : (promo : Option Kind) → ¬ Allowed p (Plain a c.square_of.result promo) = c.can_go.ensures.none c.if-can_go.false in
+    let here : (promo : Option Kind) → ¬ Allowed p (Plain a c.square_of.result promo) =
+    c.can_go.ensures.none c.if-can_go.false in
     record {
-      none = none-step p c.args.k a c.goals-goals.result c.loop-b.b c.next_square-b-in-loop-b.result c.goals-goals.ensures next.within
-          c.loop-b.invariant.none (subst (λ (t : ℕ). (promo : Option Kind) → ¬ Allowed p (Plain a t promo)) c.square_of.ensures here) next.first;
+      none =
+          none-step p c.args.k a c.goals-goals.result c.loop-b.b c.next_square-b-in-loop-b.result c.goals-goals.ensures
+          next.within
+          c.loop-b.invariant.none
+          (subst (λ (t : ℕ). (promo : Option Kind) → ¬ Allowed p (Plain a t promo)) c.square_of.ensures here)
+          next.first;
       here = next.found;
       within = next.within;
     }

@@ -7,7 +7,8 @@ pub returns-then-can_leave_some : goal.returns-then-can_leave_some
 returns-then-can_leave_some c = (λ e. c.can_leave_some.ensures.some c.if-can_leave_some.true, λ h. refl)
 
 pub returns-then-may_castle : goal.returns-then-may_castle
-returns-then-may_castle c = (λ e. can-castle c.args.self.now false (c.may_castle.ensures.0 c.if-may_castle.true), λ h. refl)
+returns-then-may_castle c =
+    (λ e. can-castle c.args.self.now false (c.may_castle.ensures.0 c.if-may_castle.true), λ h. refl)
 
 pub returns : goal.returns
 returns c = (

@@ -9,6 +9,8 @@ invariant_of-result c =
     let b = c.self.inside in
     record {
       squares = ap length c.duplicate.ensures ∙ c.self.invariant.squares;
-      men = subst (λ (P : Placement). b.variant ≢ Bughouse → men_on P + (men_in b.white + men_in b.black) ≤ 32) (sym c.duplicate.ensures)
+      men =
+          subst (λ (P : Placement). b.variant ≢ Bughouse → men_on P + (men_in b.white + men_in b.black) ≤ 32)
+          (sym c.duplicate.ensures)
           c.self.invariant.men;
     }

@@ -10,7 +10,8 @@ returns c k t lt out allowed =
     let p = c.args.self.now in
     let occupied = c.occupied_squares.result in
     elim (has_or_not (bit_not w64 occupied) t) [
-      | inr left ↦ free-bit p.men occupied t c.occupied_squares.type_inv c.occupied_squares.ensures lt left allowed.move.free
+      | inr left ↦
+          free-bit p.men occupied t c.occupied_squares.type_inv c.occupied_squares.ensures lt left allowed.move.free
       | inl free ↦ elim (has_or_not c.args.guard.now.answers t) [
         | inl here ↦ out (Has-and_both (bit_not w64 occupied) c.args.guard.now.answers t free here)
         | inr left ↦ c.requires.guarded.shields k t lt left allowed.move.free allowed.safe

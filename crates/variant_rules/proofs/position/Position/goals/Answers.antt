@@ -16,7 +16,8 @@ returns-in-Pawn c =
     let held = subst (λ (x : Kind). IsHeldAs p.to_move x (man_at p.men a)) e c.requires.held in
     let all = subst (λ (x : Kind). IsTargetSet p x a targets) e c.targets-targets.ensures in
     subst (λ (x : Kind). AreGoals p x a (bit_and targets c.with_passed_square.result)) (sym e)
-    (pawn-goals p a targets c.with_passed_square.result c.args.guard.now held all c.requires.guarded c.with_passed_square.ensures)
+    (pawn-goals p a targets c.with_passed_square.result c.args.guard.now held all c.requires.guarded
+    c.with_passed_square.ensures)
 
 pub returns-in-King : goal.returns-in-King
 returns-in-King c =

@@ -14,9 +14,12 @@ returns c e =
     let b = c.next_square.result in
     let la : c.args.a < 64 = search rules in
     let lb : c.next_square.result < 64 = ltb-true b 64 e in
-    let other : c.args.k ≢ Pawn = λ f. true≢false (ap is_pawn_kind (sym f) ∙ sym c.is_pawn_of_kind.ensures ∙ c.if-is_pawn_of_kind.false) in
+    let other : c.args.k ≢ Pawn = λ f.
+    true≢false (ap is_pawn_kind (sym f) ∙ sym c.is_pawn_of_kind.ensures ∙ c.if-is_pawn_of_kind.false) in
     let reached = c.requires.all.reached b lb (c.next_square.ensures.found lb) in
     let move = move_of p k a b None la lb c.requires.held reached (plain_has p.to_move k b other) in
-    let safe = (c.requires.guarded.from a la (λ h. true≢false (sym (c.has_square.ensures.value.1 h) ∙ c.if-has_square.false))).safe b None move
+    let safe =
+    (c.requires.guarded.from a la (λ h. true≢false (sym (c.has_square.ensures.value.1 h) ∙ c.if-has_square.false))).safe
+    b None move
     (not_passing p.men p.to_move k a b c.requires.held other) in
     can-move p a b None (record { move = move; safe = safe })

@@ -9,7 +9,8 @@ use Rattle.variant_rules.proofs.StateLemmas.{answer-move, chess-answer, house-an
 use Rattle.variant_rules.proofs.position.Position.has_answer.Goals as goal
 
 pub returns-then-can_move : goal.returns-then-can_move
-returns-then-can_move c = (λ e. answer-move c.args.self.now.variant c.args.self.now (c.can_move.ensures.0 c.if-can_move.true), λ h. refl)
+returns-then-can_move c =
+    (λ e. answer-move c.args.self.now.variant c.args.self.now (c.can_move.ensures.0 c.if-can_move.true), λ h. refl)
 
 pub returns-in-Chess : goal.returns-in-Chess
 returns-in-Chess c =
@@ -27,8 +28,10 @@ returns-in-Crazyhouse c =
     let v : p.variant ≡ Crazyhouse = ap (λ (x : Position). x.variant) (sym c.self.view_is) ∙ c.in-Crazyhouse.is in
     let none : ¬ CanMove p = λ h. true≢false (sym (c.can_move.ensures.1 h) ∙ c.if-can_move.false) in
     let r = c.can_drop_any-in-Crazyhouse.result in
-    let here : IsTrue r ↔ HasAnswer Crazyhouse p =
-    (λ e. house-answer p (c.can_drop_any-in-Crazyhouse.ensures.0 e), λ h. c.can_drop_any-in-Crazyhouse.ensures.1 (house-drop p none h)) in
+    let here : IsTrue r ↔ HasAnswer Crazyhouse p = (
+      λ e. house-answer p (c.can_drop_any-in-Crazyhouse.ensures.0 e),
+      λ h. c.can_drop_any-in-Crazyhouse.ensures.1 (house-drop p none h),
+    ) in
     subst (λ (x : Variant). IsTrue r ↔ HasAnswer x p) (sym v) here
 
 pub returns-in-Bughouse : goal.returns-in-Bughouse
@@ -50,6 +53,8 @@ returns-in-Fischer c =
     let v : p.variant ≡ Fischer number = ap (λ (x : Position). x.variant) (sym c.self.view_is) ∙ c.in-Fischer.is in
     let none : ¬ CanMove p = λ h. true≢false (sym (c.can_move.ensures.1 h) ∙ c.if-can_move.false) in
     let r = c.can_drop_any-in-Fischer.result in
-    let here : IsTrue r ↔ HasAnswer (Fischer number) p =
-    (λ e. fischer-answer number p (c.can_drop_any-in-Fischer.ensures.0 e), λ h. c.can_drop_any-in-Fischer.ensures.1 (fischer-drop number p none h)) in
+    let here : IsTrue r ↔ HasAnswer (Fischer number) p = (
+      λ e. fischer-answer number p (c.can_drop_any-in-Fischer.ensures.0 e),
+      λ h. c.can_drop_any-in-Fischer.ensures.1 (fischer-drop number p none h),
+    ) in
     subst (λ (x : Variant). IsTrue r ↔ HasAnswer x p) (sym v) here

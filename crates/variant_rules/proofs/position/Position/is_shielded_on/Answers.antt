@@ -12,6 +12,10 @@ returns c =
     let b = c.self.inside in
     let seen = c.with.ensures b.men (c.sights_of.ensures c.self.invariant.squares) in
     let safe = c.are_safe.ensures (slice_set b.men c.args.s (Some c.unpromoted_man.result)) seen in
-    let here : IsTrue c.are_safe.result ↔ IsKingSafe (slice_set b.men c.args.s (unpromoted b.to_move Knight)) b.to_move =
-    subst (λ (man : Option Man). IsTrue c.are_safe.result ↔ IsKingSafe (slice_set b.men c.args.s man) b.to_move) c.unpromoted_man.ensures safe in
-    subst (λ (x : Position). IsTrue c.are_safe.result ↔ IsKingSafe (slice_set x.men c.args.s (unpromoted x.to_move Knight)) x.to_move) c.self.view_is here
+    let here : IsTrue c.are_safe.result
+    ↔ IsKingSafe (slice_set b.men c.args.s (unpromoted b.to_move Knight)) b.to_move =
+    subst (λ (man : Option Man). IsTrue c.are_safe.result ↔ IsKingSafe (slice_set b.men c.args.s man) b.to_move)
+    c.unpromoted_man.ensures safe in
+    subst (λ (x : Position).
+    IsTrue c.are_safe.result ↔ IsKingSafe (slice_set x.men c.args.s (unpromoted x.to_move Knight)) x.to_move)
+    c.self.view_is here

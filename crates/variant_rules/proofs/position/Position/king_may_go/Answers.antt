@@ -13,7 +13,8 @@ use Rattle.variant_rules.proofs.position.Position.king_may_go.Goals as goal
 
 pub returns-then-not-is_only_king : goal.returns-then-not-is_only_king
 returns-then-not-is_only_king c =
-    subst (λ (m : Move). IsTrue c.is_safe_after.result ↔ IsSafeAfter c.args.self.now m) c.going.ensures c.is_safe_after.ensures
+    subst (λ (m : Move). IsTrue c.is_safe_after.result ↔ IsSafeAfter c.args.self.now m) c.going.ensures
+    c.is_safe_after.ensures
 
 pub returns : goal.returns
 returns c =
@@ -33,7 +34,8 @@ returns c =
     let held : IsHeldAs p.to_move King (man_at p.men c.args.a) =
     subst (λ (x : Position). IsHeldAs x.to_move King (man_at x.men c.args.a)) (sym c.self.view_is) c.requires.held in
     let reached : Reaches p.men p.en_passant p.to_move King c.args.a c.args.b =
-    subst (λ (x : Position). Reaches x.men x.en_passant x.to_move King c.args.a c.args.b) (sym c.self.view_is) c.requires.reached in
+    subst (λ (x : Position). Reaches x.men x.en_passant x.to_move King c.args.a c.args.b) (sym c.self.view_is)
+    c.requires.reached in
     let only = c.is_only_king.ensures c.if-not-is_only_king.false in
     let safe = king-safe p.variant p.men p.to_move c.args.a c.args.b c.self.invariant.squares la lb held reached.not_own
     (not_passing p.men p.to_move King c.args.a c.args.b held king-apart) only in

@@ -9,5 +9,7 @@ returns-then-tried c free e = absurd (true≢false (sym c.if-tried.true ∙ e))
 
 pub returns-else-tried : goal.returns-else-tried
 returns-else-tried c free e =
-    let usual = ap (λ (x : Position). is_en_passant x.men c.args.a c.args.b) (sym c.self.view_is) ∙ sym c.takes_en_passant.ensures ∙ e in
+    let usual =
+    ap (λ (x : Position). is_en_passant x.men c.args.a c.args.b) (sym c.self.view_is) ∙ sym c.takes_en_passant.ensures
+    ∙ e in
     record { safe = λ promo move. (free c.if-tried.false).safe c.args.b promo move usual }

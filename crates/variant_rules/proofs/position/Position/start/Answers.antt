@@ -7,4 +7,8 @@ use Rattle.variant_rules.proofs.position.Position.start.Goals as goal
 pub invariant_of-result : goal.invariant_of-result
 invariant_of-result c =
     let array : c.of-men.result ≡ array_of c.args.v = c.of-men.ensures ∙ c.array_for.ensures in
-    record { squares = ap length array ∙ length-array c.args.v; men = λ other. omega (arith, ap men_on array, men_at_start c.args.v, ap men_in c.empty.ensures, ap men_in c.empty-2.ensures) }
+    record {
+      squares = ap length array ∙ length-array c.args.v;
+      men = λ other.
+          omega (arith, ap men_on array, men_at_start c.args.v, ap men_in c.empty.ensures, ap men_in c.empty-2.ensures);
+    }

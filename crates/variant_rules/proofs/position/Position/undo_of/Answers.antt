@@ -34,7 +34,8 @@ returns-clause-undo c =
     } in
     subst (λ (x : Position). IsUndoOf u x (next x c.args.m.now)) c.self.view_is
     (undo_made p c.args.m.now u c.squares_changed-squares.result c.self.invariant.squares c.self.invariant.men
-    c.squares_changed-squares.ensures c.stood_on.ensures.square c.stood_on-2.ensures.square c.stood_on-3.ensures.square c.stood_on-4.ensures.square
+    c.squares_changed-squares.ensures c.stood_on.ensures.square c.stood_on-2.ensures.square c.stood_on-3.ensures.square
+    c.stood_on-4.ensures.square
     (c.stood_on.ensures.man ∙ ap (man_at p.men) (sym c.stood_on.ensures.square))
     (c.stood_on-2.ensures.man ∙ ap (man_at p.men) (sym c.stood_on-2.ensures.square))
     (c.stood_on-3.ensures.man ∙ ap (man_at p.men) (sym c.stood_on-3.ensures.square))

@@ -56,5 +56,7 @@ invariant_of-self c =
     let back : new ≡ p = position_back u p q new h variant four side refl refl refl refl refl in
     record {
       squares = ap (λ (x : Position). length x.men) back ∙ h.size;
-      men = subst (λ (x : Position). x.variant ≢ Bughouse → men_on x.men + (men_in x.white + men_in x.black) ≤ 32) (sym back) h.few;
+      men =
+          subst (λ (x : Position). x.variant ≢ Bughouse → men_on x.men + (men_in x.white + men_in x.black) ≤ 32)
+          (sym back) h.few;
     }

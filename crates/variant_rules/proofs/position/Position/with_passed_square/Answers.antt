@@ -13,4 +13,5 @@ returns-in-Some c t lt out =
 
 pub returns-in-None : goal.returns-in-None
 returns-in-None c t lt out =
-    let here = ap (λ (x : Position). x.en_passant) (sym c.self.view_is) ∙ c.in-None.is in (out, λ e. none-some t (sym here ∙ e))
+    let here = ap (λ (x : Position). x.en_passant) (sym c.self.view_is) ∙ c.in-None.is in
+    (out, λ e. none-some t (sym here ∙ e))
