@@ -29,8 +29,8 @@ pub trait Runner {
         ensures known { IsKnown (state self.now) };
 
     /// Makes an act at `moment`, in milliseconds, and writes its reply, which is the server's, over what stands in its
-    /// place. Running out of memory gives no reply, and the act isn't made. Where the mark is true, an act that needs no
-    /// memory of its own never runs out of it.
+    /// place. Running out of memory gives no reply, and the act isn't made. Where the mark is true, an act that needs
+    /// no memory of its own never runs out of it.
     fn run(
         &mut self,
         alloc: Global,
