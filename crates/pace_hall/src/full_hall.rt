@@ -45,7 +45,8 @@ pub struct FullHall {
 
 impl FullHall {
     /// A hall with 4,096 accounts, 9,999 games of theirs that are adjourned, and 255 guests who don't want to hear of
-    /// seeks, of whom each has three seeks, challenges 16 others, has asked 16 to be its partner, and is in 20 channels.
+    /// seeks, of whom each has three seeks, challenges 16 others, has asked 16 to be its partner, and is in 20
+    /// channels.
     pub fn open(alloc: Global) -> Result<FullHall, Fail> {
         let mut hall = FullHall {
             alloc,
