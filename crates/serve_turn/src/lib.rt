@@ -6,10 +6,10 @@
 //! memory is told only with word that memory ran out.
 #![tactic(auto)]
 
+mod one_turn;
 mod shared;
 mod supply;
-mod turn;
 
+pub use one_turn::{last_turn, turn};
 pub use shared::Shared;
 pub use supply::Supply;
-pub use turn::{last_turn, turn};

@@ -4,7 +4,7 @@ use Rattle.hall_core.specs.Passes.{PassState}
 use Rattle.steward_core.specs.Turn.{end_of_turn}
 use Rattle.serve_turn.specs.Turns.{MadeTurn, supply_in}
 use Rattle.serve_turn.proofs.Halves.{made_halves}
-use Rattle.serve_turn.proofs.turn.turn.Goals as goal
+use Rattle.serve_turn.proofs.one_turn.turn.Goals as goal
 
 pub returns-clause-turn : goal.returns-clause-turn
 returns-clause-turn g c =
