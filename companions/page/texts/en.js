@@ -173,6 +173,7 @@ export const TEXTS = {
   "way.anew": "The server begins anew, and the page comes back by itself.",
   "way.asks": "Come in again with your password, for which the page asks once.",
   "way.adjourned": "The game against {who} is adjourned, and goes on once {who} is here too.",
+  "way.refused": "The game against {who} is adjourned, and can't go on now. {why}",
   "way.not-kept": "The game against {who} wasn't kept.",
   "way.back": "You are back.",
   "way.enters": "The seat is gone. The page enters again under your name.",
