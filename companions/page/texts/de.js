@@ -339,6 +339,7 @@ export const TEXTS = {
   "talk.left-out": "… {n} Zeilen ausgelassen",
   "talk.left-out-one": "… eine Zeile ausgelassen",
   "talk.hide": "Nicht zeigen, was {who} sagt",
+  "talk.hide-guests": "Nicht zeigen, was Gäste ohne eigenen Namen sagen",
   "talk.of": "Mit {who} reden",
   "talk.unread": "{n} ungelesen",
   "talk.to-all": "Allen zurufen",

@@ -331,6 +331,7 @@ export const TEXTS = {
   "talk.left-out": "… {n} lines of talk left out",
   "talk.left-out-one": "… one line of talk left out",
   "talk.hide": "Don't show what {who} says",
+  "talk.hide-guests": "Don't show what guests without a name of their own say",
   "talk.of": "Talk with {who}",
   "talk.unread": "{n} unread",
   "talk.to-all": "Shout to all",
