@@ -23,7 +23,7 @@ export function playerRow(who, me, games, seeks, hide) {
       command: `observe ${who}` }] : [],
     { drawing: "challenge", label: t("player.play"), name: t("player.challenge", { who }), challenge: who },
     { drawing: "talk", label: t("player.tell"), name: t("player.tell-name", { who }), room: `person ${who}` },
-    hide,
+    { ...hide, label: t("player.hide") },
   ];
   return { key: who, parts: { who: withName(who, me), does }, buttons,
     className: game ? "plays" : "" };

@@ -229,6 +229,7 @@ export const TEXTS = {
   "player.watch": "Zusehen",
   "player.play": "Fordern",
   "player.tell": "Schreiben",
+  "player.hide": "Stumm",
   "seek.take-back": "Löschen",
   "seek.take-back-name": "Gesuch {n} zurückziehen",
   "seek.play": "Spielen",

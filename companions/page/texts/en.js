@@ -221,6 +221,7 @@ export const TEXTS = {
   "player.watch": "Watch",
   "player.play": "Challenge",
   "player.tell": "Message",
+  "player.hide": "Mute",
   "seek.take-back": "Take back",
   "seek.take-back-name": "Take back seek {n}",
   "seek.play": "Play",
