@@ -153,7 +153,9 @@ function start() {
     session, games, smallGames, play, simul, preferences, shows: (keys) => lobby.showChallenges(keys),
   });
   /** @type {Lobby} */
-  const lobby = new Lobby(session, games, smallGames, (rows) => calls.challenged(rows));
+  const lobby = new Lobby(session, games, smallGames, {
+    challenged: (rows) => calls.challenged(rows), hideOf: (who) => settings.hideOf(who),
+  });
   const following = new Following(games);
   hearers.push((...it) => following.told(...it), (...it) => play.told(...it), (...it) => view.changed(...it),
     (...it) => sounds.told(...it), (...it) => alerts.told(...it), () => calls.show(), () => lobby.running.want(),
@@ -162,7 +164,10 @@ function start() {
   const earlier = new Earlier(() => archiveLinks.isThere, (game) => games.changed(game, { kind: "chosen" }));
   hearers.push(() => archiveLinks.show(games.shown), (game) => earlier.told(game));
   const wayBack = new WayBack(session, games, store, kept);
-  preferences.onChange(() => view.show());
+  preferences.onChange(() => {
+    lobby.show();
+    view.show();
+  });
   listenForRatings(session, () => {
     lobby.show();
     view.show();

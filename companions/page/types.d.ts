@@ -278,6 +278,7 @@ interface RowButton {
   challenge?: string;
   isOff?: boolean;
   leaves?: string;
+  prefers?: PreferenceName;
   /** Of a switch whether it is on. */
   isPressed?: boolean;
 }
@@ -436,6 +437,11 @@ interface TalkListeners {
   isKeptAway(who: string): boolean;
   isShown(who: string): boolean;
   isHidden(who: string): boolean;
+}
+
+interface LobbyListeners {
+  challenged(rows: Row[]): void;
+  hideOf(who: string): RowButton;
 }
 
 interface SeatListeners {

@@ -15,6 +15,7 @@ from pathlib import Path
 from types import TracebackType
 
 from ficsd_companions.cli.program import explained
+from ficsd_companions.cli.replacing import flush
 
 from . import records
 from .faults import Refused, Spoiled, said_in_words
@@ -37,14 +38,6 @@ def undisturbed() -> Iterator[None]:
 def beside(path: Path, end: str) -> Path:
     """The file beside one whose name has that end more."""
     return path.with_name(path.name + end)
-
-
-def flush(path: Path) -> None:
-    handle = os.open(path, os.O_RDONLY)
-    try:
-        os.fsync(handle)
-    finally:
-        os.close(handle)
 
 
 def make_like(path: Path, like: os.stat_result) -> None:

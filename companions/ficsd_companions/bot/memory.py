@@ -6,6 +6,7 @@ from collections.abc import Sequence
 from dataclasses import asdict, dataclass, field
 from pathlib import Path
 
+from ficsd_companions.cli.replacing import replace
 from ficslink.game import Game
 
 from .journal import say
@@ -86,9 +87,7 @@ class Memory:
         """Writes the file, whole or not at all."""
         if not self.path:
             return
-        new = self.path.with_name(self.path.name + ".new")
         try:
-            new.write_text(json.dumps([asdict(it) for it in self.games]), encoding="ascii")
-            os.replace(new, self.path)
+            replace(self.path, json.dumps([asdict(it) for it in self.games]), to_disk=False)
         except OSError as fault:
             say(f"the games can't be kept in {self.path}: {fault.strerror}")

@@ -1,10 +1,11 @@
 """The evening's games out of the archive that fics_scribe keeps."""
 
-import os
 import re
 from collections.abc import Mapping
 from datetime import datetime
 from pathlib import Path
+
+from ficsd_companions.cli.replacing import replace
 
 from .evening import Evening, Pair
 
@@ -66,7 +67,5 @@ def write(file: Path, archive: Path, evening: Evening) -> int:
         return 0
     games = _of_evening(file, archive, evening)
     in_order = [games[pair] for pairs in evening.rounds for pair in pairs if pair in games]
-    new = file.with_name(file.name + ".new")
-    new.write_text("".join(in_order), encoding="utf-8")
-    os.replace(new, file)
+    replace(file, "".join(in_order))
     return len(in_order)

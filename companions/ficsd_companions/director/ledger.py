@@ -5,10 +5,11 @@ whoever reads it, at whatever moment, finds all lines of the one state or of the
 """
 
 import asyncio
-import os
 import subprocess
 from collections.abc import Sequence
 from pathlib import Path
+
+from ficsd_companions.cli.replacing import replace
 
 from .evening import REFUSED, BadFile, Evening, questions, read
 
@@ -69,17 +70,7 @@ class Ledger:
         self.lines, self.evening = lines, evening
 
     def _write(self, lines: list[str]) -> None:
-        new = self.path.with_name(self.path.name + ".new")
-        with open(new, "w", encoding="ascii") as file:
-            file.write("".join(f"{it}\n" for it in lines))
-            file.flush()
-            os.fsync(file.fileno())
-        os.replace(new, self.path)
-        folder = os.open(self.path.absolute().parent, os.O_RDONLY)
-        try:
-            os.fsync(folder)
-        finally:
-            os.close(folder)
+        replace(self.path, "".join(f"{it}\n" for it in lines))
 
     async def _evening(self, lines: list[str]) -> Evening:
         """Asks the program."""

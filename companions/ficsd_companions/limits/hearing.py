@@ -22,6 +22,14 @@ SAID = re.compile(
 Clock = Callable[[], float]
 
 
+LEFT_OUT = re.compile(r"\(\d+ lines? of talk left out\)")
+
+
+def is_talk(line: str) -> bool:
+    """Whether a line is talk, or says how much of it was left out."""
+    return bool(SAID.match(line) or LEFT_OUT.fullmatch(line))
+
+
 def left_out(count: int) -> str:
     """The line that says how many were left out."""
     return f"({count} {'line' if count == 1 else 'lines'} of talk left out)"

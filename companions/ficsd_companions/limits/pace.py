@@ -76,6 +76,16 @@ class Pace:
 
 def unread(link: Socket) -> int:
     """How many bytes have come by a socket that weren't read."""
+    return told_of(link, termios.FIONREAD)
+
+
+def untaken(link: Socket) -> int:
+    """How many bytes went to a socket that the other side hasn't taken."""
+    return told_of(link, termios.TIOCOUTQ)
+
+
+def told_of(link: Socket, question: int) -> int:
+    """What the system tells of a socket."""
     count = array.array("i", [0])
-    fcntl.ioctl(link.fileno(), termios.FIONREAD, count)
+    fcntl.ioctl(link.fileno(), question, count)
     return count[0]

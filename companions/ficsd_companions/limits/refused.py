@@ -3,11 +3,12 @@ address from which they came, one line each, as the filter for fail2ban reads th
 
 import asyncio
 import ipaddress
-import os
 import sys
 from collections import Counter
 from enum import Enum
 from pathlib import Path
+
+from ficsd_companions.cli.replacing import replace
 
 TELL_EVERY = 5  # seconds
 METRIC = "ficsd_refused_total"
@@ -57,10 +58,8 @@ class Refused:
 
 def put(file: Path, text: str) -> bool:
     """Puts a text into a file in the place of what was there: whether that was done."""
-    beside = file.with_name(f"{file.name}.new")
     try:
-        beside.write_text(text, encoding="utf-8")
-        os.replace(beside, file)
+        replace(file, text, to_disk=False)
     except OSError:
         return False
     return True

@@ -6,12 +6,11 @@ It is no part of what is proved. It reads a copy of the store, and changes nothi
 
 import argparse
 import logging
-import os
 import signal
 import time
-from contextlib import suppress
 from pathlib import Path
 
+from ficsd_companions.cli.replacing import replace
 from ficsd_companions.cli.version import add_version
 
 from .known import Names
@@ -33,17 +32,7 @@ class Chosen(argparse.Namespace):
 
 def write(file: Path, names: frozenset[str]) -> None:
     """Puts the list into the place of the one that is there, whole."""
-    new = file.with_name(file.name + ".new")
-    try:
-        with open(new, "w", encoding="ascii") as out:
-            out.write("".join(f"{it}\n" for it in sorted(names)))
-            out.flush()
-            os.fsync(out.fileno())
-        new.replace(file)
-    except OSError:
-        with suppress(OSError):
-            new.unlink()
-        raise
+    replace(file, "".join(f"{it}\n" for it in sorted(names)))
 
 
 def follow(chosen: Chosen) -> None:

@@ -13,16 +13,14 @@ from dataclasses import dataclass, field
 from datetime import datetime
 from pathlib import Path
 
+from ficsd_companions.cli.replacing import UNFINISHED, replace
+
 MOST_FOR_EACH = 20
 HANDLE = re.compile("[A-Za-z]{3,17}")
-ENDING, UNFINISHED = ".json", ".new"
+ENDING = ".json"
+PRIVATE = 0o600  # a file that nobody else reads
 
 logger = logging.getLogger("fics_ratings")
-
-
-def private(path: str, flags: int) -> int:
-    """Opens a file that nobody else reads."""
-    return os.open(path, flags, 0o600)
 
 
 class Full(Exception):
@@ -91,20 +89,12 @@ class Box:
             self.waiting.setdefault(to.casefold(), []).append(message)
 
     def _write(self, it: Message) -> None:
-        new = it.path.with_suffix(UNFINISHED)
         kept = {"sender": it.sender, "to": it.to, "when": it.when.isoformat(), "text": it.text}
         try:
-            with open(new, "wb", buffering=0, opener=private) as file:
-                text = memoryview(json.dumps(kept).encode())
-                while text:
-                    text = text[file.write(text) :]
-                os.fsync(file.fileno())
-            new.replace(it.path)
-            os.fsync(self._folder)
+            replace(it.path, json.dumps(kept), mode=PRIVATE)
         except OSError:
-            for path in (new, it.path):
-                with suppress(OSError):
-                    path.unlink()
+            with suppress(OSError):
+                it.path.unlink()
             raise
 
     def remove(self, message: Message) -> None:

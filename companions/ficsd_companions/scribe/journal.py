@@ -11,6 +11,7 @@ from contextlib import suppress
 from datetime import datetime
 from pathlib import Path
 
+from ficsd_companions.cli.replacing import replace
 from ficslink.lines import GameListed
 from ficslink.terms import Terms
 
@@ -96,19 +97,11 @@ class Journal:
         head = json.dumps(
             {"games": games, "begun": first.begun.isoformat(), **({"late": True} if first.is_late else {})}
         )
-        new = self.path.with_suffix(".new")
+        data = "".join(f"{it}\n" for it in (head, *lines)).encode()
         self._folder.mkdir(parents=True, exist_ok=True)
-        try:
-            file = os.open(new, os.O_WRONLY | os.O_CREAT | os.O_CLOEXEC, 0o666)
-            try:
-                self._size = whole.put(file, 0, "".join(f"{it}\n" for it in (head, *lines)).encode())
-            finally:
-                os.close(file)
-            self.close()
-            os.replace(new, self.path)
-        except OSError:
-            new.unlink(missing_ok=True)
-            raise
+        replace(self.path, data, to_disk=False)
+        self.close()
+        self._size = len(data)
         self._stands = self._is_made = True
         self._written, self._has_links = len(lines), False
 

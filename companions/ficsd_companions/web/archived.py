@@ -3,6 +3,7 @@
 import asyncio
 import json
 import logging
+import sys
 from collections.abc import Callable
 from concurrent.futures import ThreadPoolExecutor
 from functools import partial
@@ -22,6 +23,7 @@ NOW = r"/now/{number:\d{1,6}}/{white:[A-Za-z]{3,17}}/{black:[A-Za-z]{3,17}}.json
 SHELL = "games.html"
 A_LIST = 16  # requests as which a list counts, for which perhaps all games are looked through
 MOST_ASKED = 100  # characters of each thing that an address asks for
+TURN_SECONDS = 0.0005
 ASKED = ("name", "other", "variant", "result", "before", "white", "black", "half-moves")
 MOST_NAMES = 256 * 18  # characters of the names whose ratings are asked for
 
@@ -32,7 +34,8 @@ logger = logging.getLogger("fics_web")
 
 
 class Archived:
-    """Answers by a thread of its own, so that nobody's move waits while files are read."""
+    """Answers by a thread of its own, so that nobody's move waits while files are read. It gives way every half a
+    millisecond: by Python's usual five each step of an answer would wait so long while it searches."""
 
     def __init__(
         self, folder: Path, pages: Pages, take: Callable[[web.BaseRequest, int], bool], rates: bool = False
@@ -41,6 +44,7 @@ class Archived:
         told too."""
         self.folder, self.archive, self.pages, self.take = folder, Archive(folder, rates), pages, take
         self.thread = ThreadPoolExecutor(1, "archive")
+        sys.setswitchinterval(TURN_SECONDS)
 
     def add_routes(self, router: web.UrlDispatcher) -> None:
         router.add_get(BEGINNING, self.lead)

@@ -9,7 +9,7 @@ import socket
 from typing import Protocol
 
 from aiohttp import WSCloseCode, web
-from ficsd_companions.limits.pace import Flood, Pace
+from ficsd_companions.limits.pace import Flood, Pace, untaken
 from ficsd_companions.limits.refused import Refused
 
 from .closes import Closed
@@ -185,6 +185,11 @@ class Gate(asyncio.BufferedProtocol):
     def unsent(self) -> int:
         """How many bytes wait for the socket."""
         return self.transport.get_write_buffer_size()
+
+    @property
+    def untaken(self) -> int:
+        """How many bytes the other side hasn't taken; behind a proxy, how many that hasn't."""
+        return 0 if self.is_lost or self.transport.is_closing() else self.unsent + untaken(self.socket)
 
     def become_tab(self) -> None:
         """From now on the connection is a tab, of which no more is read until it is `free`."""

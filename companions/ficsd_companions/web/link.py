@@ -24,6 +24,8 @@ TAKING_SECONDS = 30  # for a tab to take something of what is due to it
 CLOSING_SECONDS, READING_SECONDS = 3, 1
 LOGIN_SECONDS = 120
 A_TURN = 4  # tabs that are closed in one turn of the loop
+MOST_UNTAKEN = 4096  # bytes, with which no talk is told, so that a board which comes next waits for no more
+TALK_EVERY_SECONDS = 0.05
 MOST_UNSENT = UNSENT_AGAIN  # bytes, with which nothing is sent that can be left out; with fewer nobody is kept waiting
 
 
@@ -54,7 +56,7 @@ class Link:
         """Runs until one side has closed, and closes the tab, which is done behind all that the server wrote: whether
         the tab may come back."""
         up = asyncio.create_task(self.up())
-        watches = [asyncio.create_task(it) for it in (self.down(), self.signs(), self.login())]
+        watches = [asyncio.create_task(it) for it in (self.down(), self.talk_on(), self.signs(), self.login())]
         tasks: list[asyncio.Future[bool] | asyncio.Future[None]] = [
             up,
             *watches,
@@ -172,6 +174,14 @@ class Link:
         while (text := await self.server.next()) is not None:
             await self.send(text)
         self.code = WSCloseCode.OK if self.talk.has_left else WSCloseCode.GOING_AWAY
+
+    async def talk_on(self) -> None:
+        """Tells talk that was held back, a little at a time, as the tab takes what it is told."""
+        self.server.waits = lambda: self.gate.untaken > MOST_UNTAKEN
+        while True:
+            await self.server.holds.wait()
+            await asyncio.sleep(TALK_EVERY_SECONDS)
+            self.server.let_some_go()
 
     async def send(self, text: str) -> None:
         """Sends the tab a message, unless it takes none any more."""

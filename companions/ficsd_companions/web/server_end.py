@@ -2,11 +2,12 @@
 
 import asyncio
 import socket
-from collections.abc import Iterable
+from collections.abc import Callable, Iterable
 
 from ficsd_companions.limits.hearing import LEFT_OUT_SECONDS
 from ficslink.errors import TooLong
 
+from .held import Held
 from .kept import Kept
 from .questions import List
 from .talk import Talk
@@ -16,6 +17,11 @@ UNSENT = 16384  # bytes that wait for the server before the tab has to
 MOST_UNTOLD = 128  # messages that a tab hasn't been told; to who is further behind no talk is told
 A_MOMENT = 0.02  # seconds
 MOST_OWED = 256  # lines that aren't answered; no more are taken of the tab then
+
+
+def never() -> bool:
+    """What is said of a tab that takes all that it is told, and where there is none."""
+    return False
 
 
 class ServerEnd(asyncio.BufferedProtocol):
@@ -28,8 +34,10 @@ class ServerEnd(asyncio.BufferedProtocol):
 
     def __init__(self, talk: Talk, keeps_told: bool = False) -> None:
         self.talk = talk
-        self.kept = Kept(keeps_told=keeps_told)
+        self.kept, self.held = Kept(keeps_told=keeps_told), Held()
         self.has_reader = True
+        self.waits: Callable[[], bool] = never  # whether the tab hasn't taken what it was told
+        self.holds = asyncio.Event()  # talk back
         self.over, self.can_write = asyncio.Event(), asyncio.Event()
         self.has_told, self.has_answered = asyncio.Event(), asyncio.Event()
         self.can_write.set()
@@ -51,7 +59,7 @@ class ServerEnd(asyncio.BufferedProtocol):
         return self.room
 
     def buffer_updated(self, nbytes: int) -> None:
-        is_behind = self.has_reader and self.kept.untold > MOST_UNTOLD
+        is_behind = self.has_reader and self.kept.untold + len(self.held.talk) > MOST_UNTOLD
         try:
             self.add(self.talk.from_server(bytes(self.room[:nbytes]), is_behind))
         except TooLong:
@@ -77,6 +85,7 @@ class ServerEnd(asyncio.BufferedProtocol):
             self.telling.cancel()
         self.can_write.set()
         self.add(self.talk.left())
+        self.let_all_go()
         self.has_told.set()
         self.has_answered.set()
 
@@ -89,6 +98,12 @@ class ServerEnd(asyncio.BufferedProtocol):
     # ---- from the server ----
 
     def add(self, texts: Iterable[str]) -> None:
+        """Takes what the tab is to be told; talk is held back where the tab waits."""
+        self.keep(self.held.of(texts, self.waits()))
+        if self.held.talk:
+            self.holds.set()
+
+    def keep(self, texts: Iterable[str]) -> None:
         if texts:
             self.kept.add(texts, self.has_reader)
             self.has_told.set()
@@ -107,8 +122,22 @@ class ServerEnd(asyncio.BufferedProtocol):
             self.transport.resume_reading()
         return text
 
+    def let_some_go(self) -> None:
+        """Has the tab told some of the talk that was held back, unless it still waits."""
+        if not self.waits():
+            self.keep(self.held.some())
+        if not self.held.talk:
+            self.holds.clear()
+
+    def let_all_go(self) -> None:
+        """Holds nothing back any more."""
+        self.waits = never
+        self.holds.clear()
+        self.keep(self.held.all())
+
     def lose_reader(self) -> None:
         """From now on nobody is there to be told. What comes is kept as far as there is room, and read in any case."""
+        self.let_all_go()
         self.has_reader = False
         self.kept.add((), False)
         self.transport.resume_reading()
@@ -116,6 +145,7 @@ class ServerEnd(asyncio.BufferedProtocol):
     def find_reader(self, heard: int | None, begins_anew: bool) -> bool:
         """Somebody is there to be told again, who has heard so many messages, where it is known: whether it is told
         just what it hasn't heard. Else it knows nothing of what came before, and begins anew."""
+        self.let_all_go()
         self.has_reader = True
         is_same = heard is not None and self.kept.go_back(heard) and not begins_anew
         if not is_same:

@@ -3,6 +3,7 @@
  * that was adjourned. A bar says what goes on. */
 
 import { GONE } from "./link.js";
+import { inWords } from "./refusals.js";
 import { byId, tellMember } from "../shell/elements.js";
 import { Remembered } from "./remembered.js";
 import { hasText, t } from "../shell/texts.js";
@@ -12,6 +13,7 @@ const KEY = "seat";
 const PASSWORD = "password: ";
 const STAYS = 5_000; // milliseconds
 const LOOKS = [0, 500, 2_000]; // milliseconds before each look at the shelf, to which a game comes a little later
+const NOT_HERE = 32; // the refusal where nobody of that name is in
 const ANEW = 1001; // the code of a close by a server that ends, perhaps to begin anew
 const GUEST = /^Guest[A-Z]{4}$/; // a name that the server gives
 const LOST = [GONE, 1001, 1005, 1006, 4004]; // codes of a close that nobody wished for
@@ -189,12 +191,24 @@ export class WayBack {
     }
     const names = await this.storedWith(opponents);
     this.awaited = new Set(opponents.filter((it) => names.includes(it)));
-    for (const other of [...this.awaited]) {
+    /** @type {Map<string, number>} */
+    const refused = new Map();
+    for (const other of this.awaited) { // those who have asked meanwhile aren't in it any more
       this.asked = other;
-      await this.session.ask(`resume ${other}`); // who isn't here yet asks later
+      const { refusal } = await this.session.ask(`resume ${other}`);
+      if (refusal && refusal !== NOT_HERE) { // who isn't here yet asks later
+        refused.set(other, refusal);
+      }
     }
     this.asked = "";
-    tellMember(opponents.map((who) => t(names.includes(who) ? "way.adjourned" : "way.not-kept", { who })).join(" "));
+    tellMember(opponents.map((who) => this.adjournedInWords(who, names.includes(who), refused.get(who))).join(" "));
+  }
+
+  /** What became of a game; `refusal` is the number of that by which it doesn't go on now.
+   * @param {string} who @param {boolean} isKept @param {number} [refusal] */
+  adjournedInWords(who, isKept, refusal) {
+    return refusal ? t("way.refused", { who, why: inWords(refusal) })
+      : t(isKept ? "way.adjourned" : "way.not-kept", { who });
   }
 
   /** Goes on with whom asks for it, where that is awaited. A question of one's own that is on its way says so already.

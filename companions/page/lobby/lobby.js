@@ -32,12 +32,13 @@ function noRows() {
 }
 
 export class Lobby {
-  /** `challenged` gets the rows of the challenges to the member.
-   * @param {Session} session @param {Games} games @param {SmallGames} smallGames
-   * @param {(rows: Row[]) => void} challenged */
-  constructor(session, games, smallGames, challenged) {
+  /** `challenged` gets the rows of the challenges to the member; `hideOf(who)` is the switch by which nothing that a
+   * player says is shown.
+   * @param {Session} session @param {Games} games @param {SmallGames} smallGames @param {LobbyListeners} listeners */
+  constructor(session, games, smallGames, { challenged, hideOf }) {
     this.session = session;
     this.challenged = challenged;
+    this.hideOf = hideOf;
     this.running = new RunningGames(session, games, smallGames);
     this.seeks = new StillList(byId("seeks"));
     this.players = new StillList(byId("players"));
@@ -134,6 +135,8 @@ export class Lobby {
     (CHANGING[answer.command] ?? []).forEach((it) => this.ask(it));
     if (answer.command in this.rows) {
       this.set(/** @type {ListName} */ (answer.command), answer.events);
+    }
+    if (answer.command in this.rows || answer.command.endsWith("censor")) {
       this.show();
     }
   }
@@ -148,7 +151,7 @@ export class Lobby {
     const { who, sought, games, pending, stored } = this.rows;
     showUsual(sought.filter((it) => it.who === me));
     this.seeks.show(sought.map((it) => seekRow(it, me)), t("lobby.no-seeks"));
-    this.players.show(who.map((it) => playerRow(it.who, me, games, sought)));
+    this.players.show(who.map((it) => playerRow(it.who, me, games, sought, this.hideOf(it.who))));
     this.showChallenges();
     showRows(byId("stored"), stored.map((it) => storedRow(it, me)), t("lobby.none"));
     byId("players-count").textContent = who.length ? ` ${who.length}` : "";

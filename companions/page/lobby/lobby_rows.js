@@ -10,9 +10,10 @@ function withName(who, me, pool = "") {
   return who === me ? t("player.you", { who: rated }) : rated;
 }
 
-/** A player, and what it does.
- * @param {string} who @param {string} me @param {Happened<'game'>[]} games @param {Happened<'sought'>[]} seeks */
-export function playerRow(who, me, games, seeks) {
+/** A player, and what it does; `hide` is the switch by which nothing that it says is shown.
+ * @param {string} who @param {string} me @param {Happened<'game'>[]} games @param {Happened<'sought'>[]} seeks
+ * @param {RowButton} hide */
+export function playerRow(who, me, games, seeks, hide) {
   const game = games.find((it) => [it.white, it.black].includes(who));
   const seek = seeks.find((it) => it.who === who);
   const does = game ? t("player.plays", { who: game.white === who ? game.black : game.white })
@@ -22,6 +23,7 @@ export function playerRow(who, me, games, seeks) {
       command: `observe ${who}` }] : [],
     { drawing: "challenge", label: t("player.play"), name: t("player.challenge", { who }), challenge: who },
     { drawing: "talk", label: t("player.tell"), name: t("player.tell-name", { who }), room: `person ${who}` },
+    { ...hide, label: t("player.hide") },
   ];
   return { key: who, parts: { who: withName(who, me), does }, buttons,
     className: game ? "plays" : "" };

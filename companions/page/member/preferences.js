@@ -1,5 +1,7 @@
 /** What a member prefers, kept by the browser for the next time. */
 
+import { onClickAt } from "../shell/elements.js";
+
 const KEY = "preferences";
 /** @type {Record<PreferenceName, boolean>} */
 const USUAL = { sounds: true, notes: false, premoves: true, legal: true, queen: false, flag: true, guests: true };
@@ -56,7 +58,7 @@ export function browserStore() {
   }
 }
 
-/** Each box that names what is preferred shows it, and changes it.
+/** Each box that names what is preferred shows it, and changes it; so does a switch that is made where it is shown.
  * @param {Preferences} preferences */
 export function listenForPreferences(preferences) {
   /** @type {HTMLInputElement[]} */
@@ -65,6 +67,10 @@ export function listenForPreferences(preferences) {
   const named = (box) => /** @type {PreferenceName} */ (box.dataset.prefer);
   const show = () => boxes.forEach((it) => { it.checked = preferences.get(named(it)); });
   boxes.forEach((it) => it.addEventListener("change", () => preferences.set(named(it), it.checked)));
+  onClickAt(document, "[data-prefers]", (button) => {
+    const name = /** @type {PreferenceName} */ (button.dataset.prefers);
+    preferences.set(name, !preferences.get(name));
+  });
   preferences.onChange(show);
   show();
 }

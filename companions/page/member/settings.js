@@ -1,6 +1,7 @@
 /** The account, what reaches the member, and who is kept away. The server shows nothing of it, so the page
  * remembers. */
 
+import { hideButton, hideGuestsButton } from "../talk/hide.js";
 import { showRows } from "../shell/list.js";
 import { byId, onSubmit, tellMember } from "../shell/elements.js";
 import { isPassword } from "./passwords.js";
@@ -51,6 +52,14 @@ export class Settings {
    * @param {string} who */
   isShown(who) {
     return !this.isHidden(who) && (this.preferences.get("guests") || !GUEST.test(who));
+  }
+
+  /** The switch by which nothing of what that player says is shown. At a guest's it is of all guests, who come again
+   * under other names.
+   * @param {string} who */
+  hideOf(who) {
+    const isHidden = this.isHidden(who);
+    return GUEST.test(who) && !isHidden ? hideGuestsButton(!this.preferences.get("guests")) : hideButton(who, isHidden);
   }
 
   /** Whether the member wants to be asked by that player.

@@ -5,8 +5,10 @@ import { element, icon } from "./elements.js";
 const states = new WeakMap(); // of each row what it says
 
 /** What a button may name: a command, the game it is `at`, a field to `fill`, a `room` of the talk, one that it
- * `leaves`, a game to `show`, what it `dismiss`es, or a player to `challenge`. */
-const NAMED = /** @type {const} */ (["command", "at", "fill", "dismiss", "room", "leaves", "show", "challenge"]);
+ * `leaves`, a game to `show`, what it `dismiss`es, a player to `challenge`, or what it has the member `prefer`, or not. */
+const NAMED = /** @type {const} */ (
+  ["command", "at", "fill", "dismiss", "room", "leaves", "show", "challenge", "prefers"]
+);
 
 /** A button that says `label`, or shows a drawing, with the label below it where there is one, or has parts as a row
  * has.

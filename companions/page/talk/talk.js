@@ -2,6 +2,7 @@
  * to the member doesn't change whom the member writes to. */
 
 import { byId, onClick, onClickAt, onSubmit, tellMember } from "../shell/elements.js";
+import { hideButton } from "./hide.js";
 import { buttonOf } from "../shell/list.js";
 import { Rooms } from "./rooms.js";
 import { hasText, onLanguage, t } from "../shell/texts.js";
@@ -294,9 +295,7 @@ export class Talk {
    * @returns {RowButton[]} */
   actsOfPerson(key, n) {
     const who = this.rooms.byKey.get(key)?.name.textContent ?? n;
-    const isHidden = this.isHidden(who);
-    return [{ drawing: "hide", name: t("talk.hide", { who }), command: `${isHidden ? "-" : "+"}censor ${who}`,
-      isPressed: isHidden }, { drawing: "close", name: t("close"), leaves: key }];
+    return [hideButton(who, this.isHidden(who)), { drawing: "close", name: t("close"), leaves: key }];
   }
 
   forget() {

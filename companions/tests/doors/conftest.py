@@ -1,10 +1,7 @@
 """A server with one account, before which the examples stand."""
 
-import asyncio
 import socket
-import ssl
-from collections.abc import AsyncIterator, Iterator
-from contextlib import asynccontextmanager
+from collections.abc import Iterator
 
 import aiohttp
 import pytest
@@ -12,9 +9,8 @@ import pytest
 from tests.kit import paths
 from tests.kit.link import Link
 from tests.kit.ports import free_port
+from tests.kit.proxies import visitor
 from tests.kit.running import Run, Server, async_wait_until, wait_until
-
-from .pages import HOST
 
 VISITOR = "127.0.0.5"  # an address of this machine that isn't the proxy's
 
@@ -48,31 +44,6 @@ def face(server: Server) -> Iterator[Face]:
     it.end()
 
 
-def untrusting() -> ssl.SSLContext:
-    """TLS whatever the certificate."""
-    it = ssl.create_default_context()
-    it.check_hostname, it.verify_mode = False, ssl.CERT_NONE
-    return it
-
-
-class Here(aiohttp.abc.AbstractResolver):
-    """Each name is this machine's."""
-
-    async def resolve(self, host: str, port: int = 0, family: int = socket.AF_INET) -> list[dict[str, object]]:
-        return [{"hostname": host, "host": "127.0.0.1", "port": port, "family": socket.AF_INET, "proto": 0, "flags": 0}]
-
-    async def close(self) -> None:
-        pass
-
-
-@asynccontextmanager
-async def visitor(address: str = VISITOR) -> AsyncIterator[aiohttp.ClientSession]:
-    """Who comes from an address of this machine, by TLS."""
-    connector = aiohttp.TCPConnector(resolver=Here(), local_addr=(address, 0), ssl=untrusting())
-    async with aiohttp.ClientSession(connector=connector) as it:
-        yield it
-
-
 def is_listening(port: int) -> bool:
     try:
         with socket.create_connection(("127.0.0.1", port), timeout=1):
@@ -98,7 +69,7 @@ async def part(tab: aiohttp.ClientWebSocketResponse) -> list[str]:
 async def try_page(address: str, log: list[str]) -> None:
     """The page and a link through a proxy; a wrong password is logged with the visitor's address, and not the proxy's,
     whatever the visitor says of that."""
-    async with visitor() as it:
+    async with visitor(VISITOR) as it:
         async with it.get(address) as page:
             assert page.status == 200 and "<html" in await page.text()
         said = {"X-Forwarded-For": "192.0.2.1", "Origin": address.rstrip("/")}
@@ -112,12 +83,3 @@ async def try_page(address: str, log: list[str]) -> None:
             assert any("Entered as Guest" in line for line in await part(tab))
     wanted = [f"fics_web: wrong password from {VISITOR}"]
     assert await async_wait_until(lambda: log == wanted), log
-
-
-async def is_https(port: int) -> bool:
-    """Whether something answers there by TLS under the pages' name."""
-    try:
-        async with visitor("127.0.0.1") as it, it.get(f"https://{HOST}:{port}/"):
-            return True
-    except (aiohttp.ClientError, asyncio.TimeoutError):
-        return False

@@ -12,10 +12,11 @@ import pytest
 
 from tests.kit import paths
 from tests.kit.ports import free_port
+from tests.kit.proxies import PRINTED, certify, replaced, untrusting
 from tests.kit.running import Run, ended
 
-from .conftest import Face, begun, untrusting
-from .pages import PRINTED, certify, example, replaced
+from .conftest import Face, begun
+from .pages import example
 
 # two machines: what the first one's ports take, in the words of `connects`
 LINKS_AT_A_TIME, PAGE = 8, 30

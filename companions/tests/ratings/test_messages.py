@@ -75,7 +75,7 @@ def test_at_most_twenty_wait_for_each(kept: Kept) -> None:
     kept.box.keep("Cat", "Ann", "there is room", at(31))
 
 
-@pytest.mark.parametrize("call", ("fsync", "replace", "open"))
+@pytest.mark.parametrize("call", ("open", "write", "fsync", "replace"))
 def test_a_disk_that_doesnt_take_it_has_nothing_of_it(kept: Kept, monkeypatch: pytest.MonkeyPatch, call: str) -> None:
     kept.box.keep("Ben", "Ann", "kept", at(15))
 
@@ -83,12 +83,7 @@ def test_a_disk_that_doesnt_take_it_has_nothing_of_it(kept: Kept, monkeypatch: p
         raise OSError(errno.ENOSPC, os.strerror(errno.ENOSPC))
 
     with monkeypatch.context() as patch:
-        if call == "open":
-            patch.setattr("builtins.open", full)
-        elif call == "replace":
-            patch.setattr(Path, "replace", full)
-        else:
-            patch.setattr(os, "fsync", full)
+        patch.setattr(os, call, full)
         with pytest.raises(OSError):
             kept.box.keep("Ben", "Ann", "lost", at(16))
     assert [it.text for it in kept.box.waiting["ann"]] == ["kept"]

@@ -1,4 +1,4 @@
-"""The picture of docs/ARCHIVE.md: a pair in the midst of its half-moves."""
+"""A pair in the midst of its half-moves: the picture of docs/ARCHIVE.md, and both boards in a low window."""
 
 from pathlib import Path
 
@@ -10,11 +10,14 @@ from tests.kit.go_between import FROM_ONE
 
 from .archived_games import DAY, ORDER, opened
 from .browser import WIDE, Evening
-from .test_pictures import SCHEMES, WIDTHS
+from .test_pictures import LOW, SCHEMES, WIDTHS
 
 pytestmark = pytest.mark.browser
 
 BOARDS = ("e4 e5 Nf3 Nc6 Bc4 Nf6 Ng5 d5 exd5 Nxd5 Nxf7 Kxf7 Qf3+ Ke6", "d4 d5 c4 dxc4 e3 b5 a4 c6 axb5 cxb5 Qf3")
+# where these stand in the window: left, top, right and bottom
+SIDES = """return arguments[0].map((it) => document.querySelector(it).getBoundingClientRect())
+    .map(({ left, top, right, bottom }) => [left, top, right, bottom]);"""
 PLAYERS = (("Ann", "Ben", "1-0"), ("Cat", "Dan", "0-1"))
 REASONS = ("partner's game ended", "Cat resigns")
 
@@ -40,6 +43,17 @@ def fill(folder: Path) -> Path:
 @pytest.fixture
 def words(tmp_path: Path) -> tuple[object, ...]:
     return *FROM_ONE, "--archive", fill(tmp_path / "archive")
+
+
+def test_both_boards_in_a_low_window(evening: Evening) -> None:
+    """As on a phone that lies: all of both boards, and what is done beside them."""
+    window = opened(evening, f"/games/{DAY}/5#13")
+    window.sees_man("wP", "d4", "partner")
+    window.resize(LOW)
+    sides = window.script(SIDES, ['[data-board="main"]', '[data-board="partner"]', "#next"])
+    assert all(left >= 0 and top >= 0 and right <= LOW[0] and bottom <= LOW[1] for left, top, right, bottom in sides)
+    assert [right - left > LOW[1] / 2 for left, _, right, _ in sides[:2]] == [True, True]
+    assert window.script("return document.documentElement.scrollWidth") <= LOW[0]
 
 
 def test_a_pair(evening: Evening) -> None:

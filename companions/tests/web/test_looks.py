@@ -69,9 +69,9 @@ def test_captured_men_stand_out(evening: Evening, theme: str) -> None:
 def test_signs_at_players_have_words(evening: Evening) -> None:
     ann, ben = evening.game()
     cat = evening.window("Cat")
-    cat.until(lambda: len(cat.all("#players button")) == 6, "what can be done with both")
+    cat.until(lambda: len(cat.all("#players button")) == 8, "what can be done with both")
     words = cat.script("return [...document.querySelectorAll('#players button')].map((it) => it.innerText.trim())")
-    assert sorted(words) == sorted(["Watch", "Challenge", "Message"] * 2)
+    assert sorted(words) == sorted(["Watch", "Challenge", "Message", "Mute"] * 2)
 
 
 def test_a_long_game_changes_no_more_of_the_page_than_a_short_one(evening: Evening) -> None:

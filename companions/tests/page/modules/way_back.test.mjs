@@ -1,42 +1,47 @@
 /** A game that was adjourned goes on by one question, whoever of the two asks first. */
 
 import assert from "node:assert/strict";
-import test from "node:test";
+import { test as tested } from "node:test";
 
 import { page } from "./page.mjs";
 
 const element = () => ({ dataset: {}, append() {}, addEventListener() {} });
-globalThis.document = { getElementById: element, querySelector: () => null, addEventListener() {}, documentElement: {},
+const elements = new Map();
+const byId = (id) => elements.get(id) ?? elements.set(id, element()).get(id);
+globalThis.document = { getElementById: byId, querySelector: () => null, addEventListener() {}, documentElement: {},
   body: element(), hidden: false };
 globalThis.window = { addEventListener() {} };
 const { setTimeout: after } = globalThis;
 globalThis.setTimeout = (...words) => after(...words).unref(); // a notice that stays for seconds keeps no test waiting
 
-const { WayBack } = await page("link/way_back.js");
-const STORED = [{ kind: "stored", white: "Ann", black: "Ben" }];
+const test = (name, act) => tested(name, { timeout: 20_000 }, act); // what is never asked is never answered
 
-/** Ben, who comes in again with a game against Ann on the shelf: what is asked, and what the page is told. */
-function cameBack() {
+const { WayBack } = await page("link/way_back.js");
+
+/** Ben, who comes in again with games against these on the shelf: what is asked, and what the page is told. */
+function cameBack(...others) {
+  const stored = others.map((white) => ({ kind: "stored", white, black: "Ben" }));
   const hearers = new Map();
   const asked = [];
   const ask = (line) => new Promise((keep) => {
-    asked.push({ line, answers: () => keep({ all: (kind) => STORED.filter((it) => it.kind === kind) }) });
+    const answers = (refusal = 0) => keep({ refusal, all: (kind) => stored.filter((it) => it.kind === kind) });
+    asked.push({ line, answers });
   });
   const session = { me: "Ben", on: (kinds, hear) => [kinds].flat().forEach((it) => hearers.set(it, hear)),
     onAnswer() {}, ask, act: ask };
   const wayBack = new WayBack(session, {}, null, null);
-  const resumed = wayBack.resume(["Ann"]);
-  const isAsked = async (line) => {
+  const resumed = wayBack.resume(others);
+  const isAsked = async (line, refusal) => {
     while (asked.at(-1)?.line !== line) {
       await new Promise(setImmediate);
     }
-    asked.at(-1).answers();
+    asked.at(-1).answers(refusal);
   };
   return { asked, resumed, isAsked, hears: (kind, event) => hearers.get(kind)(event) };
 }
 
 test("a question that is on its way answers that of the other one", async () => {
-  const { asked, resumed, isAsked, hears } = cameBack();
+  const { asked, resumed, isAsked, hears } = cameBack("Ann");
   await isAsked("stored");
   while (asked.length < 2) {
     await new Promise(setImmediate);
@@ -48,7 +53,7 @@ test("a question that is on its way answers that of the other one", async () => 
 });
 
 test("who asks later is answered, once", async () => {
-  const { asked, resumed, isAsked, hears } = cameBack();
+  const { asked, resumed, isAsked, hears } = cameBack("Ann");
   await isAsked("stored");
   await isAsked("resume Ann");
   await resumed;
@@ -58,7 +63,7 @@ test("who asks later is answered, once", async () => {
 });
 
 test("nobody else is answered, and nobody once a game goes on", async () => {
-  const { asked, resumed, isAsked, hears } = cameBack();
+  const { asked, resumed, isAsked, hears } = cameBack("Ann");
   await isAsked("stored");
   await isAsked("resume Ann");
   await resumed;
@@ -66,4 +71,40 @@ test("nobody else is answered, and nobody once a game goes on", async () => {
   hears("continuing", {});
   hears("resume-asked", { who: "Ann" });
   assert.deepEqual(asked.map((it) => it.line), ["stored", "resume Ann"]);
+});
+
+test("of several the one who has asked meanwhile isn't asked once more", async () => {
+  const { asked, resumed, isAsked, hears } = cameBack("Ann", "Cat", "Dan");
+  await isAsked("stored");
+  while (asked.length < 2) {
+    await new Promise(setImmediate);
+  }
+  hears("resume-asked", { who: "Cat" });
+  asked[1].answers();
+  await isAsked("resume Dan");
+  await resumed;
+  assert.deepEqual(asked.map((it) => it.line), ["stored", "resume Ann", "resume Cat", "resume Dan"]);
+});
+
+test("of several none is asked once a game goes on", async () => {
+  const { asked, resumed, isAsked, hears } = cameBack("Ann", "Cat");
+  await isAsked("stored");
+  while (asked.length < 2) {
+    await new Promise(setImmediate);
+  }
+  hears("continuing", {});
+  asked[1].answers();
+  await resumed;
+  assert.deepEqual(asked.map((it) => it.line), ["stored", "resume Ann"]);
+});
+
+test("a refusal is told, but of who isn't here yet", async () => {
+  const { resumed, isAsked } = cameBack("Ann", "Cat");
+  await isAsked("stored");
+  await isAsked("resume Ann", 32);
+  await isAsked("resume Cat", 35);
+  await resumed;
+  const told = byId("notice").textContent;
+  assert.match(told, /against Ann is adjourned, and goes on once Ann is here/);
+  assert.match(told, /against Cat is adjourned, and can't go on now\. All boards are in use/);
 });
