@@ -37,7 +37,7 @@ pub fn three_acts<R: Wait>(rt: &R, alloc: Global) -> Result<([u64; 3], u64), NoM
 }
 
 /// Makes an act, and gives its reply.
-fn made<G: Gate, R: Wait>(
+pub(crate) fn made<G: Gate, R: Wait>(
     rt: &R,
     alloc: Global,
     table: &Turns<Counters>,

@@ -4,10 +4,11 @@ ghost use Rattle.std.specs.Prelude.{◌≡◌, [], ◌∷◌, IfOk};
 ghost use Rattle.histories.specs.History.{entry};
 ghost use Rattle.turn_counters.specs.declared.bump.Bump.TheVariants.{First};
 
+use crate::chained::made;
 use memory::NoMemory;
 use std::alloc::Global;
 use std::sync::Wait;
-use turn_chain::{OpenGate, run};
+use turn_chain::OpenGate;
 use turn_counters::{Bump, Counters, bump_first};
 use turn_table::{Pass, Turns};
 
@@ -34,5 +35,5 @@ pub fn act_behind_a_look<R: Wait>(rt: &R, alloc: Global) -> Result<u64, NoMemory
     bump_first(rt, &table, &mut other);
     table.join(&mut base, other);
     table.look(&mut base);
-    run(rt, alloc, &table, &mut base, &OpenGate::new(), &Bump::First)
+    made(rt, alloc, &table, &mut base, &OpenGate::new(), &Bump::First)
 }
