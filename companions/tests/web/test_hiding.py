@@ -63,7 +63,8 @@ def test_the_keyboard_alone_in_german(evening: Evening) -> None:
     ann.open("settings", "#settings-open")
     ann.choose("look-language", "de")
     ann.shut("settings")
-    ann.until(lambda: ann.is_seen(f'{switch("Flo")}[aria-label="Nicht zeigen, was Flo sagt"]'), "its name in German")
+    named = f'{switch("Flo")}[aria-label="Stumm: nicht zeigen, was Flo sagt"]'
+    ann.until(lambda: ann.is_seen(named), "its name in German")
     ann.script("arguments[0].focus()", ann.element('#players li[data-key="Flo"] [data-room]'))
     ann.press(Keys.TAB)
     assert ann.script(FOCUSED) == "Flo false"
