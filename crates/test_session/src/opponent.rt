@@ -126,14 +126,31 @@ impl Runner for OpposedSeat<'_> {
         act: Act,
         reply: &mut Reply,
     ) -> Result<(), NoMemory> {
-        self.opponent
-            .speak_before(alloc, &mut *self.server, moment.millis())?;
-        match self.server.run(PLAYER, moment.millis(), act) {
+        match self.answered(alloc, moment, act) {
             Ok(made) => {
                 *reply = made;
                 Ok(())
             }
             Err(NoMemory) => Err(NoMemory),
         }
+    }
+}
+
+impl OpposedSeat<'_> {
+    ghost use Rattle.std.specs.Prelude.{◌≡◌};
+    ghost use Rattle.one_server.specs.Acts.{FitsAct};
+    ghost use Rattle.one_server.specs.Running.{Runs};
+    ghost use Rattle.test_session.specs.Beside.{opposed};
+
+    /// Makes an act behind those that the opponent has made by then, and gives its reply.
+    fn answered(&mut self, alloc: Global, moment: Moment, act: Act) -> Result<Reply, NoMemory>
+        requires { FitsAct act }
+        ensures home { self.new.server.ghost_name ≡ self.old.server.ghost_name }
+        ensures ran { Runs (opposed self.old.server.now) (record { moment = moment; act = act }) result
+            (opposed self.new.server.now) }
+    {
+        self.opponent
+            .speak_before(alloc, &mut *self.server, moment.millis())?;
+        self.server.run(PLAYER, moment.millis(), act)
     }
 }

@@ -2,7 +2,7 @@ use Rattle.std.proofs.Common.{ℕ, subst}
 use Rattle.one_server.specs.Running.{Runs}
 use Rattle.test_session.specs.Beside.{opposed}
 use Rattle.test_session.proofs.Opposed.{runs_beside}
-use Rattle.test_session.proofs.opponent.OpposedSeatRunner.run.Goals as goal
+use Rattle.test_session.proofs.opponent.OpposedSeat.answered.Goals as goal
 
 pub returns-clause-ran : goal.returns-clause-ran
 returns-clause-ran c =
