@@ -7,8 +7,8 @@ use Rattle.lobby_shelf.proofs.Keeping.{IsShelf-saved}
 use Rattle.lobby_state.specs.declared.acts.LobbyAct.{LobbyAct}
 use Rattle.lobby_state.specs.declared.acts.LobbyAct.TheVariants.{Enter, Register, Match, Unpost, Where, Fetch, Going, Bye, InUse, Var, Tell, Shout, Decline, Withdraw, Post, Channel, TellChannel, Partner, Ptell, List as OnList, Find, FindGame, SimOpen, SimNext, SimPrev, GoBoard, Saved}
 use Rattle.lobby_state.specs.declared.member.Member.{Member}
-use Rattle.lobby_state.specs.declared.name_list.WhichList.{WhichList}
-use Rattle.lobby_state.specs.declared.name_list.WhichList.TheVariants.{Censor, Noplay}
+use Rattle.lobby_state.specs.declared.acts.name_list.WhichList.{WhichList}
+use Rattle.lobby_state.specs.declared.acts.name_list.WhichList.TheVariants.{Censor, Noplay}
 use Rattle.lobby_state.specs.Accept.{offer_of}
 use Rattle.lobby_state.specs.Acts.{FitsLobby, lobby_after, lobby_answer, lobby_effect}
 use Rattle.lobby_state.specs.Channel.{change_of}

@@ -6,8 +6,8 @@ use Rattle.fics_words.specs.Effect.{Takes, first_cause}
 use Rattle.fics_words.specs.declared.fail.Fail.{Fail}
 use Rattle.fics_words.specs.declared.fail.Fail.TheVariants.{Refused, Memory}
 use Rattle.lobby_state.specs.declared.member.Member.{Member}
-use Rattle.lobby_state.specs.declared.name_list.WhichList.{WhichList}
-use Rattle.lobby_state.specs.declared.name_list.WhichList.TheVariants.{Censor, Noplay}
+use Rattle.lobby_state.specs.declared.acts.name_list.WhichList.{WhichList}
+use Rattle.lobby_state.specs.declared.acts.name_list.WhichList.TheVariants.{Censor, Noplay}
 use Rattle.lobby_state.specs.Lobby.{is_session}
 use Rattle.lobby_state.specs.NameList.{change_among, list_causes, listing, names_on, naming, with_names_on}
 use Rattle.lobby_state.proofs.Lent.{at_place, change_at-set, change_first-found, change_first-missing, set-same}

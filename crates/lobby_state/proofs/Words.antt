@@ -16,8 +16,8 @@ use Rattle.chess_model.specs.declared.variant.Variant.TheVariants.{Chess, Crazyh
 use Rattle.chess_model.specs.VariantWord.{word_of}
 use Rattle.fics_words.specs.Handle.{IsHandle}
 use Rattle.fics_words.specs.Line.{IsLine, IsPrintable}
-use Rattle.lobby_state.specs.declared.pending.ChallengeSide.{ChallengeSide}
-use Rattle.lobby_state.specs.declared.pending.ChallengeSide.TheVariants.{FromOthers, ToOthers}
+use Rattle.lobby_state.specs.declared.acts.pending.ChallengeSide.{ChallengeSide}
+use Rattle.lobby_state.specs.declared.acts.pending.ChallengeSide.TheVariants.{FromOthers, ToOthers}
 use Rattle.lobby_state.specs.Games.{board_words}
 use Rattle.lobby_state.specs.Match.{challenge_words}
 use Rattle.lobby_state.specs.Partner.{partner_words}

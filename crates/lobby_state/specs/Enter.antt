@@ -10,7 +10,7 @@ use Rattle.login_handles.specs.Accounts.{account_of, check_of}
 use Rattle.login_handles.specs.Guests.{guest_among}
 use Rattle.lobby_state.specs.declared.acts.LobbyReply.{LobbyReply}
 use Rattle.lobby_state.specs.declared.acts.LobbyReply.TheVariants.{Entered, NeedPassword}
-use Rattle.lobby_state.specs.declared.enter.Entrant.{Entrant}
+use Rattle.lobby_state.specs.declared.acts.enter.Entrant.{Entrant}
 use Rattle.lobby_state.specs.declared.member.Member.{Member}
 use Rattle.lobby_state.specs.declared.wants.Wants.{Wants}
 use Rattle.lobby_state.specs.Lobby.{LobbyState, most_members, member_of, holder_of}

@@ -10,8 +10,8 @@ use Rattle.tables.specs.Rows.{change_first}
 use Rattle.lobby_state.specs.declared.acts.LobbyReply.{LobbyReply}
 use Rattle.lobby_state.specs.declared.acts.LobbyReply.TheVariants.{Done}
 use Rattle.lobby_state.specs.declared.member.Member.{Member}
-use Rattle.lobby_state.specs.declared.name_list.WhichList.{WhichList}
-use Rattle.lobby_state.specs.declared.name_list.WhichList.TheVariants.{Censor, Noplay}
+use Rattle.lobby_state.specs.declared.acts.name_list.WhichList.{WhichList}
+use Rattle.lobby_state.specs.declared.acts.name_list.WhichList.TheVariants.{Censor, Noplay}
 use Rattle.lobby_state.specs.Lobby.{LobbyState, is_session, member_of}
 
 -- the other has the member on its censor list, and so doesn't hear it

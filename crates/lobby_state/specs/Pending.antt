@@ -6,8 +6,8 @@ use Rattle.fics_words.specs.declared.refusal.Refusal.TheVariants.{NotIn}
 use Rattle.lobby_state.specs.declared.acts.LobbyReply.{LobbyReply}
 use Rattle.lobby_state.specs.declared.acts.LobbyReply.TheVariants.{Lines}
 use Rattle.seek_match.specs.declared.challenge.Challenge.{Challenge}
-use Rattle.lobby_state.specs.declared.pending.ChallengeSide.{ChallengeSide}
-use Rattle.lobby_state.specs.declared.pending.ChallengeSide.TheVariants.{FromOthers, ToOthers}
+use Rattle.lobby_state.specs.declared.acts.pending.ChallengeSide.{ChallengeSide}
+use Rattle.lobby_state.specs.declared.acts.pending.ChallengeSide.TheVariants.{FromOthers, ToOthers}
 use Rattle.lobby_state.specs.Lobby.{LobbyState, member_of}
 use Rattle.lobby_state.specs.Sought.{name_in}
 use Rattle.lobby_state.specs.TermsText.{terms_words}

@@ -6,8 +6,8 @@ use Rattle.tables.specs.Rows.{change_first}
 use Rattle.lobby_state.specs.declared.acts.LobbyReply.{LobbyReply}
 use Rattle.lobby_state.specs.declared.acts.LobbyReply.TheVariants.{Done}
 use Rattle.lobby_state.specs.declared.member.Member.{Member}
-use Rattle.lobby_state.specs.declared.var.Var.{Var}
-use Rattle.lobby_state.specs.declared.var.Var.TheVariants.{Open, Shout, Seek}
+use Rattle.lobby_state.specs.declared.acts.var.Var.{Var}
+use Rattle.lobby_state.specs.declared.acts.var.Var.TheVariants.{Open, Shout, Seek}
 use Rattle.lobby_state.specs.declared.wants.Wants.{Wants}
 use Rattle.lobby_state.specs.Lobby.{LobbyState, is_session, member_of}
 

@@ -9,74 +9,36 @@
 //! says by the lobby alone which desk and what is to be done there, `reserve` makes ready what that needs of memory and
 //! changes nothing, and `commit`, which takes no memory, does the lobby's share.
 //!
-//! An act is a room of its own: a file of `src/` and one of `specs/`. What acts keep is one table of `proofs/`.
+//! An act is a room of its own: a file of `src/acts/` and one of `specs/`. What acts keep is one table of `proofs/`.
 #![tactic(auto)]
 
-mod accept;
 mod acts;
 mod broadcast;
-mod bye;
 mod challenges;
-mod channel;
-mod clear;
-mod decline;
 mod desk_in_use;
-mod enter;
-mod fetch;
-mod find;
-mod find_game;
+mod dispatch;
 mod game;
-mod games;
-mod go_board;
-mod going;
 mod hearers;
-mod in_channel;
-mod in_use;
 mod inbox;
 mod laws;
 mod lobby;
-mod matching;
 mod member;
 mod members;
-mod name_list;
 mod name_row;
-mod orders;
 mod own_places;
 mod pairing;
-mod partner;
-mod pending;
-mod play;
-mod post;
-mod ptell;
-mod registration;
 mod reserve;
-mod resume;
-mod resumed;
 mod roster;
 mod said;
-mod saved;
 mod seeks;
 mod shelf_room;
-mod shout;
-mod sim_next;
-mod sim_open;
-mod sim_prev;
-mod sought;
-mod start;
 mod start_plan;
-mod stored;
-mod table;
-mod tell;
-mod tell_channel;
 mod terms;
 mod told;
-mod unpost;
-mod var;
 mod wants;
-mod where_is;
-mod who;
-mod withdraw;
 
+pub use acts::name_list::WhichList;
+pub use acts::var::Var;
 pub use acts::{LobbyAct, LobbyReply, PairAct, Plan};
 pub use desk_in_use::DeskInUse;
 pub use game::{DESKS, ListedGame};
@@ -88,10 +50,8 @@ pub use laws::{
 };
 pub use lobby::Lobby;
 pub use member::Member;
-pub use name_list::WhichList;
 pub use reserve::Ready;
 pub use said::said_line;
 pub use simul_control::{Place, Places};
 pub use told::ReplyLists;
-pub use var::Var;
 pub use wants::Wants;

@@ -13,8 +13,8 @@ use Rattle.fics_words.specs.Handle.{key_of}
 use Rattle.linked_desk.specs.declared.acts.DeskAct.TheVariants as desk_act
 use Rattle.lobby_state.specs.declared.acts.LobbyAct.TheVariants as lobby_act
 use Rattle.lobby_state.specs.declared.acts.PairAct.TheVariants as pair_act
-use Rattle.lobby_state.specs.declared.name_list.WhichList.TheVariants.{Censor, Noplay}
-use Rattle.lobby_state.specs.declared.var.Var.TheVariants.{Open, Shout, Seek}
+use Rattle.lobby_state.specs.declared.acts.name_list.WhichList.TheVariants.{Censor, Noplay}
+use Rattle.lobby_state.specs.declared.acts.var.Var.TheVariants.{Open, Shout, Seek}
 use Rattle.offer_book.specs.declared.offer.Offer.TheVariants.{Draw, Abort, Adjourn, Takeback}
 use Rattle.one_server.specs.declared.act.Act.TheVariants.{Lobby, Pair}
 use Rattle.session_core.specs.declared.own_commands.OwnCommand.TheVariants as own

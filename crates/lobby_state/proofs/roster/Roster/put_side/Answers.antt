@@ -1,7 +1,7 @@
 use Rattle.std.proofs.Common.{◌≡◌, ℕ, ◌+◌, ◌<◌, List, [], ◌∷◌, ◌++◌, filter, get_or, length, map, take, sym, ap, ◌∙◌, append_assoc}
 use Rattle.std.proofs.lemmas.List.{map-append, take_more}
 use Rattle.std.proofs.lemmas.List.Elements.{filter-append}
-use Rattle.lobby_state.specs.declared.pending.ChallengeSide.{ChallengeSide}
+use Rattle.lobby_state.specs.declared.acts.pending.ChallengeSide.{ChallengeSide}
 use Rattle.lobby_state.specs.Lobby.{LobbyState}
 use Rattle.lobby_state.specs.Pending.{is_on_side, pending_line, side_lines}
 use Rattle.lobby_state.proofs.roster.Roster.put_side.Goals as goal

@@ -1,5 +1,0 @@
-use Rattle.lobby_state.proofs.Words.{IsWording-offers}
-use Rattle.lobby_state.proofs.partner.partner_line.Goals as goal
-
-pub said_line-requires-clause-wording : goal.said_line-requires-clause-wording
-said_line-requires-clause-wording c = IsWording-offers
