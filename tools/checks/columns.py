@@ -26,7 +26,7 @@ def faults():
     wide = [it for file in of_crates("specs", "proofs") for it in wide_lines(file)]
     yield from wide
     if wide:
-        yield f"tools/wrap wraps these {len(wide)} lines of definitions and proofs"
+        yield f"tools/checks/wrap wraps these {len(wide)} lines of definitions and proofs"
     for file in [*code, *scripts]:
         yield from wide_lines(file)
         if (lines := len(text(file).splitlines())) > MOST_LINES:

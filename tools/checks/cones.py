@@ -48,4 +48,4 @@ def faults():
             yield (f"{name} stands on {len(crates)} crates, which cost {cost(crates)} seconds, more than {MOST[name]}; "
                    f"the dearest are {', '.join(reversed(dearest))}")
     if with_table(text(PAGE)) != text(PAGE):
-        yield f"{PAGE} has another table of what commands stand on; tools/cones --write mends it"
+        yield f"{PAGE} has another table of what commands stand on; tools/print/cones --write mends it"

@@ -1,5 +1,5 @@
 """Each crate that promises something has its row among what is proved, test crates are few, and a crate stands below
-those that it uses. That each has its line in the list of crates is for `tools/crates_table`."""
+those that it uses. That each has its line in the list of crates is for `tools/print/crates_table`."""
 import re
 
 from .sources import text, uses_of_crates

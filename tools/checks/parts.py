@@ -37,6 +37,6 @@ def run(tool, words, usage, parts):
         if words == ["--write"]:
             path.write_text(meant, encoding="utf-8")
         elif meant != page:
-            print(f"{tool}: {name} has something else; tools/{tool} --write mends it", file=sys.stderr)
+            print(f"{tool}: {name} has something else; tools/print/{tool} --write mends it", file=sys.stderr)
             status = 1
     return status

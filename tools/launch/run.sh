@@ -1,5 +1,5 @@
-# Runs a program for the launcher `ficsd` and for the command that tools/install lays out. Both source this file. It is
-# done by `run`, which is no bash, since bash's `wait` loses a status where signals come together.
+# Runs a program for the launcher `ficsd` and for the command that tools/pack/install lays out. Both source this file.
+# It is done by `run`, which is no bash, since bash's `wait` loses a status where signals come together.
 
 run=$(dirname "$(readlink -f "${BASH_SOURCE[0]}")")/run
 

@@ -1,5 +1,5 @@
-# What the launcher `ficsd` and the command that tools/install lays out say: the page of --help, the usage line, and
-# what a status means. Both source this file.
+# What the launcher `ficsd` and the command that tools/pack/install lays out say: the page of --help, the usage line,
+# and what a status means. Both source this file.
 
 usage_line="usage: ficsd board, replay, demo N, check --store PATH, serve --port P"
 
@@ -45,7 +45,7 @@ page_of_stores() {
 }
 
 # what a status of the program means and what helps; $1 is how the program is called, $2 the command, $3 the status, or
-# the signal that ended it. tools/statuses prints what docs/OPERATING.md and docs/ficsd.6 have of it
+# the signal that ended it. tools/print/statuses prints what docs/OPERATING.md and docs/ficsd.6 have of it
 meaning() {
   case $2-$3 in
     *-1) echo "the words aren't those of a command; \`$1 --help\` shows each with an example" ;;

@@ -105,7 +105,7 @@ def pack(program: Path | None, lines: list[str], folder: Path) -> None:
     words = f"--program {program} " if program else ""
     for line in lines:
         if not (line.startswith("./ficsd") and program):
-            line = line.replace("tools/package ", f"tools/package {words}").replace("/tmp/ficsd", str(folder))
+            line = line.replace("tools/pack/package ", f"tools/pack/package {words}").replace("/tmp/ficsd", str(folder))
             run("bash", "-c", line, cwd=paths.TOP, stdout=subprocess.DEVNULL)
 
 

@@ -5,7 +5,7 @@ from collections.abc import Iterable
 from pathlib import Path
 
 PACKAGE = Path(__file__).resolve().parents[1]
-# companions/, or the folder in which tools/install lays out what runs beside the server
+# companions/, or the folder in which tools/pack/install lays out what runs beside the server
 BESIDE = PACKAGE.parent
 REPOSITORY = BESIDE.parent
 # within the package where pip has installed that

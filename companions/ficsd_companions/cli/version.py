@@ -7,7 +7,7 @@ from typing import Any
 
 from .program import BESIDE, REPOSITORY
 
-KEPT = BESIDE / "revision"  # where tools/install has put it
+KEPT = BESIDE / "revision"  # where tools/pack/install has put it
 TOLD = REPOSITORY / "tools" / "launch" / "revision"
 
 

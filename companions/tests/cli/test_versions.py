@@ -29,7 +29,7 @@ def installed(tmp_path_factory: pytest.TempPathFactory) -> Path:
     program = folder / "program"
     program.write_text("#!/bin/sh\n", encoding="utf-8")
     program.chmod(0o755)
-    done = ended(paths.TOP / "tools/install", "--program", program, "--prefix", "usr", folder)
+    done = ended(paths.TOP / "tools/pack/install", "--program", program, "--prefix", "usr", folder)
     assert done.returncode == 0, done.stderr
     return folder / "usr"
 
@@ -52,6 +52,6 @@ def test_a_program_that_was_built_here(tmp_path: Path) -> None:
     program.parent.mkdir(parents=True)
     program.write_text("#!/bin/sh\n", encoding="utf-8")
     program.chmod(0o755)
-    done = ended(copy / "tools/install", "--program", program, "--prefix", "usr", tmp_path / "root")
+    done = ended(copy / "tools/pack/install", "--program", program, "--prefix", "usr", tmp_path / "root")
     assert done.returncode == 0, done.stderr
     assert "elsewhere" not in ended(tmp_path / "root/usr/bin/ficsd", "--version").stdout

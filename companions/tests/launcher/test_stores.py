@@ -214,6 +214,6 @@ class TestUnderSystemd:
 
     @pytest.mark.parametrize("unit", ("ficsd", "fics_server@"))
     def test_units_rest_by_that(self, unit: str) -> None:
-        text = (paths.TOP / "tools" / "systemd" / f"{unit}.service").read_text(encoding="utf-8")
+        text = (paths.TOP / "tools" / "pack" / "systemd" / f"{unit}.service").read_text(encoding="utf-8")
         line = next(it for it in text.splitlines() if it.startswith("RestartPreventExitStatus="))
         assert {"78", "5", "1"} <= set(line.partition("=")[2].split()) and "4" not in line.split("=")[1].split()

@@ -1,4 +1,4 @@
-"""What pip installs, and what tools/packed says that packages have."""
+"""What pip installs, and what tools/pack/packed says that packages have."""
 
 import ast
 import shutil
@@ -92,8 +92,8 @@ def test_each_command_is_of_one_package() -> None:
 
 @pytest.mark.parametrize("package", PACKAGES)
 def test_its_commands_run_with_its_files_alone(tmp_path: Path, package: str) -> None:
-    """`tools/packed` names all that a program imports."""
-    for name in written(paths.TOP / "tools" / "packed", package, "files").split():
+    """`tools/pack/packed` names all that a program imports."""
+    for name in written(paths.TOP / "tools" / "pack" / "packed", package, "files").split():
         (tmp_path / name).parent.mkdir(parents=True, exist_ok=True)
         shutil.copy(paths.COMPANIONS / name, tmp_path / name)
     for it in PACKAGES[package]["commands"] + PACKAGES[package].get("programs", []):

@@ -21,7 +21,7 @@ def laid_out(tmp_path_factory: pytest.TempPathFactory) -> Path:
     program = folder / "program"
     program.write_text("#!/bin/sh\n", encoding="utf-8")
     program.chmod(0o755)
-    done = ended(paths.TOP / "tools/install", "--program", program, "--prefix", "usr", folder / "root")
+    done = ended(paths.TOP / "tools/pack/install", "--program", program, "--prefix", "usr", folder / "root")
     assert done.returncode == 0, done.stderr
     for it in ("bin/sh", "bin/rm"):
         (folder / "root" / it).parent.mkdir(exist_ok=True)

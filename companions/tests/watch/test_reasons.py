@@ -7,7 +7,7 @@ from tests.kit.running import ended
 
 
 def test_a_store_that_is_none(tmp_path: Path) -> None:
-    done = ended(paths.TOP / "tools/install", "--program", paths.program, "--prefix", "usr", tmp_path / "root")
+    done = ended(paths.TOP / "tools/pack/install", "--program", paths.program, "--prefix", "usr", tmp_path / "root")
     assert done.returncode == 0, done.stderr
     bin, store = tmp_path / "root/usr/bin", tmp_path / "club.db"
     store.write_bytes(b"no database" * 1000)

@@ -1,5 +1,5 @@
 //! The table of commands, a row each, and what they take. What each does is said above its row, from where
-//! `tools/commands` prints the table of docs/CLIENTS.md.
+//! `tools/print/commands` prints the table of docs/CLIENTS.md.
 
 /// The commands that take nothing.
 #[derive(Clone, Copy)]
