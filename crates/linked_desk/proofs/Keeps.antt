@@ -29,8 +29,7 @@ pub record Follows (conditions : Type 0) (old new : GameState) : Type 0 where
   pub sound : conditions → IsSound old → IsSound new
 
 -- the game after an act follows the one before, where the moment and the act's numbers fit and no cause of a refusal
--- holds;
--- the act tells ends with their winners; and it may run out of memory only where it says so
+-- holds; the act tells ends with their winners; and it may run out of memory only where it says so
 pub record Keeps (g : GameState) (moment : ℕ) (fits : Type 0) (needs : Bool)
     (effect : Effect GameState DeskReply) : Type 0 where
   pub step : Follows ((moment ≤ 2 ^ 48) × fits × NoneHolds effect.causes) g effect.after

@@ -1,7 +1,6 @@
 -- A move at a desk: the half-move is played, which clears the opponent's offers and every takeback, and the other board
 -- of a pair learns of it; the board is told, then its hands where they have changed, then those of the other board
--- where
--- a captured man has come into one of them, and then the end if the half-move brings it.
+-- where a captured man has come into one of them, and then the end if the half-move brings it.
 use Rattle.std.specs.Prelude.{ℕ, true, ◌∷◌, Option, Some, None, Result, Ok, Err, slice_get}
 use Rattle.chess_model.specs.declared.man.Man.{Man}
 use Rattle.chess_model.specs.declared.moves.Move.{Move}

@@ -26,8 +26,7 @@ abbrev pub no_parts : Reply
 no_parts = reply.Pair Kept
 
 -- the reply to a pair act: a refusal by the lobby, or what the plan replies with its desk in hand, or by the lobby
--- alone
--- where it has none
+-- alone where it has none
 abbrev pub pair_reply : Result Plan Refusal → Option Part → Reply
 pair_reply (Err cause) other = reply.Refused cause
 pair_reply (Ok plan) (Some (ADesk desk)) = reply.Pair (plan_reply plan desk)

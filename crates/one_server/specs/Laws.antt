@@ -38,9 +38,8 @@ SeatsItsMembers parts = (lobby : LobbyState) → slice_get parts 0 ≡ Some (The
 -- the list of each board at a desk is a true score of its game: each half-move was allowed after those before it;
 -- moments don't fall; a charge stands exactly where the game is timed and the half-move isn't the first of its colour,
 -- begins where its player began to think (at the moment of the half-move before, or of seating, or where half-moves
--- were
--- taken back, at that moment) and ends at its own; and each clock shows the time at the start, and the increment for
--- each charge of its colour, less the sum of these charges
+-- were taken back, at that moment) and ends at its own; and each clock shows the time at the start, and the increment
+-- for each charge of its colour, less the sum of these charges
 abbrev pub KeepsTrueScores : List Part → Type 0
 KeepsTrueScores parts =
     (number : ℕ) (desk : DeskState) (game : GameState) → slice_get parts number ≡ Some (ADesk desk)

@@ -55,8 +55,7 @@ pub record CanStartAt (desk : DeskState) (terms : Terms) (seats : Seats) : Type 
   pub pairs : HasPairsFor terms seats
 
 -- the plan can be carried out with this lobby at this desk: a game that goes on the shelf replays, and comes from a
--- desk
--- in use
+-- desk in use
 abbrev pub CanCarry : LobbyState → Plan → DeskState → Type 0
 CanCarry lobby (Start number serial terms seats) desk = CanStartAt desk terms seats
 CanCarry lobby (Clear session number serial) desk = CanShelve lobby (Clear session number serial) (kept_at desk)

@@ -1,6 +1,5 @@
 -- What a Resume makes of a stored game. This server's own; that an adjourned game goes on with the position and the
--- times
--- with which it was left is FIDE's (Laws, Guidelines I).
+-- times with which it was left is FIDE's (Laws, Guidelines I).
 use Rattle.std.specs.Prelude.{◌≡◌, ℕ, ◌+◌, ◌≤◌, List, All, None, Some, slice_get}
 use Rattle.std.specs.Option.{option_map}
 use Rattle.clock_ledger.specs.Charges.{last_moment}
@@ -25,10 +24,8 @@ use Rattle.one_server.specs.declared.reply.Reply.TheVariants as reply
 use Rattle.one_server.specs.House.{house}
 
 -- a stored game goes on at a desk since that moment: the terms, the players' names and the half-moves with their
--- charges
--- are the stored ones, and so each board has its part of these, from which its clocks are told, and the position to
--- which
--- they lead, with the men in hand; who is to move thinks from that moment on
+-- charges are the stored ones, and so each board has its part of these, from which its clocks are told, and the
+-- position to which they lead, with the men in hand; who is to move thinks from that moment on
 pub record IsRestored (stored : StoredGame) (moment : ℕ) (game : GameState) : Type 0 where
   pub again : IsOnAgain stored moment game
   pub lists : All (λ (b : Board). b.list ≡ list_on b.number stored.halves) game.boards

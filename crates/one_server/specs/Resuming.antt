@@ -21,8 +21,7 @@ resume_desk lobby desk serial number seats moment =
     with_game desk serial (stored_game lobby.shelf.games number) seats moment
 
 -- the game of that number can be resumed at this desk: it lies on the shelf, and replays; the desk is vacant; no two of
--- the
--- players are one, and they are those of the game, as many as its variant has
+-- the players are one, and they are those of the game, as many as its variant has
 pub record CanResumeAt (lobby : LobbyState) (desk : DeskState) (number : ℕ) (seats : Seats) : Type 0 where
   pub game : StoredGame
   pub lies : stored_game lobby.shelf.games number ≡ Some game

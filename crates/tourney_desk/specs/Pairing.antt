@@ -1,6 +1,5 @@
 -- The pairs of a round robin. Players are numbered from 0; the order of the rounds is the one that comes about where
--- the
--- players sit in a circle that is turned by one place after each round.
+-- the players sit in a circle that is turned by one place after each round.
 use Rattle.std.specs.Prelude.{ℕ, ◌+◌, ◌-◌, ◌%◌, ◌<◌, ◌==◌, Bool, not, ◌&&◌, nat_lt, if◌then◌else◌, List, map}
 use Rattle.std.specs.List.{filter, flat_map, list_any, range_with_len}
 

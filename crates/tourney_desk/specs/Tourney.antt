@@ -50,8 +50,7 @@ starting t = record {
 }
 
 -- why the pairs of a round aren't told: before the start, and where there is no round of that number, which is 0 or
--- above
--- the number of rounds
+-- above the number of rounds
 abbrev pub no_pairs : TourneyState → ℕ → List Cause
 no_pairs t round =
     (not t.started, TourneyNotStarted) ∷ (round == 0, NoSuchRound)
