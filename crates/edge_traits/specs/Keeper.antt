@@ -1,5 +1,5 @@
 -- What the calls of a keeper do to its table.
-use Rattle.std.specs.Prelude.{◌≡◌, ℕ, ⊤, List, Some, None, Err, Result}
+use Rattle.std.specs.Prelude.{◌≡◌, ◌⊎◌, ℕ, ⊤, List, Some, None, Err, Result}
 use Rattle.std.specs.declared.option.Option.{Option}
 use Rattle.std.specs.FinMap as map
 use Rattle.edge_traits.specs.Pairs.{Records, Pairs}
@@ -13,17 +13,20 @@ use Rattle.edge_traits.specs.declared.keeper.KeeperFail.TheVariants as fail
 abbrev pub Stays : Option Records → Option Records → Type 0
 Stays old new = WhereTold old new (λ before after. after ≡ before)
 
--- the record stands under its key, and all else is as before; or nothing changed
-abbrev pub HasPut : Option Records → Option Records → List ℕ → List ℕ → Kept → Type 0
-HasPut old new key bytes Done = WhereTold old new (λ before after. after ≡ map.insert before key bytes)
-HasPut old new key bytes Failed = Stays old new
-HasPut old new key bytes Memory = Stays old new
+-- what a change of a table makes of one that is told, by how it was answered: it was made where it is done, and wasn't
+-- where memory ran out; where it failed it is in doubt, and the table is as it was or as the change makes it
+abbrev pub HasChanged : Option Records → Option Records → (Records → Records) → Kept → Type 0
+HasChanged old new change Done = WhereTold old new (λ before after. after ≡ change before)
+HasChanged old new change Failed = WhereTold old new (λ before after. (after ≡ before) ⊎ (after ≡ change before))
+HasChanged old new change Memory = Stays old new
 
--- nothing stands under the key, and all else is as before; or nothing changed
+-- the record stands under its key, and all else is as before; or the change wasn't made
+abbrev pub HasPut : Option Records → Option Records → List ℕ → List ℕ → Kept → Type 0
+HasPut old new key bytes answer = HasChanged old new (λ table. map.insert table key bytes) answer
+
+-- nothing stands under the key, and all else is as before; or the change wasn't made
 abbrev pub HasRemoved : Option Records → Option Records → List ℕ → Kept → Type 0
-HasRemoved old new key Done = WhereTold old new (λ before after. after ≡ map.remove before key)
-HasRemoved old new key Failed = Stays old new
-HasRemoved old new key Memory = Stays old new
+HasRemoved old new key answer = HasChanged old new (λ table. map.remove table key) answer
 
 -- the pairs are all of a table that is told, in ascending order of key
 abbrev pub AreAllOf : Option Records → Pairs → Type 0

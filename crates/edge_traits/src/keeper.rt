@@ -45,7 +45,8 @@ impl Duplicate for Pair {
 pub enum Kept {
     /// The change was made, or the table was loaded.
     Done,
-    /// A fault, which the object counted; the table is as before.
+    /// A fault, which the object counted. A change that failed is in doubt: the table is as before, or as the change
+    /// makes it. A load that failed leaves the table as before.
     Failed,
     /// Running out of memory; the table is as before.
     Memory,
@@ -61,7 +62,8 @@ pub enum KeeperFail {
 }
 
 /// A table of records under keys. An object that tells its `table` changes it by nothing but what it answers
-/// `Done`; its count of `faults` never falls; and its `calls` are all that it had, each with its answer.
+/// `Done`, and perhaps by a change that it answers `Failed`, which is then made whole or not at all; its count of
+/// `faults` never falls; and its `calls` are all that it had, each with its answer.
 pub trait Keeper {
     ghost use Rattle.std.specs.Prelude.{◌≡◌, ℕ, ◌≤◌, IfOk};
     ghost use Rattle.std.specs.declared.option.Option.{Option};

@@ -1,5 +1,5 @@
 -- What carrying out save orders makes of a keeper's table, and by which calls. This server's own.
-use Rattle.std.specs.Prelude.{◌≡◌, ℕ, List, [], ◌∷◌, ◌++◌, Some, None, map as each}
+use Rattle.std.specs.Prelude.{◌≡◌, ◌⊎◌, ℕ, List, [], ◌∷◌, ◌++◌, Some, None, map as each}
 use Rattle.std.specs.declared.option.Option.{Option}
 use Rattle.std.specs.FinMap as map
 use Rattle.edge_traits.specs.Calls.{Calls, note, noted}
@@ -22,11 +22,25 @@ abbrev pub Carries : Option Records → Option Records → List Order → Type 0
 Carries old new orders =
     WhereTold old new (λ before after. (key : List ℕ) → held after key ≡ table_with (held before) orders key)
 
--- an order is carried out, or the table stays as it was
+-- an order is carried out, or the table stays as it was; where the keeper failed, it may be either
 abbrev pub CarriesOne : Option Records → Option Records → Order → Kept → Type 0
 CarriesOne old new order Done = Carries old new (order ∷ [])
-CarriesOne old new order Failed = Stays old new
+CarriesOne old new order Failed = Stays old new ⊎ Carries old new (order ∷ [])
 CarriesOne old new order Memory = Stays old new
+
+-- the one order that is in doubt, of those left behind the ones that were carried out: the first, where the keeper
+-- failed at it
+abbrev pub in_doubt : Kept → List Order → Option Order
+in_doubt Failed (order ∷ orders) = Some order
+in_doubt Failed [] = None
+in_doubt Done left = None
+in_doubt Memory left = None
+
+-- a table that is told holds afterwards what these orders make of it; or, where one order is in doubt, perhaps what
+-- they and that one make of it
+abbrev pub CarriesPerhaps : Option Records → Option Records → List Order → Option Order → Type 0
+CarriesPerhaps old new carried None = Carries old new carried
+CarriesPerhaps old new carried (Some doubt) = Carries old new carried ⊎ Carries old new (carried ++ doubt ∷ [])
 
 -- what a keeper is asked to do with what an order has: to put the record, or to remove the key where there is none
 abbrev pub asked_with : Option (List ℕ) → Request
