@@ -1,8 +1,8 @@
 //! What the server needs from outside, as traits.
 //!
 //! The contract: a call answers `Failed` only where the object's count of faults rose in that call, and what an object
-//! tells of itself changes by nothing but what the call answers. Code that is generic in these traits can't raise a
-//! count by itself. A keeper tells each call that it had.
+//! tells of itself changes by nothing but what the call answers; where a keeper failed, the change may be made all the
+//! same. Code that is generic in these traits can't raise a count by itself. A keeper tells each call that it had.
 #![tactic(auto)]
 
 mod call_log;

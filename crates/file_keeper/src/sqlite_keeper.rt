@@ -16,7 +16,8 @@ type Store = Connection<FileStore<File>>;
 ///
 /// The first call opens the file, which makes it where there is none, and the keeper then holds it: no other keeper and
 /// no `sqlite3` gets at it. A change that is answered Done has been given to the disk. Whatever fails, also for want of
-/// memory, the file is let go, and the next call opens it anew; a change that failed as the disk did may be found then.
+/// memory, the file is let go, and the next call opens it anew. A change that is answered Failed is in doubt: the file
+/// is found as before, or as the change makes it.
 /// The file is refused where another holds it, where it isn't a database, and where a record or a key is no BLOB.
 #[derive(Drop)]
 pub struct SqliteKeeper {

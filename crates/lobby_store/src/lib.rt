@@ -3,7 +3,8 @@
 //! The contract: `specs/Carrying.antt` says what carrying orders out makes of a keeper's table, and `specs/Rows.antt`
 //! which pairs of a key and a record are rows of a store: an account under the key of its name, or a game that replays
 //! under the key of a number. `carry_out` carries out a beginning of its orders, and all of them where it answers
-//! `Done`; `read_row` gives a row exactly where the pair is one.
+//! `Done`; where the keeper failed, the next order alone is in doubt. `read_row` gives a row exactly where the pair is
+//! one.
 #![tactic(auto)]
 
 mod carrying;

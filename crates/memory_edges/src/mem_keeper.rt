@@ -12,7 +12,8 @@ use std::alloc::Global;
 use std::cmp::Ordering;
 use std::marker::Model;
 
-/// A keeper whose table lies in memory, and which fails at the calls that it is told.
+/// A keeper whose table lies in memory, and which fails at the calls that it is told. A change that failed left the
+/// table as before.
 #[derive(Drop)]
 pub struct MemKeeper {
     pairs: Vec<Pair>,
@@ -96,6 +97,7 @@ impl Keeper for MemKeeper {
         ensures counted { self.old.plan.faults ≤ self.new.plan.faults }
         ensures noted { self.new.calls ≡ noted self.old.calls Request.Put result }
         ensures failed { (result ≡ Kept.Failed) ↔ IsToFail self.old.plan }
+        ensures undone { result ≡ Kept.Failed → self.new.pairs ≡ self.old.pairs }
         ensures plan { self.new.plan ≡ after_call self.old.plan (keep_failed result) }
     {
         if self.plan.is_to_fail() {
@@ -115,6 +117,7 @@ impl Keeper for MemKeeper {
         ensures counted { self.old.plan.faults ≤ self.new.plan.faults }
         ensures noted { self.new.calls ≡ noted self.old.calls Request.Remove result }
         ensures failed { (result ≡ Kept.Failed) ↔ IsToFail self.old.plan }
+        ensures undone { result ≡ Kept.Failed → self.new.pairs ≡ self.old.pairs }
         ensures no_memory { result ≢ Kept.Memory }
         ensures plan { self.new.plan ≡ after_call self.old.plan (keep_failed result) }
     {

@@ -7,7 +7,7 @@ use Rattle.edge_traits.specs.Faults.{Rose}
 use Rattle.histories.specs.History.{calls_of, state}
 use Rattle.lobby_shelf.specs.declared.order.Order.{Order}
 use Rattle.lobby_state.specs.Lobby.{LobbyState}
-use Rattle.lobby_store.specs.Carrying.{Carries}
+use Rattle.lobby_store.specs.Carrying.{CarriesPerhaps}
 use Rattle.one_server.specs.declared.part.Part.{Part}
 use Rattle.one_server.specs.declared.part.Part.TheVariants.{Lobby as TheLobby}
 use Rattle.one_server.specs.House.{house}
@@ -32,13 +32,14 @@ pub record StewardTurn : Type 0 where
 -- short. The keeper had no calls in it but those by which its orders were carried out, and one more where that failed
 -- or
 -- ran out of memory: it ended with a keeper fault exactly where its own last call failed, and then the keeper counted
--- that. A table that is told holds what these orders make of it
+-- that. A table that is told holds what these orders make of it; or, at a keeper fault, perhaps what they and the next
+-- one make of it, at which the keeper failed
 pub record MayEnd (lack : Type 0) (before now : Store) (turn : StewardTurn) : Type 0 where
   pub called : HasCalled turn.turn.saved turn.carried before.calls now.calls
   pub fault : turn.end ≡ KeeperFault → Rose before.faults now.faults
   pub memory : turn.end ≡ Memory → lack
   pub clearing : turn.turn.cleared ≡ clearing.Memory → lack
-  pub kept : Carries before.table now.table turn.carried
+  pub kept : CarriesPerhaps before.table now.table turn.carried turn.turn.saving.doubt
 
 -- the entries are those of so many turns, one after the other, over a keeper that stood so before them and after: it
 -- had

@@ -1,11 +1,13 @@
 -- A table that agrees with what a session has seen still agrees once the session has made acts.
-use Rattle.std.proofs.Common.{◌≡◌, ℕ, ◌<◌, ◌≤◌, ◌==◌, true, false, cond, List, [], ◌∷◌, ◌++◌, Option, None, Some, filter, map, inl, inr, set, slice_get, refl, sym, ap, subst, ◌∙◌, append_assoc, arith}
+use Rattle.std.proofs.Common.{◌≡◌, ℕ, ◌<◌, ◌≤◌, ◌==◌, true, false, cond, List, [], ◌∷◌, ◌++◌, Option, None, Some, filter, map, inl, inr, set, slice_get, refl, sym, ap, subst, ◌∙◌, append_assoc, append-nil, arith}
 use Rattle.std.specs.Prelude.{nat_lt}
 use Rattle.std.specs.List.{AllByRecursion}
 use Rattle.std.proofs.lemmas.Bool.{eqb-false, lt-ltb, le-ltb}
 use Rattle.std.proofs.lemmas.List.{append_cancel_left}
 use Rattle.edge_traits.specs.Calls.{Calls, Store}
 use Rattle.edge_traits.specs.Pairs.{Records}
+use Rattle.edge_traits.specs.declared.keeper.Kept.{Kept}
+use Rattle.edge_traits.specs.declared.keeper.Kept.TheVariants as kept
 use Rattle.fics_words.proofs.Each.{each-back, each-front}
 use Rattle.lobby_shelf.specs.Facts.{IsShelf, OrdersRise}
 use Rattle.lobby_shelf.specs.Shelf.{saved}
@@ -19,7 +21,7 @@ use Rattle.histories.proofs.Histories.{calls-append, calls_own, legal_front, sta
 use Rattle.histories.proofs.Steps.{after_alone}
 use Rattle.lobby_state.specs.Lobby.{LobbyState}
 use Rattle.lobby_store.specs.Agreeing.{AgreesWith}
-use Rattle.lobby_store.specs.Carrying.{held}
+use Rattle.lobby_store.specs.Carrying.{CarriesPerhaps, held, in_doubt}
 use Rattle.lobby_shelf.proofs.Leading.{same_table, table_with-append}
 use Rattle.one_server.specs.declared.act.Timed.{Timed}
 use Rattle.one_server.specs.declared.part.Part.{Part}
@@ -219,21 +221,76 @@ saved_prefix t0 t1 lobby first rest upto shelf is last holds agreed key =
     ∙ ap (λ (orders : List Order). table_with t0 orders key) (sym is)
     ∙ agreed key
 
-module _ (moment : ℕ) (orders carried left : List Order) (before after_all : Records) (old new : RunnerState)
+-- and where those behind the ones that were told as saved were carried out too, they are carried out once more
+saved_doubt : (t0 t1 : StoreMap) (lobby : LobbyState) (first doubt rest : List Order) (upto : ℕ) → IsShelf lobby.shelf
+    → lobby.shelf.orders ≡ first ++ (doubt ++ rest) → last_number first ≡ Some upto
+    → ((key : List ℕ) → t1 key ≡ table_with t0 (first ++ doubt) key) → AgreesWith t0 lobby
+    → AgreesWith t1 (record lobby { shelf = saved lobby.shelf upto })
+saved_doubt t0 t1 lobby first doubt rest upto shelf is last holds agreed =
+    let rise = subst (λ (orders : List Order). OrdersRise 0 lobby.shelf.made orders) is shelf.orders in
+    put_prefix (table_with t0 first) t1 (record lobby { shelf = saved lobby.shelf upto }) doubt rest
+    (ap (λ (orders : List Order). filter (λ (o : Order). nat_lt upto o.number) orders) is
+    ∙ kept_behind 0 lobby.shelf.made upto first (doubt ++ rest) rise last)
+    (λ key. holds key ∙ ap (λ (t : StoreMap). t key) (table_with-append t0 first doubt))
+    (saved_prefix t0 (table_with t0 first) lobby first (doubt ++ rest) upto shelf is last (λ key. refl) agreed)
+
+-- the orders that a table was changed by: those carried out, and those in doubt that were carried out too
+record IsPut (before after_all : Records) (carried left : List Order) : Type 0 where
+  doubt : List Order
+  rest : List Order
+  all : left ≡ doubt ++ rest
+  holds : (key : List ℕ) → held after_all key ≡ table_with (held before) (carried ++ doubt) key
+
+put_carried : (before after_all : Records) (carried left : List Order)
+    → ((key : List ℕ) → held after_all key ≡ table_with (held before) carried key)
+    → IsPut before after_all carried left
+put_carried before after_all carried left p = record {
+  doubt = [];
+  rest = left;
+  all = refl;
+  holds = λ key. p key ∙ ap (λ (l : List Order). table_with (held before) l key) (sym (append-nil carried));
+}
+
+is_put : (before after_all : Records) (carried left : List Order) (outcome : Kept)
+    → CarriesPerhaps (Some before) (Some after_all) carried (in_doubt outcome left)
+    → IsPut before after_all carried left
+is_put before after_all carried left kept.Done p = put_carried before after_all carried left p
+is_put before after_all carried left kept.Memory p = put_carried before after_all carried left p
+is_put before after_all carried [] kept.Failed p = put_carried before after_all carried [] p
+is_put before after_all carried (order ∷ left) kept.Failed (inl p) =
+    put_carried before after_all carried (order ∷ left) p
+is_put before after_all carried (order ∷ left) kept.Failed (inr p) =
+    record { doubt = order ∷ []; rest = left; all = refl; holds = p }
+
+-- a keeper that tells its table goes on telling it
+goes_on_telling : (before : Records) (carried : List Order) (doubt : Option Order)
+    → CarriesPerhaps (Some before) None carried doubt → ⊥
+goes_on_telling before carried None p = p
+goes_on_telling before carried (Some order) (inl p) = p
+goes_on_telling before carried (Some order) (inr p) = p
+
+module _ (moment : ℕ) (orders carried doubt left : List Order) (before after_all : Records) (old new : RunnerState)
     (known : IsKnown old) (whole : IsWhole old.opening)
-    (all : orders ≡ carried ++ left) (first : StandFirst orders (state_seen old))
-    (holds : (key : List ℕ) → held after_all key ≡ table_with (held before) carried key)
+    (all : orders ≡ carried ++ (doubt ++ left)) (first : StandFirst orders (state_seen old))
+    (holds : (key : List ℕ) → held after_all key ≡ table_with (held before) (carried ++ doubt) key)
     (agreed : AgreesSeen before old) where
+  more_behind : (one two : List Order) → (carried ++ (doubt ++ one)) ++ two ≡ carried ++ (doubt ++ (one ++ two))
+  more_behind one two =
+      append_assoc carried (doubt ++ one) two ∙ ap (λ (l : List Order). carried ++ l) (append_assoc doubt one two)
+
   stand : (lobby : LobbyState) → slice_get (state_seen old) 0 ≡ Some (TheLobby lobby)
-      → (more : List Order) × (lobby.shelf.orders ≡ carried ++ more)
+      → (more : List Order) × (lobby.shelf.orders ≡ carried ++ (doubt ++ more))
   stand lobby there =
-      let more = first.first lobby there in
-      (left ++ more.0, more.1 ∙ ap (λ (l : List Order). l ++ more.0) all ∙ append_assoc carried left more.0)
+      let more = first.first lobby there in (
+        left ++ more.0,
+        more.1 ∙ ap (λ (l : List Order). l ++ more.0) all ∙ more_behind left more.0,
+      )
 
   agreed_put : AgreesSeen after_all old
   agreed_put lobby there =
       let more = stand lobby there in
-      put_prefix (held before) (held after_all) lobby carried more.0 more.1 holds (agreed lobby there)
+      put_prefix (held before) (held after_all) lobby (carried ++ doubt) more.0
+      (more.1 ∙ sym (append_assoc carried doubt more.0)) holds (agreed lobby there)
 
   agreed_said : (upto : ℕ) (answer : Reply) → last_number carried ≡ Some upto
       → Ran old (says_saved moment upto) answer new → NoOthersSave old new → AgreesSeen after_all new
@@ -258,7 +315,7 @@ module _ (moment : ℕ) (orders carried left : List Order) (before after_all : R
       let parts = state house (state_seen old) others in
       let more = stand r.old r.there in
       let orders_now =
-      r.leads.orders ∙ ap (λ (l : List Order). l ++ r.leads.more) more.1 ∙ append_assoc carried more.0 r.leads.more in
+      r.leads.orders ∙ ap (λ (l : List Order). l ++ r.leads.more) more.1 ∙ more_behind more.0 r.leads.more in
       let same_lobby = one_lobby parts led.1.lobby r.new led.1.first r.there_now in
       let shelf = subst (λ (l : LobbyState). IsShelf l.shelf) same_lobby led.1.formed.shelf.sound in
       let after_it : LobbyState = record r.new { shelf = saved r.new.shelf upto } in
@@ -270,8 +327,8 @@ module _ (moment : ℕ) (orders carried left : List Order) (before after_all : R
       one_lobby (state_seen new) lobby after_it there
       (ap (λ (l : List Part). slice_get l 0) (path ∙ alone) ∙ put_lobby parts r.new after_it r.there_now) in
       subst (AgreesWith (held after_all)) (sym found)
-      (saved_prefix (held before) (held after_all) r.new carried (more.0 ++ r.leads.more) upto shelf orders_now last
-      holds (r.leads.agrees (held before) (agreed r.old r.there)))
+      (saved_doubt (held before) (held after_all) r.new carried doubt (more.0 ++ r.leads.more) upto shelf orders_now
+      last holds (r.leads.agrees (held before) (agreed r.old r.there)))
 
   agreed_tells : (upto : Option ℕ) (said : SavedTold) → last_number carried ≡ upto → TellsUpTo moment upto said old new
       → NoOthersSave old new → AgreesSeen after_all new
@@ -279,7 +336,7 @@ module _ (moment : ℕ) (orders carried left : List Order) (before after_all : R
   agreed_tells (Some upto) told.Done last t none = agreed_said upto t.0 last t.1 none
   agreed_tells (Some upto) told.Memory last t none = agrees_gained after_all old new [] whole known t tt none agreed_put
 
--- orders that were told are carried out and told as saved
+-- orders that were told are carried out and told as saved, but for one in doubt, which still stands
 told_agrees_at : (moment : ℕ) (end : SaveRound) (orders : List Order) (before after_all : Option Records)
     (faults faults' : ℕ) (calls calls' : Calls) (old new : RunnerState)
     → IsKnown old
@@ -290,10 +347,13 @@ told_agrees_at : (moment : ℕ) (end : SaveRound) (orders : List Order) (before 
     }) (record { table = after_all; faults = faults'; calls = calls' }) old new
     → StandFirst orders (state_seen old) → StaysAgreed before after_all old new
 told_agrees_at moment end orders None after_all faults faults' calls calls' old new known s first = tt
-told_agrees_at moment end orders (Some before) None faults faults' calls calls' old new known s first = absurd s.table
+told_agrees_at moment end orders (Some before) None faults faults' calls calls' old new known s first =
+    absurd (goes_on_telling before s.carried (in_doubt s.outcome s.left) s.table)
 told_agrees_at moment end orders (Some before) (Some after_all) faults faults' calls calls' old new known s
     first = λ whole none agreed.
-    agreed_tells moment orders s.carried s.left before after_all old new known whole s.all first s.table agreed
+    let put = is_put before after_all s.carried s.left s.outcome s.table in
+    agreed_tells moment orders s.carried put.doubt put.rest before after_all old new known whole
+    (s.all ∙ ap (λ (l : List Order). s.carried ++ l) put.all) first put.holds agreed
     (last_number s.carried) s.said refl s.tells none
 
 pub told_agrees : (moment : ℕ) (end : SaveRound) (orders : List Order) (before after_all : Store)

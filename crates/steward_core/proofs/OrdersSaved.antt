@@ -1,19 +1,20 @@
 -- Rounds of save orders, one after another.
-use Rattle.std.proofs.Common.{◌≡◌, ℕ, ◌+◌, ◌*◌, ◌<◌, ◌≤◌, suc, inl, inr, Bool, true, false, cond, List, [], ◌∷◌, ◌++◌, Option, None, Some, length, refl, sym, ap, subst, ◌∙◌, append-nil, length-append, arith, ◌⊎◌, ◌==◌, ◌^◌, ◌-◌}
+use Rattle.std.proofs.Common.{◌≡◌, ℕ, ◌+◌, ◌*◌, ◌<◌, ◌≤◌, suc, inl, inr, Bool, true, false, cond, List, [], ◌∷◌, ◌++◌, Option, None, Some, length, refl, sym, ap, subst, ◌∙◌, append-nil, arith, ◌⊎◌, ◌==◌, ◌^◌, ◌-◌}
 use Rattle.std.proofs.lemmas.Bool.{eqb-true, eqb-false}
 use Rattle.edge_traits.specs.Calls.{Store}
+use Rattle.edge_traits.specs.Pairs.{Records}
 use Rattle.edge_traits.specs.declared.keeper.Kept.{Kept}
 use Rattle.edge_traits.specs.declared.keeper.Kept.TheVariants as kept
 use Rattle.lobby_shelf.specs.declared.order.Order.{Order}
 use Rattle.histories.specs.declared.entry.Entry.{Entry}
 use Rattle.histories.specs.History.{entry}
-use Rattle.lobby_store.specs.Carrying.{CallsFor, Carries}
-use Rattle.lobby_store.proofs.OrdersOut.{called_then, carries_none, carries_then}
+use Rattle.lobby_store.specs.Carrying.{CallsFor, Carries, CarriesPerhaps, in_doubt}
+use Rattle.lobby_store.proofs.OrdersOut.{called_then, carries_none, carries_perhaps_then}
 use Rattle.one_server.specs.declared.act.Timed.{Timed}
 use Rattle.one_server.specs.declared.reply.Reply.{Reply}
 use Rattle.one_server.specs.Running.{IsKnown, Log, Made, Ran, RunnerState}
 use Rattle.steward_core.specs.Clearing.{acts_of}
-use Rattle.steward_core.specs.Saving.{AreFullRounds, EndsRound, EndsSaving, HasCalled, IsCutShort, IsSaveRound, LeavesOne, RoundAt, RunsRound, SavesTold, TakesSaving, TellsUpTo, asks_orders, last_number, orders_in, round_of, says_saved, tells_upto}
+use Rattle.steward_core.specs.Saving.{AreFullRounds, EndsRound, EndsSaving, HasCalled, IsCutShort, IsSaveRound, LeavesInDoubt, RoundAt, RoundDoubts, RunsRound, SavesTold, TakesSaving, TellsUpTo, asks_orders, last_number, orders_in, round_of, says_saved, tells_upto}
 use Rattle.steward_core.specs.declared.saving.SaveRound.{SaveRound}
 use Rattle.steward_core.specs.declared.saving.SaveRound.TheVariants as round
 use Rattle.steward_core.specs.declared.saving.SavedTold.{SavedTold}
@@ -41,14 +42,20 @@ none_saved moment store old known = record {
   called = sym (append-nil store.calls);
 }
 
+-- no order is in doubt
+without_doubt : (old new : Option Records) (carried : List Order) (doubt : Option Order) → doubt ≡ None
+    → CarriesPerhaps old new carried doubt → CarriesPerhaps old new carried None
+without_doubt old new carried doubt none kept = subst (CarriesPerhaps old new carried) none kept
+
 module _ (moment rounds : ℕ) (before mid after : Store) (old between new : RunnerState)
     (so_far : HasSaved moment rounds before mid old between) where
   grown : (entries : Log) → Made between entries new → Made old (so_far.entries ++ entries) new
   grown entries grew = made_then old between new so_far.entries entries so_far.grew grew
 
-  carried_on : (carried : List Order) → Carries mid.table after.table carried
-      → Carries before.table after.table (so_far.carried ++ carried)
-  carried_on carried kept = carries_then before.table mid.table after.table so_far.carried carried so_far.kept kept
+  carried_on : (carried : List Order) (doubt : Option Order) → CarriesPerhaps mid.table after.table carried doubt
+      → CarriesPerhaps before.table after.table (so_far.carried ++ carried) doubt
+  carried_on carried doubt kept =
+      carries_perhaps_then before.table mid.table after.table so_far.carried carried doubt so_far.kept kept
 
   called_on : (answer : Kept) (carried : List Order) → CallsFor answer carried mid.calls after.calls
       → CallsFor answer (so_far.carried ++ carried) before.calls after.calls
@@ -62,18 +69,18 @@ module _ (moment rounds : ℕ) (before mid after : Store) (old between new : Run
     carried = so_far.carried ++ r.carried;
     grew = grown r.entries r.grew;
     full = (so_far.entries, r.entries, so_far.carried, r.carried, so_far.full, r.ends.0, r.ends.1, refl, refl);
-    kept = carried_on r.carried r.kept;
+    kept = carried_on r.carried None (without_doubt mid.table after.table r.carried r.doubt r.left r.kept);
     called =
         called_on kept.Done r.carried
         (subst (λ (answer : Kept). CallsFor answer r.carried mid.calls after.calls) r.called.1 r.called.2);
   }
 
   -- a round that is the last one
-  ended : (end : StewardEnd) (entries : Log) (carried : List Order) → Made between entries new
+  ended : (end : StewardEnd) (entries : Log) (carried : List Order) (doubt : Option Order) → Made between entries new
       → EndsSaving moment end rounds entries carried
-      → LeavesOne end entries carried → Carries mid.table after.table carried
+      → LeavesInDoubt end entries carried doubt → CarriesPerhaps mid.table after.table carried doubt
       → HasCalled end carried mid.calls after.calls → TakesSaving moment end before after old new
-  ended end entries carried grew ends left kept called = record {
+  ended end entries carried doubt grew ends left kept called = record {
     entries = so_far.entries ++ entries;
     carried = so_far.carried ++ carried;
     grew = grown entries grew;
@@ -84,27 +91,28 @@ module _ (moment rounds : ℕ) (before mid after : Store) (old between new : Run
           first = so_far.carried;
           rest = entries;
           last = carried;
+          doubt = doubt;
           are_full = so_far.full;
           ends = ends;
           left = left;
           all = refl;
           orders = refl;
         };
-    kept = carried_on carried kept;
+    kept = carried_on carried doubt kept;
     called = (called.0, called.1, called_on called.0 carried called.2);
   }
 
   pub ended_last : (few : ℕ) → RunsRound moment (round.Last few) mid after between new
       → TakesSaving moment (Done (rounds * 16 + few)) before after old new
-  ended_last few r = ended (Done (rounds * 16 + few)) r.entries r.carried r.grew
-      (inl (r.ends.0, r.ends.1, ap (λ n. rounds * 16 + n) r.ends.2)) tt r.kept r.called
+  ended_last few r = ended (Done (rounds * 16 + few)) r.entries r.carried r.doubt r.grew
+      (inl (r.ends.0, r.ends.1, ap (λ n. rounds * 16 + n) r.ends.2)) r.left r.kept r.called
 
   pub ended_fault : RunsRound moment round.KeeperFault mid after between new
       → TakesSaving moment KeeperFault before after old new
-  ended_fault r = ended KeeperFault r.entries r.carried r.grew r.ends.0 r.ends.1 r.kept r.called
+  ended_fault r = ended KeeperFault r.entries r.carried r.doubt r.grew r.ends r.left r.kept r.called
 
   pub ended_short : RunsRound moment round.Memory mid after between new → TakesSaving moment Memory before after old new
-  ended_short r = ended Memory r.entries r.carried r.grew r.ends tt r.kept r.called
+  ended_short r = ended Memory r.entries r.carried r.doubt r.grew r.ends r.left r.kept r.called
 
 -- the most rounds
 pub ended_most : (moment rounds : ℕ) (before after : Store) (old new : RunnerState) → rounds ≡ 2 ^ 28 - 1
@@ -121,9 +129,10 @@ ended_most moment rounds before after old new most s = record {
         first = s.carried;
         rest = [];
         last = [];
+        doubt = None;
         are_full = s.full;
         ends = inr (most, refl, refl, refl);
-        left = tt;
+        left = refl;
         all = sym (append-nil s.entries);
         orders = sym (append-nil s.carried);
       };
@@ -141,6 +150,8 @@ round_unasked moment store old new grew = record {
   carried = [];
   grew = grew;
   ends = inr (refl, refl);
+  doubt = None;
+  left = refl;
   kept = carries_none store.table;
   called = (kept.Done, λ bad. cc, sym (append-nil store.calls));
 }
@@ -189,12 +200,11 @@ module _ (moment : ℕ) (orders : List Order) (before after : Store) (answer : R
   cut_round carried left said all acts =
       record { first = asked; rest = said; all = refl; asks = refl; left = left; told = tells ∙ all; saved = acts }
 
-  one_left : (carried left : List Order) → orders ≡ carried ++ left → (left ≡ [] → ⊥)
-      → length carried < length (orders_in answer)
-  one_left carried [] all some = absurd (some refl)
-  one_left carried (order ∷ left) all some =
-      let told : length (orders_in answer) ≡ length (carried ++ order ∷ left) = ap length (tells ∙ all) in
-      omega (arith, told, length-append carried (order ∷ left))
+  one_left : (carried left : List Order) (said : Log) → orders ≡ carried ++ left → (left ≡ [] → ⊥)
+      → LeavesInDoubt KeeperFault (asked ∷ said) carried (in_doubt kept.Failed left)
+  unfolding asked
+  one_left carried [] said all some = absurd (some refl)
+  one_left carried (order ∷ left) said all some = (order, refl, (left, tells ∙ all))
 
   same_length : (carried left : List Order) → orders ≡ carried ++ left → left ≡ [] → length orders ≡ length carried
   same_length carried left all none = ap length (all ∙ ap (λ l. carried ++ l) none ∙ append-nil carried)
@@ -217,27 +227,37 @@ module _ (moment : ℕ) (orders : List Order) (before after : Store) (answer : R
 
   ends_by : (outcome : Kept) (said : SavedTold) (carried left : List Order) (entries : Log) → orders ≡ carried ++ left
       → (outcome ≡ kept.Done → left ≡ [])
-      → (left ≡ [] → outcome ≡ kept.Done)
       → (said ≡ told.Done → acts_of entries ≡ tells_upto moment (last_number carried))
       → (said ≡ told.Memory → entries ≡ [])
       → EndsRound moment (round_of outcome said (length orders)) (asked ∷ entries) carried
   unfolding asked
-  ends_by kept.Failed told.Done carried left entries all whole only acts none = (
-    cut_round carried left entries all (inl (acts refl)),
-    one_left carried left all (λ bare. let bad = only bare in cc),
-  )
-  ends_by kept.Failed told.Memory carried left entries all whole only acts none = (
-    cut_round carried left entries all (inr (none refl)),
-    one_left carried left all (λ bare. let bad = only bare in cc),
-  )
-  ends_by kept.Memory told.Done carried left entries all whole only acts none =
+  ends_by kept.Failed told.Done carried left entries all whole acts none =
+      cut_round carried left entries all (inl (acts refl))
+  ends_by kept.Failed told.Memory carried left entries all whole acts none =
+      cut_round carried left entries all (inr (none refl))
+  ends_by kept.Memory told.Done carried left entries all whole acts none =
       inl (cut_round carried left entries all (inl (acts refl)))
-  ends_by kept.Memory told.Memory carried left entries all whole only acts none =
+  ends_by kept.Memory told.Memory carried left entries all whole acts none =
       inl (cut_round carried left entries all (inr (none refl)))
-  ends_by kept.Done told.Memory carried left entries all whole only acts none =
+  ends_by kept.Done told.Memory carried left entries all whole acts none =
       inl (cut_round carried left entries all (inr (none refl)))
-  ends_by kept.Done told.Done carried left entries all whole only acts none =
+  ends_by kept.Done told.Done carried left entries all whole acts none =
       ends_whole carried left entries all (whole refl) (acts refl) (length orders == 16) refl
+
+  doubts_whole : (carried : List Order) (entries : Log) (is_full : Bool) (count : ℕ)
+      → RoundDoubts (cond is_full round.Full (round.Last count)) entries carried None
+  doubts_whole carried entries true count = refl
+  doubts_whole carried entries false count = refl
+
+  doubts_by : (outcome : Kept) (said : SavedTold) (carried left : List Order) (entries : Log)
+      → orders ≡ carried ++ left → (left ≡ [] → outcome ≡ kept.Done)
+      → RoundDoubts (round_of outcome said (length orders)) (asked ∷ entries) carried (in_doubt outcome left)
+  doubts_by kept.Failed said carried left entries all only =
+      one_left carried left entries all (λ bare. let bad = only bare in cc)
+  doubts_by kept.Memory said carried left entries all only = refl
+  doubts_by kept.Done told.Memory carried left entries all only = refl
+  doubts_by kept.Done told.Done carried left entries all only =
+      doubts_whole carried (asked ∷ entries) (length orders == 16) (length orders)
 
   answered_whole : (is_full : Bool) (count : ℕ) → RoundAt (cond is_full round.Full (round.Last count)) kept.Done
   answered_whole true count = refl
@@ -258,7 +278,11 @@ module _ (moment : ℕ) (orders : List Order) (before after : Store) (answer : R
         carried = s.carried;
         grew = round_made said.0 said.1;
         ends = subst (λ (r : SaveRound). EndsRound moment r (asked ∷ said.0) s.carried) (sym s.ends)
-            (ends_by s.outcome s.said s.carried s.left said.0 s.all s.whole s.only_whole said.2.0 said.2.1);
+            (ends_by s.outcome s.said s.carried s.left said.0 s.all s.whole said.2.0 said.2.1);
+        doubt = in_doubt s.outcome s.left;
+        left =
+            subst (λ (r : SaveRound). RoundDoubts r (asked ∷ said.0) s.carried (in_doubt s.outcome s.left)) (sym s.ends)
+            (doubts_by s.outcome s.said s.carried s.left said.0 s.all s.only_whole);
         kept = s.table;
         called = (
           s.outcome,

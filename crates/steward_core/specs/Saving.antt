@@ -8,7 +8,7 @@ use Rattle.histories.specs.declared.entry.Entry.{Entry}
 use Rattle.lobby_shelf.specs.Shelf.{orders_at_once}
 use Rattle.lobby_state.specs.declared.acts.LobbyAct.TheVariants.{Orders as AskOrders, Saved}
 use Rattle.lobby_state.specs.declared.acts.LobbyReply.TheVariants.{Orders}
-use Rattle.lobby_store.specs.Carrying.{CallsFor, Carries}
+use Rattle.lobby_store.specs.Carrying.{CallsFor, CarriesPerhaps, in_doubt}
 use Rattle.one_server.specs.declared.act.Act.TheVariants.{Lobby}
 use Rattle.one_server.specs.declared.act.Timed.{Timed}
 use Rattle.one_server.specs.declared.reply.Reply.{Reply}
@@ -94,22 +94,28 @@ EndsSaving moment (Done count) rounds entries orders =
 EndsSaving moment KeeperFault rounds entries orders = IsCutShort moment entries orders
 EndsSaving moment Memory rounds entries orders = IsCutShort moment entries orders ⊎ ((entries ≡ []) × (orders ≡ []))
 
--- where the keeper failed, an order that was told at the end wasn't carried out
-abbrev pub LeavesOne : StewardEnd → Log → List Order → Type 0
-LeavesOne (Done count) entries carried = Unit {0}
-LeavesOne KeeperFault entries carried = length carried < length (orders_told entries)
-LeavesOne Memory entries carried = Unit {0}
+-- of the orders that were told this one comes right behind those that were carried out
+abbrev pub IsNextTold : Log → List Order → Order → Type 0
+IsNextTold entries carried order = (left : List Order) × (orders_told entries ≡ carried ++ order ∷ left)
 
--- the entries of saving, in which these orders were carried out
+-- the one order that is in doubt: where the keeper failed, the next one that was told at the end, which may be carried
+-- out too; and else there is none
+abbrev pub LeavesInDoubt : StewardEnd → Log → List Order → Option Order → Type 0
+LeavesInDoubt (Done count) entries carried doubt = doubt ≡ None
+LeavesInDoubt KeeperFault entries carried doubt = (order : Order) × (doubt ≡ Some order) × IsNextTold entries carried order
+LeavesInDoubt Memory entries carried doubt = doubt ≡ None
+
+-- the entries of saving, in which these orders were carried out, and at most one behind them is in doubt
 pub record IsSaving (moment : ℕ) (end : StewardEnd) (entries : Log) (carried : List Order) : Type 0 where
   pub rounds : ℕ
   pub full : Log
   pub first : List Order
   pub rest : Log
   pub last : List Order
+  pub doubt : Option Order
   pub are_full : AreFullRounds moment rounds full first
   pub ends : EndsSaving moment end rounds rest last
-  pub left : LeavesOne end rest last
+  pub left : LeavesInDoubt end rest last doubt
   pub all : entries ≡ full ++ rest
   pub orders : carried ≡ first ++ last
 
@@ -124,13 +130,13 @@ SavesAt Memory answer = answer ≢ kept.Failed
 abbrev pub HasCalled : StewardEnd → List Order → Calls → Calls → Type 0
 HasCalled end carried old new = (answer : Kept) × SavesAt end answer × CallsFor answer carried old new
 
--- a session had save orders carried out, and a keeper carried them out
+-- a session had save orders carried out, and a keeper carried them out, and perhaps the one that is in doubt
 pub record TakesSaving (moment : ℕ) (end : StewardEnd) (before after : Store) (old new : RunnerState) : Type 0 where
   pub entries : Log
   pub carried : List Order
   pub grew : Made old entries new
   pub saving : IsSaving moment end entries carried
-  pub kept : Carries before.table after.table carried
+  pub kept : CarriesPerhaps before.table after.table carried saving.doubt
   pub called : HasCalled end carried before.calls after.calls
 
 -- orders were told as saved, up to a number, where there is one
@@ -151,7 +157,8 @@ round_of kept.Done told.Memory count = round.Memory
 round_of kept.Done told.Done count = if count == orders_at_once then round.Full else round.Last count
 
 -- the orders that were told were handed to a keeper: some were carried out, from the first one on, all exactly where
--- that ended well, and then told as saved
+-- that ended well, and then told as saved. Where the keeper failed the first of the rest is in doubt, and not told as
+-- saved
 pub record SavesTold (moment : ℕ) (end : SaveRound) (orders : List Order) (before after : Store)
     (old new : RunnerState) : Type 0 where
   pub carried : List Order
@@ -161,7 +168,7 @@ pub record SavesTold (moment : ℕ) (end : SaveRound) (orders : List Order) (bef
   pub all : orders ≡ carried ++ left
   pub whole : outcome ≡ kept.Done → left ≡ []
   pub only_whole : left ≡ [] → outcome ≡ kept.Done
-  pub table : Carries before.table after.table carried
+  pub table : CarriesPerhaps before.table after.table carried (in_doubt outcome left)
   pub called : CallsFor outcome carried before.calls after.calls
   pub tells : Tells moment carried said old new
   pub ends : end ≡ round_of outcome said (length orders)
@@ -171,9 +178,15 @@ abbrev pub EndsRound : ℕ → SaveRound → Log → List Order → Type 0
 EndsRound moment round.Full entries orders = IsSaveRound moment entries orders × (length orders ≡ orders_at_once)
 EndsRound moment (round.Last count) entries orders =
     IsSaveRound moment entries orders × (length orders < orders_at_once) × (count ≡ length orders)
-EndsRound moment round.KeeperFault entries orders =
-    IsCutShort moment entries orders × (length orders < length (orders_told entries))
+EndsRound moment round.KeeperFault entries orders = IsCutShort moment entries orders
 EndsRound moment round.Memory entries orders = IsCutShort moment entries orders ⊎ ((entries ≡ []) × (orders ≡ []))
+
+-- the one order that a round which ended like this leaves in doubt, if any
+abbrev pub RoundDoubts : SaveRound → Log → List Order → Option Order → Type 0
+RoundDoubts round.Full entries carried doubt = doubt ≡ None
+RoundDoubts (round.Last count) entries carried doubt = doubt ≡ None
+RoundDoubts round.KeeperFault entries carried doubt = LeavesInDoubt KeeperFault entries carried doubt
+RoundDoubts round.Memory entries carried doubt = doubt ≡ None
 
 -- what the keeper answered last in a round that ended like this
 abbrev pub RoundAt : SaveRound → Kept → Type 0
@@ -188,5 +201,7 @@ pub record RunsRound (moment : ℕ) (end : SaveRound) (before after : Store) (ol
   pub carried : List Order
   pub grew : Made old entries new
   pub ends : EndsRound moment end entries carried
-  pub kept : Carries before.table after.table carried
+  pub doubt : Option Order
+  pub left : RoundDoubts end entries carried doubt
+  pub kept : CarriesPerhaps before.table after.table carried doubt
   pub called : (answer : Kept) × RoundAt end answer × CallsFor answer carried before.calls after.calls

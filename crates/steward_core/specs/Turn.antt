@@ -2,7 +2,7 @@
 use Rattle.std.specs.Prelude.{◌≡◌, ℕ, List, ◌++◌}
 use Rattle.edge_traits.specs.Calls.{Store}
 use Rattle.lobby_shelf.specs.declared.order.Order.{Order}
-use Rattle.lobby_store.specs.Carrying.{Carries}
+use Rattle.lobby_store.specs.Carrying.{CarriesPerhaps}
 use Rattle.one_server.specs.Running.{Log, Made, RunnerState}
 use Rattle.steward_core.specs.Clearing.{IsClearing}
 use Rattle.steward_core.specs.Saving.{HasCalled, IsSaving}
@@ -27,11 +27,11 @@ pub record IsStewardTurn (moment : ℕ) (end : StewardEnd) (entries : Log) (carr
   pub saving : IsSaving moment saved rest carried
   pub ends : end ≡ end_of_turn cleared saved
 
--- a session made a turn, in which a keeper carried these orders out
+-- a session made a turn, in which a keeper carried these orders out, and perhaps the one that is in doubt
 pub record TakesTurn (moment : ℕ) (end : StewardEnd) (before after : Store) (old new : RunnerState) : Type 0 where
   pub entries : Log
   pub carried : List Order
   pub grew : Made old entries new
   pub turn : IsStewardTurn moment end entries carried
-  pub kept : Carries before.table after.table carried
+  pub kept : CarriesPerhaps before.table after.table carried turn.saving.doubt
   pub called : HasCalled turn.saved carried before.calls after.calls

@@ -19,7 +19,8 @@ pub enum StewardEnd {
     /// Each of its acts was made, and so many save orders were carried out and told as saved: all that stood, but for
     /// those that stand after 2^28 - 1 answers of 16.
     Done(u32),
-    /// The keeper failed, which it counted. The orders that weren't told as saved stand.
+    /// The keeper failed, which it counted. The orders that weren't told as saved stand, the one at which it failed
+    /// among them: that one alone is in doubt, and the next turn carries it out once more.
     KeeperFault,
     /// Memory ran out somewhere, perhaps in a Clear that was passed over. The orders that weren't told as saved stand.
     Memory,
