@@ -102,7 +102,8 @@ IsNextTold entries carried order = (left : List Order) × (orders_told entries �
 -- out too; and else there is none
 abbrev pub LeavesInDoubt : StewardEnd → Log → List Order → Option Order → Type 0
 LeavesInDoubt (Done count) entries carried doubt = doubt ≡ None
-LeavesInDoubt KeeperFault entries carried doubt = (order : Order) × (doubt ≡ Some order) × IsNextTold entries carried order
+LeavesInDoubt KeeperFault entries carried doubt =
+    (order : Order) × (doubt ≡ Some order) × IsNextTold entries carried order
 LeavesInDoubt Memory entries carried doubt = doubt ≡ None
 
 -- the entries of saving, in which these orders were carried out, and at most one behind them is in doubt
