@@ -1,11 +1,11 @@
-use Rattle.std.proofs.Common.{◌≡◌, List, take, sym, subst, ◌+◌, ◌++◌, ◌∙◌, ◌∷◌, [], ap, arith}
-use Rattle.std.proofs.lemmas.List.{take_more}
+use Rattle.std.proofs.Common.{◌≡◌, ℕ, List, drop, take, sym, subst, ◌+◌, ◌++◌, ◌∙◌, ◌∷◌, [], ap, arith}
+use Rattle.std.proofs.lemmas.List.{at_drop_more, take_more}
 use Rattle.lobby_shelf.specs.declared.order.Order.{Order}
 use Rattle.edge_traits.specs.Calls.{noted}
 use Rattle.edge_traits.specs.declared.keeper.Kept.{Kept}
 use Rattle.edge_traits.specs.declared.keeper.Kept.TheVariants.{Done}
-use Rattle.lobby_store.specs.Carrying.{CallsFor, Carries, CarriesOne, asked_with}
-use Rattle.lobby_store.proofs.OrdersOut.{called_then, carries_then}
+use Rattle.lobby_store.specs.Carrying.{CallsFor, Carries, CarriesOne, CarriesPerhaps, asked_with, in_doubt}
+use Rattle.lobby_store.proofs.OrdersOut.{called_then, carries_cut, carries_then}
 use Rattle.lobby_store.proofs.carrying.carry_out.Goals as goal
 
 pub loop-order-preserved : goal.loop-order-preserved
@@ -36,3 +36,20 @@ loop-order-preserved g c =
           c.carry_one.ensures.noted));
       counted = omega (arith, counted, more);
     }
+
+pub returns-in_default-clause-carried : goal.returns-in_default-clause-carried
+returns-in_default-clause-carried g c =
+    let old = g.P.Keeper.table c.args.keeper.now in
+    let mid = g.P.Keeper.table c.loop-order.keeper in
+    let new = g.P.Keeper.table c.carry_one.new.keeper in
+    let i = c.loop-order.order-index in
+    let orders = c.args.orders.now in
+    let end = c.carry_one.result in
+    let rest = drop (i + 1) orders in
+    let next = at_drop_more (in_doubt end) orders i c.order-item.result c.loop-order-test.true
+    ∙ ap (λ (o : Order). in_doubt end (o ∷ rest)) (sym c.order-item.is) in
+    subst (λ (n : ℕ). CarriesPerhaps old new (take n orders) (in_doubt end (drop n orders)))
+    (sym c.loop-order.invariant.count)
+    (subst (CarriesPerhaps old new (take i orders)) (sym next)
+    (carries_cut end old mid new (take i orders) c.order-item.result rest c.in_default.not-Done
+    c.loop-order.invariant.carried c.carry_one.ensures.carried))
