@@ -17,8 +17,8 @@ use Rattle.one_server.specs.declared.part.Part.TheVariants.{Lobby as TheLobby}
 use Rattle.serve_call.specs.Opening.{IsLoaded}
 use Rattle.serve_core.specs.Outside.{Sheet}
 use Rattle.serve_core.specs.Serving.{HasServedAll}
-use Rattle.serve_core.specs.Stopping.{IsClean}
-use Rattle.serve_core.specs.declared.end.ServeEnd.{ServeEnd}
+use Rattle.serve_turn.specs.Stopping.{IsClean}
+use Rattle.serve_turn.specs.declared.end.ServeEnd.{ServeEnd}
 use Rattle.steward_core.specs.Saving.{most_answers}
 use Rattle.steward_core.specs.declared.turn.StewardEnd.{StewardEnd}
 use Rattle.steward_core.specs.declared.turn.StewardEnd.TheVariants as steward

@@ -16,12 +16,12 @@ use Rattle.hall_core.specs.Pass.{PassState}
 use Rattle.steward_core.specs.declared.turn.StewardEnd.{StewardEnd}
 use Rattle.steward_core.specs.declared.turn.StewardEnd.TheVariants as steward
 use Rattle.steward_core.specs.Saving.{most_answers}
-use Rattle.serve_core.specs.declared.end.ServeEnd.{ServeEnd}
-use Rattle.serve_core.specs.declared.end.ServeEnd.TheVariants.{Memory}
+use Rattle.serve_turn.specs.declared.end.ServeEnd.{ServeEnd}
+use Rattle.serve_turn.specs.declared.end.ServeEnd.TheVariants.{Memory}
 use Rattle.serve_core.specs.Outside.{Sheet}
 use Rattle.edge_traits.specs.Calls.{Store}
 use Rattle.serve_core.specs.Serving.{AgreesIn, HasServedAll, RanShort}
-use Rattle.serve_core.specs.Stopping.{IsClean}
+use Rattle.serve_turn.specs.Stopping.{IsClean}
 
 -- what follows of every server that has served: of how serving ended and how the last turn did, of the keeper before
 -- and
