@@ -15,7 +15,8 @@ use Rattle.pgn_book.specs.declared.reader.PgnStep.TheVariants.{Game, More, Bad}
 use Rattle.pgn_book.specs.Export.{export_text}
 use Rattle.pgn_book.specs.Reader.{Reader, fresh_reader, IsNext, IsLast}
 use Rattle.pgn_book.specs.BadLines.{IsLeftOn}
-use Rattle.pgn_book.specs.Runs.{EndsSo, HasGiven, begun_with, outcome_of}
+use Rattle.pgn_book.specs.Runs.{AreWhole, EndsSo, HasGiven, outcome_of}
+use Rattle.pgn_book.proofs.WholeGames.{whole_told}
 use Rattle.pgn_book.proofs.WholeRuns.{all_read, begins_end, fed_more, game_more, last_lost, next_given, next_lost, next_none, none_given}
 use Rattle.cmd_tidy.specs.Tidying.{HasTidied, HasTidiedAll, exports, tidying}
 use Rattle.cmd_tidy.specs.Putting.{AfterLast, AfterPut, HasPut, HasPutLast, PutsStep}
@@ -47,10 +48,13 @@ tidied : (taken due : List ℕ) (games : List PgnGame) (r : Reader) → HasGiven
 tidied taken due games r h empty on e =
     let none = next_none taken games r h empty on in
     record {
-      given = subst (λ (l : List PgnGame). HasGiven taken l r) (sym none.games_are) h;
+      games = games;
+      whole = subst (AreWhole taken) none.games_are (whole_told.begun taken);
+      told = sym none.games_are;
+      given = h;
       all = empty;
       goes_on = on;
-      text = e ∙ ap exports (sym none.games_are);
+      text = e;
     }
 
 pub next_put : (taken base : List ℕ) (games : List PgnGame) (step : PgnStep) (old new : Reader) (out out' : List ℕ)
@@ -79,12 +83,12 @@ next_put taken base games (Bad line) old new out out' (Err BadLine) h e is put =
     ap (λ (t : List ℕ). (outcome_of t).games) (sym (append-nil taken))
     ∙ (next_lost taken games line old new h is []).before in
     record {
+      games = games;
       line = line;
+      whole = subst (AreWhole taken) before (whole_told.ended taken);
+      told = sym before;
       left = λ more whole. (next_lost taken games line old new h is more).left;
-      text =
-          due_more base out out'
-          (bad_line (codes "\n") line) games e put
-          ∙ ap (λ (l : List PgnGame). exports l ++ bad_line (codes "\n") line) (sym before);
+      text = due_more base out out' (bad_line (codes "\n") line) games e put;
     }
 next_put taken base games (Bad line) old new out out' (Err Memory) h e is put = tt
 
@@ -120,14 +124,14 @@ last_put taken base games (Bad line) old new out out' (Ok more) h e is put = abs
 last_put taken base games (Bad line) old new out out' (Err BadLine) h e is put =
     let lost = last_lost taken games line old new h is in
     record {
+      games = games;
       line = line;
+      whole = subst (AreWhole taken) lost.before (whole_told.ended taken);
+      told = sym lost.before;
       left = λ more whole.
           subst (λ (t : List ℕ). IsLeftOn t line)
           (sym (ap (λ (l : List ℕ). taken ++ l) (whole refl) ∙ append-nil taken)) lost.left;
-      text =
-          due_more base out out'
-          (bad_line (codes "\n") line) games e put
-          ∙ ap (λ (l : List PgnGame). exports l ++ bad_line (codes "\n") line) (sym lost.before);
+      text = due_more base out out' (bad_line (codes "\n") line) games e put;
     }
 last_put taken base games (Bad line) old new out out' (Err Memory) h e is put = tt
 
@@ -163,22 +167,28 @@ last_stopped taken due r Memory h = tt
 
 -- a piece more was fed
 pub given_more : (taken piece : List ℕ) (now read fed : Reader) (due : List ℕ) → read ≡ now
-    → fed ≡ record read { rest = read.rest ++ piece } → HasTidied taken now due →
-    HasGiven (taken ++ piece) (begun_with taken).games fed
+    → fed ≡ record read { rest = read.rest ++ piece } → (h : HasTidied taken now due)
+    → HasGiven (taken ++ piece) h.games fed
 given_more taken piece now read fed due same e h =
-    let games : List PgnGame = (begun_with taken).games in
-    fed_more taken piece games read fed (subst (HasGiven taken games) (sym same) h.given) e
+    fed_more taken piece h.games read fed (subst (HasGiven taken h.games) (sym same) h.given) e
 
 -- the end has come
-pub given_last : (taken : List ℕ) (now read : Reader) (due : List ℕ) → read ≡ now → HasTidied taken now due
-    → EndsSo taken (begun_with taken).games read
+pub given_last : (taken : List ℕ) (now read : Reader) (due : List ℕ) → read ≡ now → (h : HasTidied taken now due)
+    → EndsSo taken h.games read
 given_last taken now read due same h =
-    let games : List PgnGame = (begun_with taken).games in
-    begins_end taken games read (subst (HasGiven taken games) (sym same) h.given)
+    begins_end taken h.games read (subst (HasGiven taken h.games) (sym same) h.given)
 
 -- nothing was fed, and nothing is due
 pub none_tidied : HasTidied [] fresh_reader []
-none_tidied = record { given = none_given; all = refl; goes_on = λ e. cc; text = refl }
+none_tidied = record {
+  games = [];
+  whole = whole_told.begun [];
+  told = refl;
+  given = none_given;
+  all = refl;
+  goes_on = λ e. cc;
+  text = refl;
+}
 
 same_left : (left : Option (List ℕ)) → Consumes left left []
 same_left None = tt

@@ -21,8 +21,7 @@ pub record ReaderReads : Type 0 where
       → read_from (Some first_state) text ≡ record { games = games; whole = true }
 
 -- a text is read alike however it is cut, and where no reading goes on behind its first bytes, the grammar reads
--- nothing
--- that begins with them
+-- nothing that begins with them
 pub record ReadsInPieces : Type 0 where
   pub read : (s : Option State) (front rest : List ℕ) → read_from s (front ++ rest)
       ≡ adding_all (gone s front).games (read_from (gone s front).on rest)

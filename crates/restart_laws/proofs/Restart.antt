@@ -35,8 +35,8 @@ use Rattle.serve_call.proofs.Opening.{table_agrees}
 use Rattle.serve_core.specs.Serving.{TellsAgreed}
 use Rattle.serve_core.specs.StewardLaws.{IsDone}
 use Rattle.serve_core.specs.Stewarding.{LeavesNoOrders}
-use Rattle.serve_core.specs.Stopping.{IsClean}
-use Rattle.serve_core.specs.declared.end.ServeEnd.{ServeEnd}
+use Rattle.serve_turn.specs.Stopping.{IsClean}
+use Rattle.serve_turn.specs.declared.end.ServeEnd.{ServeEnd}
 use Rattle.steward_core.proofs.StatesLead.{one_lobby}
 use Rattle.steward_core.specs.Saving.{most_answers}
 use Rattle.steward_core.specs.declared.turn.StewardEnd.{StewardEnd}

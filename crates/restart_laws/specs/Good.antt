@@ -11,8 +11,8 @@ use Rattle.hall_core.specs.Pass.{PassState}
 use Rattle.lobby_load.specs.BadRows.{IsGoodStore}
 use Rattle.lobby_state.specs.Lobby.{LobbyState}
 use Rattle.restart_laws.specs.Restart.{EndsWith, Evening, last_turn}
-use Rattle.serve_core.specs.Stopping.{IsClean}
-use Rattle.serve_core.specs.declared.end.ServeEnd.{ServeEnd}
+use Rattle.serve_turn.specs.Stopping.{IsClean}
+use Rattle.serve_turn.specs.declared.end.ServeEnd.{ServeEnd}
 use Rattle.steward_core.specs.Saving.{most_answers}
 use Rattle.steward_core.specs.declared.turn.StewardEnd.TheVariants as steward
 

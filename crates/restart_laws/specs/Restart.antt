@@ -17,15 +17,14 @@ use Rattle.one_server.specs.declared.part.Part.TheVariants.{Lobby as TheLobby}
 use Rattle.serve_call.specs.Opening.{IsLoaded}
 use Rattle.serve_core.specs.Outside.{Sheet}
 use Rattle.serve_core.specs.Serving.{HasServedAll}
-use Rattle.serve_core.specs.Stopping.{IsClean}
-use Rattle.serve_core.specs.declared.end.ServeEnd.{ServeEnd}
+use Rattle.serve_turn.specs.Stopping.{IsClean}
+use Rattle.serve_turn.specs.declared.end.ServeEnd.{ServeEnd}
 use Rattle.steward_core.specs.Saving.{most_answers}
 use Rattle.steward_core.specs.declared.turn.StewardEnd.{StewardEnd}
 use Rattle.steward_core.specs.declared.turn.StewardEnd.TheVariants as steward
 
 -- an evening, as a call of `serve` that gives a hall back tells of it: over a keeper that stood so before and after,
--- this
--- lobby was loaded, and served from; serving ended so, with this pass
+-- this lobby was loaded, and served from; serving ended so, with this pass
 pub record Evening (old new : Store) (first : LobbyState) (end : ServeEnd) (pass : PassState) : Type 0 where
   -- there is
   pub loaded : Store
@@ -60,8 +59,7 @@ OfTwoEvenings Follows =
 -- the next lobby has for each handle the account of the last one, with the same spelling and the same digest of its
 -- password, or none where this had none; it has the same adjourned games under the same numbers; and in each state of
 -- the evening that it opens a game that is resumed goes on as it was left: with its half-moves and their charges, and
--- so
--- with its positions, the men in hand, the rights, the counts and the clocks
+-- so with its positions, the men in hand, the rights, the counts and the clocks
 pub record Restores (last next : LobbyState) (pass : PassState) : Type 0 where
   pub accounts : (key : List ℕ) → account_of next.accounts key ≡ account_of last.accounts key
   pub games : next.shelf.games ≡ last.shelf.games
@@ -74,7 +72,6 @@ RestartRestores = OfTwoEvenings (λ end turn last next pass_later. IsClean end
     → Restores last next pass_later ⊎ (turn ≡ steward.Done (most_answers * 16)))
 
 -- however serving ended, a store that holds what the next lobby is of holds, once the save orders that stood in the
--- last
--- state are carried out, what it is to hold for the last lobby
+-- last state are carried out, what it is to hold for the last lobby
 abbrev pub OpensBehind : Type 0
 OpensBehind = OfTwoEvenings (λ end turn last next pass_later. AgreesWith (wanted_by next) last)

@@ -30,7 +30,7 @@ use Rattle.one_server.specs.House.{house}
 use Rattle.one_server.specs.Whole.{opened}
 use Rattle.hall_core.specs.Passes.{PassState}
 use Rattle.steward_core.proofs.StatesLead.{one_lobby}
-use Rattle.serve_core.specs.declared.end.ServeEnd.{ServeEnd}
+use Rattle.serve_turn.specs.declared.end.ServeEnd.{ServeEnd}
 use Rattle.steward_core.specs.declared.turn.StewardEnd.{StewardEnd}
 use Rattle.serve_call.specs.Opening.{IsLoaded}
 use Rattle.serve_core.specs.Serving.{AgreesIn, HasServedAll, TellsAgreed}

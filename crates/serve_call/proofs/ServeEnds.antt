@@ -24,9 +24,9 @@ use Rattle.serve_call.specs.ServeEnds.{EndsCall, Counts, OneRose}
 use Rattle.serve_call.specs.Opening.{StaysUnopened}
 use Rattle.serve_core.specs.Outside.{Sheet}
 use Rattle.edge_traits.specs.Calls.{Store}
-use Rattle.serve_core.specs.declared.end.ServeEnd.{ServeEnd}
-use Rattle.serve_core.specs.declared.end.ServeEnd.TheVariants.{Done, DoorFault, WriteFault, KeeperFault, Memory, Spent}
-use Rattle.serve_core.specs.Stopping.{IsClean, status_of}
+use Rattle.serve_turn.specs.declared.end.ServeEnd.{ServeEnd}
+use Rattle.serve_turn.specs.declared.end.ServeEnd.TheVariants.{Done, DoorFault, WriteFault, KeeperFault, Memory, Spent}
+use Rattle.serve_turn.specs.Stopping.{IsClean, status_of}
 use Rattle.serve_core.specs.Text.{whole_text}
 
 pub is_write_fault : (end : ServeEnd) → status_of end ≡ 3 → end ≡ WriteFault

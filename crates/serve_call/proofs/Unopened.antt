@@ -19,9 +19,9 @@ use Rattle.serve_call.specs.Opening.{CallsUnopened, StaysUnopened}
 use Rattle.lobby_state.specs.Lobby.{LobbyState}
 use Rattle.serve_core.specs.Outside.{Sheet}
 use Rattle.edge_traits.specs.Calls.{Calls, Store}
-use Rattle.serve_core.specs.Stopping.{status_of}
-use Rattle.serve_core.specs.declared.end.ServeEnd.{ServeEnd}
-use Rattle.serve_core.specs.declared.end.ServeEnd.TheVariants.{DoorFault, Memory, WriteFault}
+use Rattle.serve_turn.specs.Stopping.{status_of}
+use Rattle.serve_turn.specs.declared.end.ServeEnd.{ServeEnd}
+use Rattle.serve_turn.specs.declared.end.ServeEnd.TheVariants.{DoorFault, Memory, WriteFault}
 
 pub none_as : {H : Type 0} {A B : Type 0} (o : Option H) → (A → B) → IfNone o A → IfNone o B
 none_as None f p = f p

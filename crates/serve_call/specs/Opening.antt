@@ -28,8 +28,7 @@ pub record IsLoaded (old loaded : Store) (lobby : LobbyState) : Type 0 where
   pub called : loaded.calls ≡ noted old.calls Load Done
 
 -- the calls of a keeper where no hall was opened for this reason: one load, which failed exactly where that is told as
--- a
--- fault of the keeper; or none, where memory ran out before it
+-- a fault of the keeper; or none, where memory ran out before it
 abbrev pub CallsUnopened : StoreFault → Calls → Calls → Type 0
 CallsUnopened Memory old new = (new ≡ old) ⊎ LoadsOnce old new (FailsAt Memory)
 CallsUnopened fault old new = LoadsOnce old new (FailsAt fault)

@@ -5,12 +5,12 @@ use Rattle.edge_traits.specs.Faults.{Rose}
 use Rattle.edge_traits.specs.Sink.{AppendsFront}
 use Rattle.lobby_load.specs.Refused.{unopened_status}
 use Rattle.lobby_load.specs.declared.refusals.StoreFault.{StoreFault}
-use Rattle.serve_core.specs.declared.end.ServeEnd.{ServeEnd}
-use Rattle.serve_core.specs.declared.end.ServeEnd.TheVariants.{DoorFault, WriteFault, KeeperFault, Memory}
+use Rattle.serve_turn.specs.declared.end.ServeEnd.{ServeEnd}
+use Rattle.serve_turn.specs.declared.end.ServeEnd.TheVariants.{DoorFault, WriteFault, KeeperFault, Memory}
 use Rattle.serve_call.specs.Opening.{StaysUnopened}
 use Rattle.serve_core.specs.Outside.{Sheet}
 use Rattle.edge_traits.specs.Calls.{Store}
-use Rattle.serve_core.specs.Stopping.{IsClean, status_of}
+use Rattle.serve_turn.specs.Stopping.{IsClean, status_of}
 use Rattle.serve_core.specs.Text.{whole_text}
 
 -- how many faults the door, the sink and the keeper have counted

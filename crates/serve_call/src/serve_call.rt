@@ -20,9 +20,9 @@ ghost use Rattle.one_server.specs.Whole.{opened};
 ghost use Rattle.serve_call.specs.ServeEnds.{EndsCall};
 ghost use Rattle.serve_call.specs.Opening.{IsLoaded, StaysUnopened};
 ghost use Rattle.serve_core.specs.Serving.{HasServedAll, IsUnused, TellsAgreed};
-ghost use Rattle.serve_core.specs.Stopping.{status_of};
+ghost use Rattle.serve_turn.specs.Stopping.{status_of};
 ghost use Rattle.serve_core.specs.Text.{whole_text};
-ghost use Rattle.serve_core.specs.declared.end.ServeEnd.{ServeEnd};
+ghost use Rattle.serve_turn.specs.declared.end.ServeEnd.{ServeEnd};
 
 use cmd_job::{Job, JobFail, read_job, tell_usage};
 use cmd_lines::{End, status};

@@ -25,7 +25,7 @@ use Rattle.steward_core.proofs.AgreedStill.{agreed_then, agreed_unsaved}
 use Rattle.one_server.proofs.Made.{made_then}
 use Rattle.session_laws.specs.WhoSaves.{OthersServe}
 use Rattle.session_laws.proofs.OfHistories.{others_never_save}
-use Rattle.serve_core.specs.declared.end.ServeEnd.{ServeEnd}
+use Rattle.serve_turn.specs.declared.end.ServeEnd.{ServeEnd}
 use Rattle.serve_turn.specs.declared.supply.Supply.{Supply}
 use Rattle.serve_turn.specs.declared.supply.Supply.TheVariants.{Enough, Short}
 use Rattle.serve_core.specs.Keeping.{Underway}

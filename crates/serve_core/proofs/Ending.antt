@@ -7,14 +7,14 @@ use Rattle.steward_core.specs.declared.turn.StewardEnd.{StewardEnd}
 use Rattle.steward_core.specs.declared.turn.StewardEnd.TheVariants as steward
 use Rattle.edge_traits.specs.declared.sink.Sent.{Sent}
 use Rattle.edge_traits.specs.declared.sink.Sent.TheVariants as sent
-use Rattle.serve_core.specs.declared.end.DoorEnd.{DoorEnd}
-use Rattle.serve_core.specs.declared.end.DoorEnd.TheVariants as door_end
-use Rattle.serve_core.specs.declared.end.ServeEnd.{ServeEnd}
-use Rattle.serve_core.specs.declared.end.ServeEnd.TheVariants.{Done, DoorFault, WriteFault, KeeperFault, Memory, Spent}
+use Rattle.serve_turn.specs.declared.end.DoorEnd.{DoorEnd}
+use Rattle.serve_turn.specs.declared.end.DoorEnd.TheVariants as door_end
+use Rattle.serve_turn.specs.declared.end.ServeEnd.{ServeEnd}
+use Rattle.serve_turn.specs.declared.end.ServeEnd.TheVariants.{Done, DoorFault, WriteFault, KeeperFault, Memory, Spent}
 use Rattle.serve_turn.specs.declared.supply.Supply.{Supply}
 use Rattle.serve_turn.specs.declared.supply.Supply.TheVariants.{Enough, Short}
 use Rattle.serve_core.specs.StewardLaws.{IsDone}
-use Rattle.serve_core.specs.Stopping.{IsClean, end_of, is_short}
+use Rattle.serve_turn.specs.Stopping.{IsClean, end_of, is_short}
 use Rattle.serve_core.specs.Text.{Says, SaysText, closed_text, ready_text}
 use Rattle.serve_core.specs.Outside.{Sheet}
 use Rattle.serve_core.specs.Keeping.{Stopped}

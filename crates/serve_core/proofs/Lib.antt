@@ -7,6 +7,7 @@ pub mod OrdersOver
 pub mod LastTurn
 pub mod Settling
 pub mod Stopping
+pub mod Ended
 pub mod Ending
 pub mod StewardLaws
 pub mod Closing

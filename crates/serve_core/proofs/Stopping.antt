@@ -7,10 +7,10 @@ use Rattle.edge_traits.specs.Link.{Tale}
 use Rattle.edge_traits.specs.Door.{DoorTale, Gives}
 use Rattle.edge_traits.specs.WhereTold.{WhereTold}
 use Rattle.edge_traits.specs.declared.doorway.Came.TheVariants.{Link, Closed, Failed}
-use Rattle.serve_core.specs.declared.end.DoorEnd.{DoorEnd}
-use Rattle.serve_core.specs.declared.end.DoorEnd.TheVariants as door_end
+use Rattle.serve_turn.specs.declared.end.DoorEnd.{DoorEnd}
+use Rattle.serve_turn.specs.declared.end.DoorEnd.TheVariants as door_end
 use Rattle.serve_core.specs.Keeping.{KeepsLeft, Stopped}
-use Rattle.serve_core.specs.Stopping.{StopsAt}
+use Rattle.serve_turn.specs.Stopping.{StopsAt}
 use Rattle.serve_core.proofs.Telling.{told_then}
 
 -- what holds of the tale behind a call

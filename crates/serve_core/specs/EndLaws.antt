@@ -16,16 +16,15 @@ use Rattle.hall_core.specs.Pass.{PassState}
 use Rattle.steward_core.specs.declared.turn.StewardEnd.{StewardEnd}
 use Rattle.steward_core.specs.declared.turn.StewardEnd.TheVariants as steward
 use Rattle.steward_core.specs.Saving.{most_answers}
-use Rattle.serve_core.specs.declared.end.ServeEnd.{ServeEnd}
-use Rattle.serve_core.specs.declared.end.ServeEnd.TheVariants.{Memory}
+use Rattle.serve_turn.specs.declared.end.ServeEnd.{ServeEnd}
+use Rattle.serve_turn.specs.declared.end.ServeEnd.TheVariants.{Memory}
 use Rattle.serve_core.specs.Outside.{Sheet}
 use Rattle.edge_traits.specs.Calls.{Store}
 use Rattle.serve_core.specs.Serving.{AgreesIn, HasServedAll, RanShort}
-use Rattle.serve_core.specs.Stopping.{IsClean}
+use Rattle.serve_turn.specs.Stopping.{IsClean}
 
 -- what follows of every server that has served: of how serving ended and how the last turn did, of the keeper before
--- and
--- after, and of the pass
+-- and after, and of the pass
 abbrev pub OfEveryServer : (ServeEnd → StewardEnd → Store → Store → PassState → Type 0) → Type 0
 OfEveryServer Follows =
     (shows : ℕ → Bool) (opening : List Part) (end : ServeEnd) (door : Option DoorTale) (before after : Sheet)
@@ -67,8 +66,7 @@ HoldsAll told parts = (table : Records) × (told ≡ Some table)
 
 -- where serving ended well, over a keeper that tells its table, this holds everything that it is to hold for the last
 -- state: so no game on the shelf is missing. No order stands any more, unless the last turn had as many answers of 16
--- as
--- a turn has at most
+-- as a turn has at most
 abbrev pub StoresAll : Type 0
 StoresAll = OfEveryServer (λ end last old new pass. IsClean end
     → IfSome old.table (λ table. AgreesIn table pass.opening → HoldsAll new.table (state house pass.opening pass.seen)

@@ -13,12 +13,12 @@ use Rattle.one_server.specs.declared.reply.Reply.{Reply}
 use Rattle.hall_core.specs.Pass.{PassState}
 use Rattle.link_core.specs.declared.link_end.LinkEnd.{LinkEnd}
 use Rattle.link_core.specs.declared.link_end.LinkEnd.TheVariants as link_end
-use Rattle.serve_core.specs.declared.end.DoorEnd.{DoorEnd}
-use Rattle.serve_core.specs.declared.end.DoorEnd.TheVariants as door_end
+use Rattle.serve_turn.specs.declared.end.DoorEnd.{DoorEnd}
+use Rattle.serve_turn.specs.declared.end.DoorEnd.TheVariants as door_end
 use Rattle.serve_turn.specs.declared.supply.Supply.{Supply}
 use Rattle.serve_turn.specs.declared.supply.Supply.TheVariants.{Short}
 use Rattle.serve_core.specs.Sessions.{CameAs, HadSession}
-use Rattle.serve_core.specs.Stopping.{IsStopped}
+use Rattle.serve_turn.specs.Stopping.{IsStopped}
 use Rattle.serve_core.specs.Working.{Due}
 
 -- whether memory ran out somewhere, once a link was served that ended like this

@@ -5,7 +5,6 @@ pub mod Serving
 pub mod Sessions
 pub mod StewardLaws
 pub mod Stewarding
-pub mod Stopping
 pub mod Text
 pub mod Keeping
 pub mod Tending

@@ -14,7 +14,7 @@ use Rattle.one_server.specs.House.{house}
 use Rattle.one_server.specs.Whole.{IsWhole}
 use Rattle.hall_core.specs.Pass.{EveryoneJoined, PassState}
 use Rattle.steward_core.specs.declared.turn.StewardEnd.{StewardEnd}
-use Rattle.serve_core.specs.declared.end.ServeEnd.{ServeEnd}
+use Rattle.serve_turn.specs.declared.end.ServeEnd.{ServeEnd}
 use Rattle.serve_core.specs.Outside.{Sheet}
 use Rattle.edge_traits.specs.Calls.{Store}
 use Rattle.serve_core.specs.Sessions.{HadSession}

@@ -64,8 +64,7 @@ MakesTurns =
     → HasTurns (MayEnd (short ≡ true)) door before now (calls_of 0 seen)
 
 -- where memory was enough and the keeper counted no fault, each turn was done, and in each it was asked once which
--- desks
--- are in use
+-- desks are in use
 abbrev pub MakesEachTurn : Type 0
 MakesEachTurn =
     (short : Bool) (last : StewardEnd) (door : Option DoorTale) (before now : Store) (opening : List Part) (seen : Log)

@@ -30,10 +30,9 @@ pub record StewardTurn : Type 0 where
 
 -- a turn, over a keeper that stood so before it and after: something in it ran out of memory only where memory ran
 -- short. The keeper had no calls in it but those by which its orders were carried out, and one more where that failed
--- or
--- ran out of memory: it ended with a keeper fault exactly where its own last call failed, and then the keeper counted
--- that. A table that is told holds what these orders make of it; or, at a keeper fault, perhaps what they and the next
--- one make of it, at which the keeper failed
+-- or ran out of memory: it ended with a keeper fault exactly where its own last call failed, and then the keeper
+-- counted that. A table that is told holds what these orders make of it; or, at a keeper fault, perhaps what they and
+-- the next one make of it, at which the keeper failed
 pub record MayEnd (lack : Type 0) (before now : Store) (turn : StewardTurn) : Type 0 where
   pub called : HasCalled turn.turn.saved turn.carried before.calls now.calls
   pub fault : turn.end ≡ KeeperFault → Rose before.faults now.faults
@@ -42,8 +41,7 @@ pub record MayEnd (lack : Type 0) (before now : Store) (turn : StewardTurn) : Ty
   pub kept : CarriesPerhaps before.table now.table turn.carried turn.turn.saving.doubt
 
 -- the entries are those of so many turns, one after the other, over a keeper that stood so before them and after: it
--- had
--- no calls but theirs. Each ended like that, by how the keeper stood before it and after
+-- had no calls but theirs. Each ended like that, by how the keeper stood before it and after
 abbrev pub AreTurns : (Store → Store → StewardTurn → Type 0) → ℕ → Store → Store → Log → Type 0
 AreTurns Ends zero before now made = (now ≡ before) × (made ≡ [])
 AreTurns Ends (suc n) before now made =
@@ -62,9 +60,8 @@ LeavesNoOrders KeeperFault parts = ⊤
 LeavesNoOrders Memory parts = ⊤
 
 -- of the entries of a server that opened with these parts session 0 made turns: one for each Quiet of the door, and
--- then
--- the last one, which ended as `last` says, and whose entries are the end of them all. Each ended like that, over a
--- keeper that stood so before the first and after the last, and had no calls but theirs; and the last one left no
+-- then the last one, which ended as `last` says, and whose entries are the end of them all. Each ended like that, over
+-- a keeper that stood so before the first and after the last, and had no calls but theirs; and the last one left no
 -- orders
 pub record HasTended (lack : Type 0) (last : StewardEnd) (door : Option DoorTale) (before now : Store)
     (opening : List Part) (seen : Log) : Type 0 where

@@ -7,12 +7,12 @@ use Rattle.edge_traits.specs.Sink.{OnWriteFailed, UnlessWriteFailed, Wrote}
 use Rattle.edge_traits.specs.declared.sink.Sent.{Sent}
 use Rattle.edge_traits.specs.declared.sink.Sent.TheVariants as sent
 use Rattle.steward_core.specs.declared.turn.StewardEnd.{StewardEnd}
-use Rattle.serve_core.specs.declared.end.DoorEnd.{DoorEnd}
-use Rattle.serve_core.specs.declared.end.DoorEnd.TheVariants as door_end
-use Rattle.serve_core.specs.declared.end.ServeEnd.{ServeEnd}
+use Rattle.serve_turn.specs.declared.end.DoorEnd.{DoorEnd}
+use Rattle.serve_turn.specs.declared.end.DoorEnd.TheVariants as door_end
+use Rattle.serve_turn.specs.declared.end.ServeEnd.{ServeEnd}
 use Rattle.serve_turn.specs.declared.supply.Supply.{Supply}
 use Rattle.serve_core.specs.Outside.{Sheet}
-use Rattle.serve_core.specs.Stopping.{IsStopped, end_of, is_short}
+use Rattle.serve_turn.specs.Stopping.{IsStopped, end_of, is_short}
 
 -- what is written once the hall is open, and once all is served
 abbrev pub ready_text : List ℕ
@@ -33,8 +33,7 @@ pub record Says (text : List ℕ) (said : Sent) (before after : Sheet) : Type 0 
 
 -- `ready` wasn't written out: the sink failed or memory ran out. Nothing else was written, no link was taken, and
 -- serving ended by what became of that write, by the last turn of the steward and by whether memory ran out in it, as
--- at
--- a door that is closed; and it is told whether memory ran out
+-- at a door that is closed; and it is told whether memory ran out
 pub record StopsUnready (end : ServeEnd) (short : Bool) (last : StewardEnd) (count : ℕ) (before after : Sheet) : Type 0
   where
     -- there is

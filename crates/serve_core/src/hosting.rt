@@ -8,12 +8,11 @@ ghost use Rattle.edge_traits.specs.Calls.{Store, store_of};
 ghost use Rattle.serve_core.specs.Tending.{Tended, stand};
 ghost use Rattle.serve_turn.specs.declared.supply.Supply.TheVariants.{Enough};
 
-use crate::end::DoorEnd;
 use crate::round::round;
 use crate::settle::Host;
 use edge_traits::{Clock, Doorway, Gate, Keeper};
 use hall_core::HallPass;
-use serve_turn::{Shared, Supply};
+use serve_turn::{DoorEnd, Shared, Supply};
 use std::sync::Wait;
 use std::thread::{self, Scope, Threads};
 

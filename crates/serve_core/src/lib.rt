@@ -10,7 +10,6 @@
 #![tactic(auto)]
 
 mod attend;
-mod end;
 mod hosting;
 mod laws;
 mod round;
@@ -18,7 +17,6 @@ mod serving;
 mod settle;
 mod worker;
 
-pub use end::{DoorEnd, ServeEnd};
 pub use laws::{
     each_link_comes_back_as_its_own, no_game_is_lost, the_steward_makes_each_turn,
     want_of_memory_is_told,

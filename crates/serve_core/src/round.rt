@@ -8,18 +8,17 @@ ghost use Rattle.edge_traits.specs.Faults.{Rose};
 ghost use Rattle.serve_core.specs.Keeping.{Underway, Stopped};
 ghost use Rattle.serve_core.specs.Tending.{Tended, stand};
 ghost use Rattle.serve_turn.specs.Turns.{MadeTurn, supply_then};
-ghost use Rattle.serve_core.specs.declared.end.DoorEnd.{DoorEnd};
-ghost use Rattle.serve_core.specs.declared.end.DoorEnd.TheVariants.{Spent};
+ghost use Rattle.serve_turn.specs.declared.end.DoorEnd.{DoorEnd};
+ghost use Rattle.serve_turn.specs.declared.end.DoorEnd.TheVariants.{Spent};
 ghost use Rattle.serve_turn.specs.declared.supply.Supply.{Supply};
 ghost use Rattle.steward_core.specs.declared.turn.StewardEnd.{StewardEnd};
 ghost use Rattle.steward_core.specs.declared.turn.StewardEnd.TheVariants.{KeeperFault};
 
 use crate::attend::attend;
-use crate::end::DoorEnd;
 use crate::settle::Host;
-use edge_traits::{Came, Clock, Doorway, Gate, Keeper, Link};
+use edge_traits::{Clock, Doorway, Gate, Keeper, Link};
 use hall_core::HallPass;
-use serve_turn::{Shared, turn};
+use serve_turn::{Asked, DoorEnd, Shared, ask, turn};
 use std::sync::Wait;
 use std::thread::{Scope, Threads};
 
@@ -64,15 +63,14 @@ where
     let mut host = host;
     host.settle_ended(shared, door);
     let ended = host.room_ahead(shared.alloc);
-    match door.next() {
-        Came::Link(link) => {
+    match ask(door) {
+        Asked::Link(link) => {
             attend(scope, shared, &mut host, door, ended, link);
             let count = count + 1;
             (host, count, spent(count))
         }
-        Came::Quiet => (at_quiet(shared, host, keeper), count, None),
-        Came::Closed => (host, count, Some(DoorEnd::Closed)),
-        Came::Failed => (host, count, Some(DoorEnd::Failed)),
+        Asked::Quiet => (at_quiet(shared, host, keeper), count, None),
+        Asked::Ended(end) => (host, count, Some(end)),
     }
 }
 

@@ -11,21 +11,19 @@ ghost use Rattle.one_server.specs.declared.part.Part.{Part};
 ghost use Rattle.one_server.specs.Whole.{IsOpening, IsWhole, opened};
 ghost use Rattle.hall_core.specs.Passes.{first_pass, noted};
 ghost use Rattle.serve_core.specs.Serving.{HasServedAll, IsUnused};
-ghost use Rattle.serve_core.specs.Stopping.{IsClean, end_of, is_short};
 ghost use Rattle.serve_core.specs.Text.{closed_text, ready_text, whole_text};
-ghost use Rattle.serve_core.specs.declared.end.ServeEnd.{ServeEnd};
+ghost use Rattle.serve_turn.specs.Stopping.{IsClean, is_short};
+ghost use Rattle.serve_turn.specs.declared.end.ServeEnd.{ServeEnd};
 
-use crate::end::{DoorEnd, ServeEnd};
 use crate::hosting::host_links;
 use edge_traits::{Clock, Doorway, Gate, Keeper, Sent, Sink};
 use hall_core::{Hall, HallPass};
 use lobby_state::{Lobby, lobbies_are_well_formed};
 use one_server::every_state_agrees;
-use serve_turn::{Shared, Supply, last_turn};
+use serve_turn::{DoorEnd, ServeEnd, Shared, Supply, end_of, is_short, last_turn};
 use std::alloc::Global;
 use std::sync::Wait;
 use std::thread::Threads;
-use steward_core::StewardEnd;
 
 /// What is written once the hall is open.
 const READY: &[u8] = b"ready\n";
@@ -157,33 +155,6 @@ fn noted(pass: HallPass, supply: Supply, sent: Sent) -> HallPass
     let mut pass = pass;
     pass.note_short(is_short(supply, sent));
     pass
-}
-
-/// Whether memory ran out before the last write, or at it.
-fn is_short(supply: Supply, sent: Sent) -> bool
-    ensures { result ≡ is_short supply sent }
-{
-    match (supply, sent) {
-        (Supply::Short, _) => true,
-        (Supply::Enough, Sent::Memory) => true,
-        (Supply::Enough, _) => false,
-    }
-}
-
-/// How serving ends.
-fn end_of(door: DoorEnd, sent: Sent, last: StewardEnd, supply: Supply) -> ServeEnd
-    ensures { result ≡ end_of door sent last supply }
-{
-    match (door, sent, last, supply) {
-        (DoorEnd::Failed, _, _, _) => ServeEnd::DoorFault,
-        (_, Sent::Failed, _, _) => ServeEnd::WriteFault,
-        (_, _, StewardEnd::KeeperFault, _) => ServeEnd::KeeperFault,
-        (_, Sent::Memory, _, _) | (_, _, StewardEnd::Memory, _) | (_, _, _, Supply::Short) => {
-            ServeEnd::Memory
-        }
-        (DoorEnd::Spent, _, _, _) => ServeEnd::Spent,
-        (DoorEnd::Closed, _, _, _) => ServeEnd::Done,
-    }
 }
 
 /// Writes that the hall is open.

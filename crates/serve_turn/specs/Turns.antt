@@ -22,8 +22,7 @@ pub record MadeTurn (end : StewardEnd) (supply : Supply) (before after : Store) 
   pub short_first : turn.turn.cleared ≡ clearing.Memory → supply ≡ Short
 
 -- whether memory ran out in a turn whose first half ended like this, and the whole of it like that. A keeper fault is
--- no
--- want of memory
+-- no want of memory
 abbrev pub supply_in : ClearingEnd → StewardEnd → Supply
 supply_in clearing.Memory end = Short
 supply_in clearing.Done Memory = Short

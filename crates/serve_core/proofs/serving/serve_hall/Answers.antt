@@ -1,11 +1,11 @@
 use Rattle.std.proofs.Common.{◌≡◌, ◌⊎◌, ◌∙◌, arith, le_trans, sym, ap, subst}
 use Rattle.hall_core.specs.Passes.{PassState}
 use Rattle.edge_traits.specs.declared.sink.Sent.TheVariants as sent
-use Rattle.serve_core.specs.declared.end.DoorEnd.TheVariants as door_end
-use Rattle.serve_core.specs.declared.end.ServeEnd.{ServeEnd}
-use Rattle.serve_core.specs.declared.end.ServeEnd.TheVariants.{DoorFault, KeeperFault, WriteFault}
+use Rattle.serve_turn.specs.declared.end.DoorEnd.TheVariants as door_end
+use Rattle.serve_turn.specs.declared.end.ServeEnd.{ServeEnd}
+use Rattle.serve_turn.specs.declared.end.ServeEnd.TheVariants.{DoorFault, KeeperFault, WriteFault}
 use Rattle.serve_turn.specs.declared.supply.Supply.TheVariants.{Enough, Short}
-use Rattle.serve_core.specs.Stopping.{IsClean, end_of, is_short}
+use Rattle.serve_turn.specs.Stopping.{IsClean, end_of, is_short}
 use Rattle.serve_core.specs.Outside.{Sheet}
 use Rattle.edge_traits.specs.Calls.{Store, store_of}
 use Rattle.serve_core.specs.Text.{closed_text, ready_text}

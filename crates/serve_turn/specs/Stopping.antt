@@ -7,10 +7,10 @@ use Rattle.edge_traits.specs.declared.sink.Sent.{Sent}
 use Rattle.edge_traits.specs.declared.sink.Sent.TheVariants as sent
 use Rattle.steward_core.specs.declared.turn.StewardEnd.{StewardEnd}
 use Rattle.steward_core.specs.declared.turn.StewardEnd.TheVariants as steward
-use Rattle.serve_core.specs.declared.end.DoorEnd.{DoorEnd}
-use Rattle.serve_core.specs.declared.end.DoorEnd.TheVariants as door_end
-use Rattle.serve_core.specs.declared.end.ServeEnd.{ServeEnd}
-use Rattle.serve_core.specs.declared.end.ServeEnd.TheVariants.{Done, DoorFault, WriteFault, KeeperFault, Memory, Spent}
+use Rattle.serve_turn.specs.declared.end.DoorEnd.{DoorEnd}
+use Rattle.serve_turn.specs.declared.end.DoorEnd.TheVariants as door_end
+use Rattle.serve_turn.specs.declared.end.ServeEnd.{ServeEnd}
+use Rattle.serve_turn.specs.declared.end.ServeEnd.TheVariants.{Done, DoorFault, WriteFault, KeeperFault, Memory, Spent}
 use Rattle.serve_turn.specs.declared.supply.Supply.{Supply}
 use Rattle.serve_turn.specs.declared.supply.Supply.TheVariants.{Enough, Short}
 
@@ -34,8 +34,7 @@ IsStopped why count door = IfSome door (StopsAt why) × StopsAfter why count
 
 -- how serving ends: by why no further link is taken, what became of the last write, how the last turn of the steward
 -- ended, and whether memory ran out before that write. A fault of the door comes first, then one of the sink, then one
--- of the
--- keeper, then running out of memory
+-- of the keeper, then running out of memory
 abbrev pub end_of : DoorEnd → Sent → StewardEnd → Supply → ServeEnd
 end_of door_end.Failed written last supply = DoorFault
 end_of door sent.Failed last supply = WriteFault
