@@ -4,13 +4,14 @@
 
 import { GONE } from "./link.js";
 import { inWords } from "./refusals.js";
-import { byId, tellMember } from "../shell/elements.js";
+import { byId, forgetNotice, tellMember } from "../shell/elements.js";
 import { Remembered } from "./remembered.js";
 import { hasText, t } from "../shell/texts.js";
 import { showView } from "../shell/views.js";
 
 const KEY = "seat";
 const PASSWORD = "password: ";
+const ADJOURNED = "adjourned"; // the class of what is said of adjourned games, until one goes on
 const STAYS = 5_000; // milliseconds
 const LOOKS = [0, 500, 2_000]; // milliseconds before each look at the shelf, to which a game comes a little later
 const NOT_HERE = 32; // the refusal where nobody of that name is in
@@ -60,6 +61,10 @@ export class WayBack {
     /** @type {Set<string>} */
     this.awaited = new Set(); // with whom adjourned games go on as soon as they ask for it
     this.asked = ""; // with whom it has just asked to go on, as long as that isn't answered
+    /** @type {Promise<unknown>} */
+    this.agreed = Promise.resolve(); // kept once all who have asked it to go on are answered
+    /** @type {Set<string>} */
+    this.goneOn = new Set(); // whose games have gone on since adjourned ones were looked for
     this.hiding = 0;
     session.on("partners", (event) => this.remembered.partner(event.who));
     session.on("parted", () => this.remembered.partner(""));
@@ -67,7 +72,7 @@ export class WayBack {
     session.on("link-back", (event) => this.back(event));
     session.on("link-gone", () => this.gone());
     session.on("resume-asked", ({ who }) => this.agree(who));
-    session.on(["creating", "continuing"], () => this.awaited.clear());
+    session.on(["creating", "continuing"], (event) => this.begun(event));
     session.onAnswer((answer) => this.take(answer));
     window.addEventListener("pagehide", () => this.keep());
     document.addEventListener("visibilitychange", () => (document.hidden ? this.keep() : this.forget()));
@@ -183,17 +188,29 @@ export class WayBack {
     return session.isIn;
   }
 
-  /** Asks to go on with the games against those players that lie on the server's shelf, and says which do.
+  /** Asks to go on with the games against those players that lie on the server's shelf, and says of each that doesn't
+   * go on at once what became of it.
    * @param {string[]} opponents */
   async resume(opponents) {
-    if (!opponents.length) {
-      return;
+    this.goneOn.clear();
+    const names = opponents.length ? await this.storedWith(opponents) : null;
+    if (names) {
+      this.awaited = new Set(opponents.filter((it) => names.includes(it) && !this.goneOn.has(it)));
+      const refused = await this.askAwaited();
+      await this.agreed;
+      const left = opponents.filter((it) => !this.goneOn.has(it));
+      if (left.length) {
+        tellMember(left.map((who) => this.adjournedInWords(who, names.includes(who), refused.get(who))).join(" "),
+          ADJOURNED);
+      }
     }
-    const names = await this.storedWith(opponents);
-    this.awaited = new Set(opponents.filter((it) => names.includes(it)));
+  }
+
+  /** Asks those with whom games are to go on, but who has asked meanwhile: by which refusals that isn't done now. */
+  async askAwaited() {
     /** @type {Map<string, number>} */
     const refused = new Map();
-    for (const other of this.awaited) { // those who have asked meanwhile aren't in it any more
+    for (const other of this.awaited) {
       this.asked = other;
       const { refusal } = await this.session.ask(`resume ${other}`);
       if (refusal && refusal !== NOT_HERE) { // who isn't here yet asks later
@@ -201,25 +218,36 @@ export class WayBack {
       }
     }
     this.asked = "";
-    tellMember(opponents.map((who) => this.adjournedInWords(who, names.includes(who), refused.get(who))).join(" "));
+    return refused;
   }
 
-  /** What became of a game; `refusal` is the number of that by which it doesn't go on now.
+  /** What became of a game that doesn't go on yet; `refusal` is the number of that by which it doesn't go on now.
    * @param {string} who @param {boolean} isKept @param {number} [refusal] */
   adjournedInWords(who, isKept, refusal) {
     return refusal ? t("way.refused", { who, why: inWords(refusal) })
-      : t(isKept ? "way.adjourned" : "way.not-kept", { who });
+      : t(!isKept ? "way.not-kept" : this.awaited.has(who) ? "way.adjourned" : "way.lies", { who });
   }
 
   /** Goes on with whom asks for it, where that is awaited. A question of one's own that is on its way says so already.
    * @param {string} who */
   agree(who) {
     if (who !== this.asked && this.awaited.delete(who)) {
-      this.session.act(`resume ${who}`);
+      this.agreed = this.session.act(`resume ${who}`); // answers come in the order of their lines
     }
   }
 
-  /** With whom the member has adjourned games, once these are among them or it is late.
+  /** A game has begun: no adjourned one goes on by itself any more, and what was said of that holds no more.
+   * @param {Happened<'creating' | 'continuing'>} event */
+  begun({ kind, white, black }) {
+    this.awaited.clear();
+    if (kind === "continuing") {
+      this.goneOn.add(white).add(black);
+    }
+    forgetNotice(ADJOURNED);
+  }
+
+  /** With whom the member has adjourned games, once these are among them or it is late; null where the server doesn't
+   * say.
    * @param {string[]} opponents */
   async storedWith(opponents) {
     /** @type {(string | undefined)[]} */
@@ -228,6 +256,9 @@ export class WayBack {
       if (!opponents.every((it) => names.includes(it))) {
         await new Promise((keep) => { setTimeout(keep, wait); });
         const answer = await this.session.ask("stored");
+        if (!answer.isDone) {
+          return null;
+        }
         names = [...answer.all("stored"), ...answer.all("stored-pair")]
           .flatMap((it) => [it.white, it.black, it.third, it.fourth]);
       }

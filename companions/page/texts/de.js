@@ -177,6 +177,7 @@ export const TEXTS = {
   "way.anew": "Der Server beginnt neu, und die Seite kommt von selbst zurück.",
   "way.asks": "Kommen Sie mit Ihrem Passwort wieder herein, nach dem die Seite einmal fragt.",
   "way.adjourned": "Die Partie gegen {who} ist vertagt und geht weiter, sobald auch {who} da ist.",
+  "way.lies": "Die Partie gegen {who} ist vertagt. Fortsetzen in der Halle fragt danach.",
   "way.refused": "Die Partie gegen {who} ist vertagt und kann jetzt nicht weitergehen. {why}",
   "way.not-kept": "Die Partie gegen {who} wurde nicht aufbewahrt.",
   "way.back": "Sie sind wieder da.",

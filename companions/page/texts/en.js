@@ -173,6 +173,7 @@ export const TEXTS = {
   "way.anew": "The server begins anew, and the page comes back by itself.",
   "way.asks": "Come in again with your password, for which the page asks once.",
   "way.adjourned": "The game against {who} is adjourned, and goes on once {who} is here too.",
+  "way.lies": "The game against {who} is adjourned. Resume in the lobby asks to go on.",
   "way.refused": "The game against {who} is adjourned, and can't go on now. {why}",
   "way.not-kept": "The game against {who} wasn't kept.",
   "way.back": "You are back.",

@@ -5,6 +5,7 @@ from pathlib import Path
 from typing import Any, Protocol, TypeVar
 
 from selenium.webdriver.common.action_chains import ActionChains
+from selenium.webdriver.common.actions.action_builder import ActionBuilder
 from selenium.webdriver.common.by import By
 from selenium.webdriver.remote.webdriver import WebDriver
 from selenium.webdriver.remote.webelement import WebElement
@@ -38,6 +39,9 @@ class Browser(Protocol):
 
     def prefer_scheme(self, scheme: str | None) -> None:
         """Light or dark, as if the system had it; None for what it has."""
+
+    def to_page(self) -> None:
+        """Brings the keyboard back to the page, from what the browser has around it, where Tab goes too."""
 
     def has_fingers(self) -> None:
         """From now on there are fingers."""
@@ -208,6 +212,13 @@ class Window:
     def drag_to(self, man: WebElement, square: str) -> None:
         acts = ActionChains(self.driver).move_to_element(man).click_and_hold().move_by_offset(4, 4)
         acts.move_to_element(self.square(square)).release().perform()
+
+    def leave_alone(self) -> None:
+        """The mouse is upon nothing that shows it."""
+        self.front()
+        acts = ActionBuilder(self.driver)
+        acts.pointer_action.move_to_location(0, 0)
+        acts.perform()
 
     def press(self, *keys: str) -> None:
         """Keys, as they are pressed where the focus is."""

@@ -82,6 +82,15 @@ async def played(words: tuple[object, ...], tmp_path: Path) -> AsyncIterator[Pla
         yield it
 
 
+@pytest.fixture
+def pictures(tmp_path: Path) -> Path:
+    """Where pictures of the page are put."""
+    if not paths.pictures:
+        return tmp_path
+    paths.pictures.mkdir(parents=True, exist_ok=True)
+    return paths.pictures
+
+
 @pytest.fixture(scope="session")
 def browser() -> "Iterator[Browser]":
     """The browser of all scenarios."""

@@ -20,6 +20,7 @@ for (const [side, long] of [["width", width], ["height", height]]) {
 }"""
 )
 PREFER_SCHEME = TAB + "page.prefersColorSchemeOverride = arguments[0];"
+TO_PAGE = TAB + "tab.focus();"
 HAS_FINGERS = TAB + "page.touchEventsOverride = 'enabled';"
 SAVES_TO = """Services.prefs.setStringPref("browser.download.dir", arguments[0]);
 Services.prefs.setIntPref("browser.download.folderList", 2);
@@ -89,6 +90,9 @@ class Firefox:
 
     def prefer_scheme(self, scheme: str | None) -> None:
         self.inside(PREFER_SCHEME, scheme or "none")
+
+    def to_page(self) -> None:
+        self.inside(TO_PAGE)
 
     def has_fingers(self) -> None:
         self.inside(HAS_FINGERS)

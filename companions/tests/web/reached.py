@@ -96,7 +96,8 @@ def check_names(window: Window) -> None:
 
 
 def check_tabs(window: Window) -> None:
-    """Tab goes to each control that is seen, the squares of a board aside, to which the arrows go."""
+    """Tab goes to each control that is seen, the squares of a board aside, to which the arrows go. The keyboard is at
+    the page afterwards."""
     assert window.script(UNREACHABLE) == []
     wanted = set(window.script(REACHABLE))
     window.script("document.activeElement.blur(); window.scrollTo(0, 0)")
@@ -106,6 +107,7 @@ def check_tabs(window: Window) -> None:
         reached.add(window.script(FOCUSED))
         if wanted <= reached:
             break
+    window.browser.to_page()
     assert wanted - reached == set()
 
 

@@ -5,12 +5,11 @@ from pathlib import Path
 import pytest
 
 from tests.archive.archives import game, put
-from tests.kit import paths
 from tests.kit.go_between import FROM_ONE
 
 from .archived_games import DAY, ORDER, opened
-from .browser import WIDE, Evening
-from .test_pictures import LOW, SCHEMES, WIDTHS
+from .browser import Evening
+from .pictures import LOW, document, take_sheet
 
 pytestmark = pytest.mark.browser
 
@@ -56,18 +55,10 @@ def test_both_boards_in_a_low_window(evening: Evening) -> None:
     assert window.script("return document.documentElement.scrollWidth") <= LOW[0]
 
 
-def test_a_pair(evening: Evening) -> None:
+def test_a_pair(evening: Evening, pictures: Path) -> None:
     window = opened(evening, f"/games/{DAY}/5#13")
     window.sees_man("wQ", "f3")
     window.sees_man("wP", "d4", "partner")
     assert [window.hand(it) for it in ("white", "black")] == ["PP", "P"]
-    if paths.pictures:
-        for ending, scheme in SCHEMES.items():
-            window.browser.prefer_scheme(scheme)
-            for size in WIDTHS:
-                window.resize(size)
-                window.picture(paths.pictures / f"archive-{size[0]}{ending}.png")
-        window.browser.prefer_scheme(None)
-        window.resize((1180, 720))
-        window.picture(paths.pictures / "archive.png")
-        window.resize(WIDE)
+    take_sheet(pictures, window, "archive")
+    document(pictures, window, "archive")

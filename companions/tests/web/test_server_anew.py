@@ -2,7 +2,7 @@
 have it, and say of a game whether it was adjourned once that is known."""
 
 import contextlib
-from collections.abc import Iterator
+from collections.abc import Iterable, Iterator
 from pathlib import Path
 
 import pytest
@@ -41,13 +41,26 @@ def begun_anew(evening: Evening, wire: Wire) -> Iterator[None]:
         yield
 
 
-def registered(evening: Evening, wire: Wire) -> list[Window]:
+@pytest.fixture
+def other_wire(go_between: GoBetween) -> Iterator[Wire]:
+    """A wire of its own for another window."""
+    it = Wire(go_between.port)
+    yield it
+    it.close()
+
+
+def registered(evening: Evening, wire: Wire, names: Iterable[str] = SECRETS) -> list[Window]:
     """Windows of members with accounts, which are in the server's store."""
-    windows = [evening.window(it, at=wire) for it in SECRETS]
+    windows = [evening.window(it, at=wire) for it in names]
     for it in windows:
         it.command(f"register {SECRETS[it.name]}")
         it.sees("Ok.", "#output")
     return windows
+
+
+def told(window: Window) -> str:
+    """What the member reads above all else."""
+    return str(window.text("#notice")) if window.is_seen("#notice") else ""
 
 
 def is_back(window: Window) -> None:
@@ -85,33 +98,37 @@ def test_a_game_that_ran_is_lost_where_the_server_was_killed(evening: Evening, w
         assert "adjourned" not in str(ann.text("#notice"))
 
 
-def test_a_game_that_was_adjourned_is_told_and_goes_on(evening: Evening, wire: Wire) -> None:
-    """As a unit stops its server: all links are cut before."""
-    ann, ben = registered(evening, wire)
+def test_a_game_that_was_adjourned_is_told_and_goes_on(evening: Evening, wire: Wire, other_wire: Wire) -> None:
+    """As a unit stops its server: all links are cut before. Who comes back first is told; once the game goes on,
+    nobody is told any more that it is adjourned."""
+    (ann,), (ben,) = registered(evening, wire, ["Ann"]), registered(evening, other_wire, ["Ben"])
+    wires = (wire, other_wire)
     evening.begin(ann, ben)
     evening.play(ann, ben, ("e2e4",))
-    wire.is_cut = True
+    for it in wires:
+        it.is_cut = True
     evening.go_between.end()  # so that its links of the server are cut, and the game is adjourned
     cat = evening.plain("Cat")
     ann.until(lambda: cat.ask("who") == ["Cat"], "that both have left the server")
     kept = evening.server
     ann.until(lambda: "2 accounts, 1 games" in kept.kept(), "that the game is in the store")
-    wire.cut(stays=True)
     kept.end()
-    server = Server(kept.store)
-    go_between = GoBetween(server.port)
-    wire.target = go_between.port
-    wire.mend()
-    try:
-        for it, other in ((ann, "Ben"), (ben, "Ann")):
-            is_back(it)
-            it.sees(f"The game against {other} is adjourned", "#notice")
+    with contextlib.ExitStack() as stack:
+        server = Server(kept.store)
+        stack.callback(server.end)
+        go_between = GoBetween(server.port)
+        stack.callback(go_between.end)
+        for it in wires:
+            it.target = go_between.port
+        wire.mend()
+        is_back(ann)
+        ann.until(lambda: "The game against Ben is adjourned" in told(ann), "what became of the game")
+        other_wire.mend()
+        is_back(ben)
         ann.until(lambda: ann.is_seen("#board") and ben.is_seen("#board"), "the game goes on")
+        assert "adjourned" not in told(ann) + told(ben)
         ben.move("e7", "e5")
         ann.sees_man("bP", "e5")
-    finally:
-        go_between.end()
-        server.end()
 
 
 def test_a_password_is_asked_for_once(evening: Evening, wire: Wire) -> None:

@@ -24,21 +24,32 @@ function cameBack(...others) {
   const hearers = new Map();
   const asked = [];
   const ask = (line) => new Promise((keep) => {
-    const answers = (refusal = 0) => keep({ refusal, all: (kind) => stored.filter((it) => it.kind === kind) });
+    const answers = (refusal = 0, isDone = true) => keep({
+      refusal, isDone, all: (kind) => stored.filter((it) => it.kind === kind),
+    });
     asked.push({ line, answers });
   });
   const session = { me: "Ben", on: (kinds, hear) => [kinds].flat().forEach((it) => hearers.set(it, hear)),
     onAnswer() {}, ask, act: ask };
+  Object.assign(byId("notice"), { textContent: "", className: "", hidden: true });
   const wayBack = new WayBack(session, {}, null, null);
   const resumed = wayBack.resume(others);
-  const isAsked = async (line, refusal) => {
+  const isAsked = async (line, ...answer) => {
     while (asked.at(-1)?.line !== line) {
       await new Promise(setImmediate);
     }
-    asked.at(-1).answers(refusal);
+    asked.at(-1).answers(...answer);
   };
-  return { asked, resumed, isAsked, hears: (kind, event) => hearers.get(kind)(event) };
+  const hears = (kind, event = {}) => hearers.get(kind)({ kind, ...event });
+  const goesOn = (white) => {
+    stored.splice(stored.findIndex((it) => it.white === white), 1);
+    hears("continuing", { white, black: "Ben" });
+  };
+  return { asked, resumed, isAsked, hears, goesOn };
 }
+
+/** What the member reads. */
+const told = () => (byId("notice").hidden ? "" : byId("notice").textContent);
 
 test("a question that is on its way answers that of the other one", async () => {
   const { asked, resumed, isAsked, hears } = cameBack("Ann");
@@ -68,7 +79,7 @@ test("nobody else is answered, and nobody once a game goes on", async () => {
   await isAsked("resume Ann");
   await resumed;
   hears("resume-asked", { who: "Cat" });
-  hears("continuing", {});
+  hears("continuing");
   hears("resume-asked", { who: "Ann" });
   assert.deepEqual(asked.map((it) => it.line), ["stored", "resume Ann"]);
 });
@@ -81,6 +92,7 @@ test("of several the one who has asked meanwhile isn't asked once more", async (
   }
   hears("resume-asked", { who: "Cat" });
   asked[1].answers();
+  asked[2].answers();
   await isAsked("resume Dan");
   await resumed;
   assert.deepEqual(asked.map((it) => it.line), ["stored", "resume Ann", "resume Cat", "resume Dan"]);
@@ -92,7 +104,7 @@ test("of several none is asked once a game goes on", async () => {
   while (asked.length < 2) {
     await new Promise(setImmediate);
   }
-  hears("continuing", {});
+  hears("continuing");
   asked[1].answers();
   await resumed;
   assert.deepEqual(asked.map((it) => it.line), ["stored", "resume Ann"]);
@@ -104,7 +116,65 @@ test("a refusal is told, but of who isn't here yet", async () => {
   await isAsked("resume Ann", 32);
   await isAsked("resume Cat", 35);
   await resumed;
-  const told = byId("notice").textContent;
-  assert.match(told, /against Ann is adjourned, and goes on once Ann is here/);
-  assert.match(told, /against Cat is adjourned, and can't go on now\. All boards are in use/);
+  assert.match(told(), /against Ann is adjourned, and goes on once Ann is here/);
+  assert.match(told(), /against Cat is adjourned, and can't go on now\. All boards are in use/);
+});
+
+test("of a game that goes on by the answer nothing is said", async () => {
+  const { asked, resumed, isAsked, goesOn } = cameBack("Ann");
+  await isAsked("stored");
+  while (asked.length < 2) {
+    await new Promise(setImmediate);
+  }
+  goesOn("Ann");
+  asked[1].answers();
+  await resumed;
+  assert.equal(told(), "");
+});
+
+test("nor of one that the member has let go on before it was found", async () => {
+  const { asked, resumed, isAsked, goesOn } = cameBack("Ann");
+  goesOn("Ann");
+  for (let looks = 0; looks < 3; looks += 1) {
+    while (asked.length <= looks) {
+      await new Promise(setImmediate);
+    }
+    await isAsked("stored");
+  }
+  await resumed;
+  assert.equal(told(), "");
+});
+
+test("nor before who has asked is answered", async () => {
+  const { asked, resumed, isAsked, hears, goesOn } = cameBack("Ann", "Cat");
+  await isAsked("stored");
+  await isAsked("resume Ann", 32);
+  while (asked.length < 3) {
+    await new Promise(setImmediate);
+  }
+  hears("resume-asked", { who: "Ann" });
+  asked[2].answers(32);
+  await new Promise(setImmediate);
+  assert.equal(told(), "");
+  goesOn("Ann");
+  asked[3].answers();
+  await resumed;
+  assert.equal(told(), "The game against Cat is adjourned. Resume in the lobby asks to go on.");
+});
+
+test("what was said of a game is taken back as it goes on", async () => {
+  const { resumed, isAsked, goesOn } = cameBack("Ann");
+  await isAsked("stored");
+  await isAsked("resume Ann", 32);
+  await resumed;
+  assert.match(told(), /against Ann is adjourned/);
+  goesOn("Ann");
+  assert.equal(told(), "");
+});
+
+test("nothing is said of games where the link ends before they are found", async () => {
+  const { resumed, isAsked } = cameBack("Ann");
+  await isAsked("stored", 0, false);
+  await resumed;
+  assert.equal(told(), "");
 });
