@@ -3,11 +3,9 @@ use Rattle.std.specs.Prelude.{◌≡◌, ◌⊎◌, ℕ, List, Option}
 use Rattle.std.specs.Io.KnownBytes.{Appends}
 use Rattle.edge_traits.specs.Faults.{Rose}
 use Rattle.edge_traits.specs.Sink.{AppendsFront}
-use Rattle.lobby_load.specs.Refused.{unopened_status}
-use Rattle.lobby_load.specs.declared.refusals.StoreFault.{StoreFault}
 use Rattle.serve_turn.specs.declared.end.ServeEnd.{ServeEnd}
 use Rattle.serve_turn.specs.declared.end.ServeEnd.TheVariants.{DoorFault, WriteFault, KeeperFault, Memory}
-use Rattle.serve_call.specs.Opening.{StaysUnopened}
+use Rattle.serve_call.specs.Opening.{IsUnopened}
 use Rattle.serve_core.specs.Outside.{Sheet}
 use Rattle.edge_traits.specs.Calls.{Store}
 use Rattle.serve_turn.specs.Stopping.{IsClean, status_of}
@@ -38,5 +36,5 @@ pub record EndsServing (end : ServeEnd) (old new : Counts) (written written' : O
 -- how a call ended that was to serve: it opened no store, or it served
 abbrev pub EndsCall : ℕ → Store → Store → Sheet → Sheet → Counts → Counts → Type 0
 EndsCall status old new before after counts counts' =
-    ((fault : StoreFault) × (status ≡ unopened_status fault) × StaysUnopened fault old new before after)
+    IsUnopened status old new before after
     ⊎ ((end : ServeEnd) × (status ≡ status_of end) × EndsServing end counts counts' before.written after.written)

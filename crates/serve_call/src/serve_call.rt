@@ -2,7 +2,7 @@
 
 ghost use Rattle.std.specs.Prelude.{◌≡◌, ◌≤◌, ◌⊎◌, ◌∷◌, [], ℕ, List, IfSome, IfNone, IfErr, OnOk, Contains};
 ghost use Rattle.std.specs.Io.KnownBytes.{Appends};
-ghost use Rattle.edge_traits.specs.Calls.{Store, store_of};
+ghost use Rattle.edge_traits.specs.Calls.{store_of};
 ghost use Rattle.edge_traits.specs.Door.{KeepsLinks};
 ghost use Rattle.edge_traits.specs.WhereTold.{WhereTold};
 ghost use Rattle.edge_traits.specs.Faults.{Rose};
@@ -11,18 +11,13 @@ ghost use Rattle.histories.specs.History.{state};
 ghost use Rattle.cmd_job.specs.Jobs.{AsksToServe, OnUsage};
 ghost use Rattle.cmd_job.specs.Usage.{usage_line};
 ghost use Rattle.lobby_load.specs.BadRows.{IsGoodStore};
-ghost use Rattle.lobby_load.specs.Refused.{unopened_status};
 ghost use Rattle.lobby_load.specs.Telling.{IsFirstBad, bad_record_line};
-ghost use Rattle.lobby_load.specs.declared.refusals.StoreFault.{StoreFault};
-ghost use Rattle.lobby_state.specs.Lobby.{LobbyState};
 ghost use Rattle.one_server.specs.House.{house};
-ghost use Rattle.one_server.specs.Whole.{opened};
 ghost use Rattle.serve_call.specs.ServeEnds.{EndsCall};
-ghost use Rattle.serve_call.specs.Opening.{IsLoaded, StaysUnopened};
-ghost use Rattle.serve_core.specs.Serving.{HasServedAll, IsUnused, TellsAgreed};
-ghost use Rattle.serve_turn.specs.Stopping.{status_of};
+ghost use Rattle.serve_call.specs.Opening.{HasServedFrom, IsUnopened};
+ghost use Rattle.serve_core.specs.Outside.{sheet_of};
+ghost use Rattle.serve_core.specs.Serving.{IsUnused, TellsAgreed};
 ghost use Rattle.serve_core.specs.Text.{whole_text};
-ghost use Rattle.serve_turn.specs.declared.end.ServeEnd.{ServeEnd};
 
 use cmd_job::{Job, JobFail, read_job, tell_usage};
 use cmd_lines::{End, status};
@@ -41,9 +36,9 @@ use std::thread::Threads;
 /// The status is 0 where the door was closed and all was served, 1 where the words don't ask for it, 3 at a fault of
 /// writing, 4 at a fault of the keeper at the load or in the last turn of the steward, 5 at a bad record, whose key is
 /// written, 6 for want of memory, 8 at a fault of the door, and 9 after 2^31 connections. Of several that hold once a
-/// hall was opened the first of 8, 3, 4, 6 and 9 is told. Where the words ask for it, a
-/// hall is missing only where the store wasn't loaded or memory didn't suffice to open one. The door is one through
-/// which nothing came yet. Where the words don't ask for it the keeper isn't called.
+/// hall was opened the first of 8, 3, 4, 6 and 9 is told. Where the words ask for it, a hall is missing only where the
+/// store wasn't loaded or memory didn't suffice to open one. The door is one through which nothing came yet. Where the
+/// words don't ask for it the keeper isn't called.
 pub fn serve<T, D, C, P, K, G>(
     rt: &T,
     alloc: Global,
@@ -63,23 +58,19 @@ where
     G: Gate + Sync,
     requires door { IfSome (D.tale door.old) IsUnused }
     ensures hall { IfSome result.1 (λ h. h.1.home ≡ h.0) }
-    ensures served { IfSome result.1 (λ h. AsksToServe words.now × (lobby : LobbyState)
-        × (loaded : Store) × IsLoaded (store_of P.table P.faults P.calls keeper.old) loaded lobby
-        × (end : ServeEnd) × (result.0 ≡ status_of end)
-        × HasServedAll (C.shows clock.now) (opened lobby) end (D.tale door.new)
-        (record { written = K.written sink.old; faults = K.faults sink.old })
-        (record { written = K.written sink.new; faults = K.faults sink.new })
-        loaded (store_of P.table P.faults P.calls keeper.new) h.1) }
+    ensures served { IfSome result.1 (λ h. AsksToServe words.now
+        × HasServedFrom (C.shows clock.now) result.0 (D.tale door.new)
+        (sheet_of K.written K.faults sink.old) (sheet_of K.written K.faults sink.new)
+        (store_of P.table P.faults P.calls keeper.old)
+        (store_of P.table P.faults P.calls keeper.new) h.1) }
     ensures table { IfSome result.1 (λ h. IfSome (P.table keeper.old)
         (λ _. TellsAgreed (P.table keeper.new) (state house h.1.opening h.1.seen))) }
     ensures links { WhereTold (D.tale door.old) (D.tale door.new) KeepsLinks }
     ensures untouched { IfNone result.1 (D.tale door.new ≡ D.tale door.old) }
-    ensures no_hall { IfNone result.1 (AsksToServe words.now → (fault : StoreFault)
-        × (result.0 ≡ unopened_status fault) × StaysUnopened fault
+    ensures no_hall { IfNone result.1 (AsksToServe words.now → IsUnopened result.0
         (store_of P.table P.faults P.calls keeper.old)
         (store_of P.table P.faults P.calls keeper.new)
-        (record { written = K.written sink.old; faults = K.faults sink.old })
-        (record { written = K.written sink.new; faults = K.faults sink.new })) }
+        (sheet_of K.written K.faults sink.old) (sheet_of K.written K.faults sink.new)) }
     ensures usage { result.0 ≡ 1 → ¬ (AsksToServe words.now)
         × Appends (K.written sink.old) (K.written sink.new) usage_line }
     ensures not_asked { ¬ (AsksToServe words.now) → (result.0 ≡ 1) ⊎ ((result.0 ≡ 3) ⊎ (result.0 ≡ 6)) }
@@ -139,28 +130,22 @@ where
     G: Gate + Sync,
     requires door { IfSome (D.tale door.old) IsUnused }
     ensures hall { IfSome result.1 (λ h. h.1.home ≡ h.0) }
-    ensures served { IfSome result.1 (λ h. (lobby : LobbyState)
-        × (loaded : Store) × IsLoaded (store_of P.table P.faults P.calls keeper.old) loaded lobby
-        × (end : ServeEnd) × (result.0 ≡ status_of end)
-        × HasServedAll (C.shows clock.now) (opened lobby) end (D.tale door.new)
-        (record { written = K.written sink.old; faults = K.faults sink.old })
-        (record { written = K.written sink.new; faults = K.faults sink.new })
-        loaded (store_of P.table P.faults P.calls keeper.new) h.1) }
+    ensures served { IfSome result.1 (λ h. HasServedFrom (C.shows clock.now) result.0 (D.tale door.new)
+        (sheet_of K.written K.faults sink.old) (sheet_of K.written K.faults sink.new)
+        (store_of P.table P.faults P.calls keeper.old)
+        (store_of P.table P.faults P.calls keeper.new) h.1) }
     ensures table { IfSome result.1 (λ h. IfSome (P.table keeper.old)
         (λ _. TellsAgreed (P.table keeper.new) (state house h.1.opening h.1.seen))) }
     ensures links { WhereTold (D.tale door.old) (D.tale door.new) KeepsLinks }
     ensures untouched { IfNone result.1 (D.tale door.new ≡ D.tale door.old) }
-    ensures no_hall { IfNone result.1 ((fault : StoreFault) × (result.0 ≡ unopened_status fault)
-        × StaysUnopened fault
+    ensures no_hall { IfNone result.1 (IsUnopened result.0
         (store_of P.table P.faults P.calls keeper.old)
         (store_of P.table P.faults P.calls keeper.new)
-        (record { written = K.written sink.old; faults = K.faults sink.old })
-        (record { written = K.written sink.new; faults = K.faults sink.new })) }
+        (sheet_of K.written K.faults sink.old) (sheet_of K.written K.faults sink.new)) }
     ensures ends { EndsCall result.0
         (store_of P.table P.faults P.calls keeper.old)
         (store_of P.table P.faults P.calls keeper.new)
-        (record { written = K.written sink.old; faults = K.faults sink.old })
-        (record { written = K.written sink.new; faults = K.faults sink.new })
+        (sheet_of K.written K.faults sink.old) (sheet_of K.written K.faults sink.new)
         (record { door = D.faults door.old; sink = K.faults sink.old; keeper = P.faults keeper.old })
         (record { door = D.faults door.new; sink = K.faults sink.new; keeper = P.faults keeper.new }) }
     ensures text_part { IfSome result.1 (λ h. AppendsFront (K.written sink.old) (K.written sink.new) whole_text) }

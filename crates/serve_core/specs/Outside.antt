@@ -6,3 +6,7 @@ use Rattle.std.specs.declared.option.Option.{Option}
 pub record Sheet : Type 0 where
   pub written : Option (List ℕ)
   pub faults : ℕ
+
+-- a sink of which these are what it was written and the count
+abbrev pub sheet_of : {K : Type 0} → (K → Option (List ℕ)) → (K → ℕ) → K → Sheet
+sheet_of written faults sink = record { written = written sink; faults = faults sink }

@@ -10,6 +10,7 @@ ghost use Rattle.edge_traits.specs.Sink.{OnWriteFailed, UnlessWriteFailed, Wrote
 ghost use Rattle.one_server.specs.declared.part.Part.{Part};
 ghost use Rattle.one_server.specs.Whole.{IsOpening, IsWhole, opened};
 ghost use Rattle.hall_core.specs.Passes.{first_pass, noted};
+ghost use Rattle.serve_core.specs.Outside.{sheet_of};
 ghost use Rattle.serve_core.specs.Serving.{HasServedAll, IsUnused};
 ghost use Rattle.serve_core.specs.Text.{closed_text, ready_text, whole_text};
 ghost use Rattle.serve_turn.specs.Stopping.{IsClean, is_short};
@@ -57,8 +58,7 @@ where
     requires door { IfSome (D.tale door.old) IsUnused }
     ensures hall { IfSome result.1 (λ h. h.1.home ≡ h.0) }
     ensures served { IfSome result.1 (λ h. HasServedAll (C.shows clock.now) (opened lobby) result.0 (D.tale door.new)
-        (record { written = K.written sink.old; faults = K.faults sink.old })
-        (record { written = K.written sink.new; faults = K.faults sink.new })
+        (sheet_of K.written K.faults sink.old) (sheet_of K.written K.faults sink.new)
         (store_of P.table P.faults P.calls keeper.old)
         (store_of P.table P.faults P.calls keeper.new) h.1) }
     ensures links { WhereTold (D.tale door.old) (D.tale door.new) KeepsLinks }
@@ -113,8 +113,7 @@ where
     requires door { IfSome (D.tale door.old) IsUnused }
     ensures hall { result.0.home ≡ shared.now.hall.now }
     ensures served { HasServedAll (C.shows shared.now.clock.now) pass.opening result.1 (D.tale door.new)
-        (record { written = K.written sink.old; faults = K.faults sink.old })
-        (record { written = K.written sink.new; faults = K.faults sink.new })
+        (sheet_of K.written K.faults sink.old) (sheet_of K.written K.faults sink.new)
         (store_of P.table P.faults P.calls keeper.old)
         (store_of P.table P.faults P.calls keeper.new) result.0 }
     ensures links { WhereTold (D.tale door.old) (D.tale door.new) KeepsLinks }

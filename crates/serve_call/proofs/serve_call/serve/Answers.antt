@@ -1,6 +1,6 @@
 use Rattle.std.proofs.Common.{[], ◌∷◌, arith, inl, inr, refl, subst, sym}
 use Rattle.std.specs.Prelude.{Contains}
-use Rattle.serve_core.specs.Outside.{Sheet}
+use Rattle.serve_core.specs.Outside.{Sheet, sheet_of}
 use Rattle.edge_traits.specs.Calls.{Store, store_of}
 use Rattle.lobby_load.specs.declared.refusals.StoreFault.TheVariants as unopened
 use Rattle.serve_call.proofs.Unopened.{unasked}
@@ -11,10 +11,8 @@ pub returns-in-Ok-clause-usage : goal.returns-in-Ok-clause-usage
 returns-in-Ok-clause-usage g c = λ e.
     let old : Store = store_of g.P.Keeper.table g.P.Keeper.faults g.P.Keeper.calls c.args.keeper.now in
     let new : Store = store_of g.P.Keeper.table g.P.Keeper.faults g.P.Keeper.calls c.serve_players.new.keeper in
-    let before : Sheet =
-    record { written = g.K.Sink.written c.args.sink.now; faults = g.K.Sink.faults c.args.sink.now } in
-    let after : Sheet =
-    record { written = g.K.Sink.written c.serve_players.new.sink; faults = g.K.Sink.faults c.serve_players.new.sink } in
+    let before : Sheet = sheet_of g.K.Sink.written g.K.Sink.faults c.args.sink.now in
+    let after : Sheet = sheet_of g.K.Sink.written g.K.Sink.faults c.serve_players.new.sink in
     let door = g.D.Doorway.faults c.args.door.now in
     let door' = g.D.Doorway.faults c.serve_players.new.door in
     let ends = c.serve_players.ensures.ends in
@@ -24,10 +22,8 @@ pub returns-in-Ok-clause-write_fault : goal.returns-in-Ok-clause-write_fault
 returns-in-Ok-clause-write_fault g c = λ e.
     let old : Store = store_of g.P.Keeper.table g.P.Keeper.faults g.P.Keeper.calls c.args.keeper.now in
     let new : Store = store_of g.P.Keeper.table g.P.Keeper.faults g.P.Keeper.calls c.serve_players.new.keeper in
-    let before : Sheet =
-    record { written = g.K.Sink.written c.args.sink.now; faults = g.K.Sink.faults c.args.sink.now } in
-    let after : Sheet =
-    record { written = g.K.Sink.written c.serve_players.new.sink; faults = g.K.Sink.faults c.serve_players.new.sink } in
+    let before : Sheet = sheet_of g.K.Sink.written g.K.Sink.faults c.args.sink.now in
+    let after : Sheet = sheet_of g.K.Sink.written g.K.Sink.faults c.serve_players.new.sink in
     let door = g.D.Doorway.faults c.args.door.now in
     let door' = g.D.Doorway.faults c.serve_players.new.door in
     let ends = c.serve_players.ensures.ends in
@@ -37,10 +33,8 @@ pub returns-in-Ok-clause-door_fault : goal.returns-in-Ok-clause-door_fault
 returns-in-Ok-clause-door_fault g c = λ e.
     let old : Store = store_of g.P.Keeper.table g.P.Keeper.faults g.P.Keeper.calls c.args.keeper.now in
     let new : Store = store_of g.P.Keeper.table g.P.Keeper.faults g.P.Keeper.calls c.serve_players.new.keeper in
-    let before : Sheet =
-    record { written = g.K.Sink.written c.args.sink.now; faults = g.K.Sink.faults c.args.sink.now } in
-    let after : Sheet =
-    record { written = g.K.Sink.written c.serve_players.new.sink; faults = g.K.Sink.faults c.serve_players.new.sink } in
+    let before : Sheet = sheet_of g.K.Sink.written g.K.Sink.faults c.args.sink.now in
+    let after : Sheet = sheet_of g.K.Sink.written g.K.Sink.faults c.serve_players.new.sink in
     let door = g.D.Doorway.faults c.args.door.now in
     let door' = g.D.Doorway.faults c.serve_players.new.door in
     let ends = c.serve_players.ensures.ends in
@@ -50,10 +44,8 @@ pub returns-in-Ok-clause-keeper_fault : goal.returns-in-Ok-clause-keeper_fault
 returns-in-Ok-clause-keeper_fault g c = λ e.
     let old : Store = store_of g.P.Keeper.table g.P.Keeper.faults g.P.Keeper.calls c.args.keeper.now in
     let new : Store = store_of g.P.Keeper.table g.P.Keeper.faults g.P.Keeper.calls c.serve_players.new.keeper in
-    let before : Sheet =
-    record { written = g.K.Sink.written c.args.sink.now; faults = g.K.Sink.faults c.args.sink.now } in
-    let after : Sheet =
-    record { written = g.K.Sink.written c.serve_players.new.sink; faults = g.K.Sink.faults c.serve_players.new.sink } in
+    let before : Sheet = sheet_of g.K.Sink.written g.K.Sink.faults c.args.sink.now in
+    let after : Sheet = sheet_of g.K.Sink.written g.K.Sink.faults c.serve_players.new.sink in
     let door = g.D.Doorway.faults c.args.door.now in
     let door' = g.D.Doorway.faults c.serve_players.new.door in
     let ends = c.serve_players.ensures.ends in
@@ -63,10 +55,8 @@ pub returns-in-Ok-clause-bad_record : goal.returns-in-Ok-clause-bad_record
 returns-in-Ok-clause-bad_record g c = λ e.
     let old : Store = store_of g.P.Keeper.table g.P.Keeper.faults g.P.Keeper.calls c.args.keeper.now in
     let new : Store = store_of g.P.Keeper.table g.P.Keeper.faults g.P.Keeper.calls c.serve_players.new.keeper in
-    let before : Sheet =
-    record { written = g.K.Sink.written c.args.sink.now; faults = g.K.Sink.faults c.args.sink.now } in
-    let after : Sheet =
-    record { written = g.K.Sink.written c.serve_players.new.sink; faults = g.K.Sink.faults c.serve_players.new.sink } in
+    let before : Sheet = sheet_of g.K.Sink.written g.K.Sink.faults c.args.sink.now in
+    let after : Sheet = sheet_of g.K.Sink.written g.K.Sink.faults c.serve_players.new.sink in
     let door = g.D.Doorway.faults c.args.door.now in
     let door' = g.D.Doorway.faults c.serve_players.new.door in
     let ends = c.serve_players.ensures.ends in
@@ -77,10 +67,8 @@ pub returns-in-Ok-clause-good_store : goal.returns-in-Ok-clause-good_store
 returns-in-Ok-clause-good_store g c = λ e.
     let old : Store = store_of g.P.Keeper.table g.P.Keeper.faults g.P.Keeper.calls c.args.keeper.now in
     let new : Store = store_of g.P.Keeper.table g.P.Keeper.faults g.P.Keeper.calls c.serve_players.new.keeper in
-    let before : Sheet =
-    record { written = g.K.Sink.written c.args.sink.now; faults = g.K.Sink.faults c.args.sink.now } in
-    let after : Sheet =
-    record { written = g.K.Sink.written c.serve_players.new.sink; faults = g.K.Sink.faults c.serve_players.new.sink } in
+    let before : Sheet = sheet_of g.K.Sink.written g.K.Sink.faults c.args.sink.now in
+    let after : Sheet = sheet_of g.K.Sink.written g.K.Sink.faults c.serve_players.new.sink in
     let door = g.D.Doorway.faults c.args.door.now in
     let door' = g.D.Doorway.faults c.serve_players.new.door in
     let ends = c.serve_players.ensures.ends in
@@ -90,10 +78,8 @@ pub returns-in-Ok-clause-text : goal.returns-in-Ok-clause-text
 returns-in-Ok-clause-text g c = λ e.
     let old : Store = store_of g.P.Keeper.table g.P.Keeper.faults g.P.Keeper.calls c.args.keeper.now in
     let new : Store = store_of g.P.Keeper.table g.P.Keeper.faults g.P.Keeper.calls c.serve_players.new.keeper in
-    let before : Sheet =
-    record { written = g.K.Sink.written c.args.sink.now; faults = g.K.Sink.faults c.args.sink.now } in
-    let after : Sheet =
-    record { written = g.K.Sink.written c.serve_players.new.sink; faults = g.K.Sink.faults c.serve_players.new.sink } in
+    let before : Sheet = sheet_of g.K.Sink.written g.K.Sink.faults c.args.sink.now in
+    let after : Sheet = sheet_of g.K.Sink.written g.K.Sink.faults c.serve_players.new.sink in
     let door = g.D.Doorway.faults c.args.door.now in
     let door' = g.D.Doorway.faults c.serve_players.new.door in
     let ends = c.serve_players.ensures.ends in
@@ -103,10 +89,8 @@ pub returns-in-Ok-clause-complete : goal.returns-in-Ok-clause-complete
 returns-in-Ok-clause-complete g c = λ asks no_door no_sink no_keeper.
     let old : Store = store_of g.P.Keeper.table g.P.Keeper.faults g.P.Keeper.calls c.args.keeper.now in
     let new : Store = store_of g.P.Keeper.table g.P.Keeper.faults g.P.Keeper.calls c.serve_players.new.keeper in
-    let before : Sheet =
-    record { written = g.K.Sink.written c.args.sink.now; faults = g.K.Sink.faults c.args.sink.now } in
-    let after : Sheet =
-    record { written = g.K.Sink.written c.serve_players.new.sink; faults = g.K.Sink.faults c.serve_players.new.sink } in
+    let before : Sheet = sheet_of g.K.Sink.written g.K.Sink.faults c.args.sink.now in
+    let after : Sheet = sheet_of g.K.Sink.written g.K.Sink.faults c.serve_players.new.sink in
     let door = g.D.Doorway.faults c.args.door.now in
     let door' = g.D.Doorway.faults c.serve_players.new.door in
     let ends = c.serve_players.ensures.ends in
@@ -117,10 +101,8 @@ pub returns-in-Ok-clause-statuses : goal.returns-in-Ok-clause-statuses
 returns-in-Ok-clause-statuses g c =
     let old : Store = store_of g.P.Keeper.table g.P.Keeper.faults g.P.Keeper.calls c.args.keeper.now in
     let new : Store = store_of g.P.Keeper.table g.P.Keeper.faults g.P.Keeper.calls c.serve_players.new.keeper in
-    let before : Sheet =
-    record { written = g.K.Sink.written c.args.sink.now; faults = g.K.Sink.faults c.args.sink.now } in
-    let after : Sheet =
-    record { written = g.K.Sink.written c.serve_players.new.sink; faults = g.K.Sink.faults c.serve_players.new.sink } in
+    let before : Sheet = sheet_of g.K.Sink.written g.K.Sink.faults c.args.sink.now in
+    let after : Sheet = sheet_of g.K.Sink.written g.K.Sink.faults c.serve_players.new.sink in
     let door = g.D.Doorway.faults c.args.door.now in
     let door' = g.D.Doorway.faults c.serve_players.new.door in
     let ends = c.serve_players.ensures.ends in
@@ -130,10 +112,8 @@ pub returns-in-Ok-clause-write_told : goal.returns-in-Ok-clause-write_told
 returns-in-Ok-clause-write_told g c =
     let old : Store = store_of g.P.Keeper.table g.P.Keeper.faults g.P.Keeper.calls c.args.keeper.now in
     let new : Store = store_of g.P.Keeper.table g.P.Keeper.faults g.P.Keeper.calls c.serve_players.new.keeper in
-    let before : Sheet =
-    record { written = g.K.Sink.written c.args.sink.now; faults = g.K.Sink.faults c.args.sink.now } in
-    let after : Sheet =
-    record { written = g.K.Sink.written c.serve_players.new.sink; faults = g.K.Sink.faults c.serve_players.new.sink } in
+    let before : Sheet = sheet_of g.K.Sink.written g.K.Sink.faults c.args.sink.now in
+    let after : Sheet = sheet_of g.K.Sink.written g.K.Sink.faults c.serve_players.new.sink in
     let door = g.D.Doorway.faults c.args.door.now in
     let door' = g.D.Doorway.faults c.serve_players.new.door in
     let ends = c.serve_players.ensures.ends in
@@ -174,6 +154,5 @@ returns-in-Err-Usage-clause-write_told g c = usage_told c.tell_usage.ensures.cal
 pub returns-in-Err-Memory-clause-no_hall : goal.returns-in-Err-Memory-clause-no_hall
 returns-in-Err-Memory-clause-no_hall g c = λ asks.
     let store : Store = store_of g.P.Keeper.table g.P.Keeper.faults g.P.Keeper.calls c.args.keeper.now in
-    let sheet : Sheet =
-    record { written = g.K.Sink.written c.args.sink.now; faults = g.K.Sink.faults c.args.sink.now } in
+    let sheet : Sheet = sheet_of g.K.Sink.written g.K.Sink.faults c.args.sink.now in
     (unopened.Memory, c.status.ensures, unasked store sheet)

@@ -1,7 +1,7 @@
 use Rattle.std.proofs.Common.{inl, inr, ap}
 use Rattle.one_server.specs.Whole.{opened}
 use Rattle.serve_call.specs.Opening.{IsLoaded}
-use Rattle.serve_core.specs.Outside.{Sheet}
+use Rattle.serve_core.specs.Outside.{Sheet, sheet_of}
 use Rattle.edge_traits.specs.Calls.{Store, store_of}
 use Rattle.serve_core.specs.Text.{whole_text}
 use Rattle.serve_call.proofs.Opening.{appends_from, front_from, load_done, served_from, some_as, table_agrees}
@@ -16,11 +16,9 @@ returns-in-Ok-clause-served g c =
     let s = c.serve_lobby-end in
     let end = s.result.0 in
     let door = g.D.Doorway.tale s.new.door in
-    let before : Sheet =
-    record { written = g.K.Sink.written c.args.sink.now; faults = g.K.Sink.faults c.args.sink.now } in
-    let mid : Sheet =
-    record { written = g.K.Sink.written c.open_store.new.sink; faults = g.K.Sink.faults c.open_store.new.sink } in
-    let later : Sheet = record { written = g.K.Sink.written s.new.sink; faults = g.K.Sink.faults s.new.sink } in
+    let before : Sheet = sheet_of g.K.Sink.written g.K.Sink.faults c.args.sink.now in
+    let mid : Sheet = sheet_of g.K.Sink.written g.K.Sink.faults c.open_store.new.sink in
+    let later : Sheet = sheet_of g.K.Sink.written g.K.Sink.faults s.new.sink in
     let old : Store = store_of g.P.Keeper.table g.P.Keeper.faults g.P.Keeper.calls c.args.keeper.now in
     let loaded : Store = store_of g.P.Keeper.table g.P.Keeper.faults g.P.Keeper.calls c.open_store.new.keeper in
     let new : Store = store_of g.P.Keeper.table g.P.Keeper.faults g.P.Keeper.calls s.new.keeper in
@@ -53,11 +51,9 @@ returns-in-Ok-clause-table g c =
     let s = c.serve_lobby-end in
     let end = s.result.0 in
     let door = g.D.Doorway.tale s.new.door in
-    let before : Sheet =
-    record { written = g.K.Sink.written c.args.sink.now; faults = g.K.Sink.faults c.args.sink.now } in
-    let mid : Sheet =
-    record { written = g.K.Sink.written c.open_store.new.sink; faults = g.K.Sink.faults c.open_store.new.sink } in
-    let later : Sheet = record { written = g.K.Sink.written s.new.sink; faults = g.K.Sink.faults s.new.sink } in
+    let before : Sheet = sheet_of g.K.Sink.written g.K.Sink.faults c.args.sink.now in
+    let mid : Sheet = sheet_of g.K.Sink.written g.K.Sink.faults c.open_store.new.sink in
+    let later : Sheet = sheet_of g.K.Sink.written g.K.Sink.faults s.new.sink in
     let old : Store = store_of g.P.Keeper.table g.P.Keeper.faults g.P.Keeper.calls c.args.keeper.now in
     let loaded : Store = store_of g.P.Keeper.table g.P.Keeper.faults g.P.Keeper.calls c.open_store.new.keeper in
     let new : Store = store_of g.P.Keeper.table g.P.Keeper.faults g.P.Keeper.calls s.new.keeper in
@@ -82,11 +78,9 @@ returns-in-Ok-clause-table g c =
 pub returns-in-Ok-clause-no_hall : goal.returns-in-Ok-clause-no_hall
 returns-in-Ok-clause-no_hall g c =
     let s = c.serve_lobby-end in
-    let before : Sheet =
-    record { written = g.K.Sink.written c.args.sink.now; faults = g.K.Sink.faults c.args.sink.now } in
-    let mid : Sheet =
-    record { written = g.K.Sink.written c.open_store.new.sink; faults = g.K.Sink.faults c.open_store.new.sink } in
-    let later : Sheet = record { written = g.K.Sink.written s.new.sink; faults = g.K.Sink.faults s.new.sink } in
+    let before : Sheet = sheet_of g.K.Sink.written g.K.Sink.faults c.args.sink.now in
+    let mid : Sheet = sheet_of g.K.Sink.written g.K.Sink.faults c.open_store.new.sink in
+    let later : Sheet = sheet_of g.K.Sink.written g.K.Sink.faults s.new.sink in
     let old : Store = store_of g.P.Keeper.table g.P.Keeper.faults g.P.Keeper.calls c.args.keeper.now in
     let loaded : Store = store_of g.P.Keeper.table g.P.Keeper.faults g.P.Keeper.calls c.open_store.new.keeper in
     let new : Store = store_of g.P.Keeper.table g.P.Keeper.faults g.P.Keeper.calls s.new.keeper in
@@ -103,11 +97,9 @@ returns-in-Ok-clause-ends g c =
     let s = c.serve_lobby-end in
     let end = s.result.0 in
     let door = g.D.Doorway.tale s.new.door in
-    let before : Sheet =
-    record { written = g.K.Sink.written c.args.sink.now; faults = g.K.Sink.faults c.args.sink.now } in
-    let mid : Sheet =
-    record { written = g.K.Sink.written c.open_store.new.sink; faults = g.K.Sink.faults c.open_store.new.sink } in
-    let later : Sheet = record { written = g.K.Sink.written s.new.sink; faults = g.K.Sink.faults s.new.sink } in
+    let before : Sheet = sheet_of g.K.Sink.written g.K.Sink.faults c.args.sink.now in
+    let mid : Sheet = sheet_of g.K.Sink.written g.K.Sink.faults c.open_store.new.sink in
+    let later : Sheet = sheet_of g.K.Sink.written g.K.Sink.faults s.new.sink in
     let old : Store = store_of g.P.Keeper.table g.P.Keeper.faults g.P.Keeper.calls c.args.keeper.now in
     let loaded : Store = store_of g.P.Keeper.table g.P.Keeper.faults g.P.Keeper.calls c.open_store.new.keeper in
     let new : Store = store_of g.P.Keeper.table g.P.Keeper.faults g.P.Keeper.calls s.new.keeper in
@@ -144,10 +136,8 @@ returns-in-Ok-clause-text_part g c =
 
 pub returns-in-Err-clause-no_hall : goal.returns-in-Err-clause-no_hall
 returns-in-Err-clause-no_hall g c =
-    let before : Sheet =
-    record { written = g.K.Sink.written c.args.sink.now; faults = g.K.Sink.faults c.args.sink.now } in
-    let after : Sheet =
-    record { written = g.K.Sink.written c.open_store.new.sink; faults = g.K.Sink.faults c.open_store.new.sink } in
+    let before : Sheet = sheet_of g.K.Sink.written g.K.Sink.faults c.args.sink.now in
+    let after : Sheet = sheet_of g.K.Sink.written g.K.Sink.faults c.open_store.new.sink in
     let old : Store = store_of g.P.Keeper.table g.P.Keeper.faults g.P.Keeper.calls c.args.keeper.now in
     let new : Store = store_of g.P.Keeper.table g.P.Keeper.faults g.P.Keeper.calls c.open_store.new.keeper in
     let it = c.in-Err.ensures in
@@ -158,10 +148,8 @@ returns-in-Err-clause-no_hall g c =
 
 pub returns-in-Err-clause-ends : goal.returns-in-Err-clause-ends
 returns-in-Err-clause-ends g c =
-    let before : Sheet =
-    record { written = g.K.Sink.written c.args.sink.now; faults = g.K.Sink.faults c.args.sink.now } in
-    let after : Sheet =
-    record { written = g.K.Sink.written c.open_store.new.sink; faults = g.K.Sink.faults c.open_store.new.sink } in
+    let before : Sheet = sheet_of g.K.Sink.written g.K.Sink.faults c.args.sink.now in
+    let after : Sheet = sheet_of g.K.Sink.written g.K.Sink.faults c.open_store.new.sink in
     let old : Store = store_of g.P.Keeper.table g.P.Keeper.faults g.P.Keeper.calls c.args.keeper.now in
     let new : Store = store_of g.P.Keeper.table g.P.Keeper.faults g.P.Keeper.calls c.open_store.new.keeper in
     let it = c.in-Err.ensures in

@@ -6,7 +6,7 @@ use Rattle.serve_turn.specs.declared.end.ServeEnd.{ServeEnd}
 use Rattle.serve_turn.specs.declared.end.ServeEnd.TheVariants.{DoorFault, KeeperFault, WriteFault}
 use Rattle.serve_turn.specs.declared.supply.Supply.TheVariants.{Enough, Short}
 use Rattle.serve_turn.specs.Stopping.{IsClean, end_of, is_short}
-use Rattle.serve_core.specs.Outside.{Sheet}
+use Rattle.serve_core.specs.Outside.{Sheet, sheet_of}
 use Rattle.edge_traits.specs.Calls.{Store, store_of}
 use Rattle.serve_core.specs.Text.{closed_text, ready_text}
 use Rattle.serve_core.specs.Stewarding.{MayEnd}
@@ -30,10 +30,8 @@ returns-in-All-clause-served g c =
     let opens = g.D.Doorway.tale c.args.door.now in
     let door = g.D.Doorway.tale c.host_links-hosted.new.door in
     let sent = c.say_closed-sent.result in
-    let first : Sheet =
-    record { written = g.K.Sink.written c.args.sink.now; faults = g.K.Sink.faults c.args.sink.now } in
-    let ready : Sheet =
-    record { written = g.K.Sink.written c.say_ready.new.sink; faults = g.K.Sink.faults c.say_ready.new.sink } in
+    let first : Sheet = sheet_of g.K.Sink.written g.K.Sink.faults c.args.sink.now in
+    let ready : Sheet = sheet_of g.K.Sink.written g.K.Sink.faults c.say_ready.new.sink in
     let last : Sheet =
     record {
       written = g.K.Sink.written c.say_closed-sent.new.sink;
@@ -83,10 +81,8 @@ returns-in-Failed-clause-served g c =
     let clock = c.args.shared.now.clock.now in
     let door = g.D.Doorway.tale c.args.door.now in
     let first = c.requires.first in
-    let before : Sheet =
-    record { written = g.K.Sink.written c.args.sink.now; faults = g.K.Sink.faults c.args.sink.now } in
-    let later : Sheet =
-    record { written = g.K.Sink.written c.say_ready.new.sink; faults = g.K.Sink.faults c.say_ready.new.sink } in
+    let before : Sheet = sheet_of g.K.Sink.written g.K.Sink.faults c.args.sink.now in
+    let later : Sheet = sheet_of g.K.Sink.written g.K.Sink.faults c.say_ready.new.sink in
     let old : Store = store_of g.P.Keeper.table g.P.Keeper.faults g.P.Keeper.calls c.args.keeper.now in
     let after : Store =
     store_of g.P.Keeper.table g.P.Keeper.faults g.P.Keeper.calls c.last_turn-pass-in-Failed.new.keeper in
@@ -118,10 +114,8 @@ returns-in-Memory-clause-served g c =
     let clock = c.args.shared.now.clock.now in
     let door = g.D.Doorway.tale c.args.door.now in
     let first = c.requires.first in
-    let before : Sheet =
-    record { written = g.K.Sink.written c.args.sink.now; faults = g.K.Sink.faults c.args.sink.now } in
-    let later : Sheet =
-    record { written = g.K.Sink.written c.say_ready.new.sink; faults = g.K.Sink.faults c.say_ready.new.sink } in
+    let before : Sheet = sheet_of g.K.Sink.written g.K.Sink.faults c.args.sink.now in
+    let later : Sheet = sheet_of g.K.Sink.written g.K.Sink.faults c.say_ready.new.sink in
     let old : Store = store_of g.P.Keeper.table g.P.Keeper.faults g.P.Keeper.calls c.args.keeper.now in
     let after : Store =
     store_of g.P.Keeper.table g.P.Keeper.faults g.P.Keeper.calls c.last_turn-pass-in-Memory.new.keeper in
