@@ -18,7 +18,18 @@ THREADS = [1, 2, 4, 8]
 LOOK_ROUNDS = 50_000
 MOVE_ROUNDS = 600
 # what a member does in a full hall, and how often
-DEEDS = {"enter": 2_000, "match": 2_000, "start": 2_000, "post": 2_000, "partner": 2_000, "join": 2_000, "tell": 2_000}
+DEEDS = {
+    "enter": 2_000,
+    "match": 2_000,
+    "start": 2_000,
+    "post": 2_000,
+    "partner": 2_000,
+    "join": 2_000,
+    "tell": 2_000,
+    "stored": 2_000,
+    "resume": 2_000,
+    "adjourn": 200,
+}
 RUNS = 5
 # what is asked of the shelf, over how many games, and how often a thing is done whose instructions are counted
 ASKED, SHELVES, SHELF_ROUNDS, FULL_ROUNDS = ("stored", "resume", "adjourn"), (0, 100, 1_000, 9_000), 20, 200

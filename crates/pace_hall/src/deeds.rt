@@ -2,8 +2,9 @@
 
 ghost use Rattle.lobby_state.specs.Acts.{FitsLobby};
 
-use crate::full_hall::{FullHall, TERMS};
-use fics_words::{Fail, Line};
+use crate::full_hall::{FullHall, TERMS, account_name};
+use crate::shelf::{adjourns, game_of};
+use fics_words::{Fail, Line, Refusal};
 use lobby_state::{LobbyAct, PairAct};
 use std::alloc::Global;
 
@@ -24,6 +25,12 @@ pub enum Deed {
     Join,
     /// The member says something in a channel, which some twenty hear until as many lines wait as can.
     Tell,
+    /// The member asks which adjourned games of its own there are.
+    Stored,
+    /// The member asks to go on with a game against somebody with whom it has none.
+    Resume,
+    /// Two members go on with a game of theirs, and it is adjourned again.
+    Adjourn,
 }
 
 /// The session of the member who does it.
@@ -45,6 +52,9 @@ pub fn deed_of(word: &str) -> Option<Deed> {
         ("partner", Deed::Partner),
         ("join", Deed::Join),
         ("tell", Deed::Tell),
+        ("stored", Deed::Stored),
+        ("resume", Deed::Resume),
+        ("adjourn", Deed::Adjourn),
     ];
     for (name, deed) in words {
         if word == name {
@@ -57,8 +67,12 @@ pub fn deed_of(word: &str) -> Option<Deed> {
 /// Does the deed so often in a full hall.
 pub fn make_in_full_hall(alloc: Global, deed: Deed, rounds: u32) -> Result<(), Fail> {
     let mut hall = FullHall::open(alloc)?;
+    if deed == Deed::Adjourn {
+        hall.act(OTHER, LobbyAct::Bye)?;
+        hall.enter_by_account(OTHER, 1)?;
+    }
     if deed != Deed::Enter {
-        let key = hall.enter(DOER)?;
+        let key = hall.enter_by_account(DOER, 0)?;
         hall.keys.push(key)?;
     }
     if deed == Deed::Tell {
@@ -98,7 +112,31 @@ fn round(hall: &mut FullHall, deed: Deed) -> Result<(), Fail> {
             hall.act(DOER, channel(false))?;
         }
         Deed::Tell => tell(hall)?,
+        Deed::Stored => {
+            hall.act(DOER, LobbyAct::Stored)?;
+        }
+        Deed::Resume => {
+            let _refused = hall
+                .lobby
+                .plan(DOER, &PairAct::Resume(hall.key(OTHER)?))
+                .is_err();
+        }
+        Deed::Adjourn => adjourn(hall)?,
     }
+    Ok(())
+}
+
+/// The two go on with their game, at desk 1, and it goes on the shelf again.
+fn adjourn(hall: &mut FullHall) -> Result<(), Fail> {
+    let (white, black) = (account_name(0)?, account_name(1)?);
+    hall.pair(DOER, PairAct::Resume(black.key()))?;
+    hall.act(OTHER, LobbyAct::Fetch)?;
+    hall.pair(OTHER, PairAct::Resume(white.key()))?;
+    let game = game_of(hall.alloc, white, black)?;
+    if !adjourns(&mut hall.lobby, game) {
+        return Err(Fail::Refused(Refusal::NoStored));
+    }
+    hall.act(DOER, LobbyAct::Fetch)?;
     Ok(())
 }
 

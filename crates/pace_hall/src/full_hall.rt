@@ -1,12 +1,14 @@
-//! A full hall: 4,096 accounts, and members of whom each has seeks, challenges, requests and channels.
+//! A full hall: 4,096 accounts, their adjourned games, and members of whom each has seeks, challenges, requests and
+//! channels.
 
 ghost use Rattle.std.specs.Prelude.{IfOk};
 ghost use Rattle.lobby_state.specs.Acts.{FitsLobby};
 ghost use Rattle.lobby_state.specs.Planned.{IsPlanned};
 ghost use Rattle.lobby_state.specs.Plans.{NamesDesk};
 
+use crate::shelf::{game_of, put};
 use chess_model::{Terms, Variant};
-use fics_words::{Account, Fail, Handle, HandleKey, Refusal};
+use fics_words::{Account, Digest, Fail, Handle, HandleKey, Refusal};
 use lobby_state::{Lobby, LobbyAct, LobbyReply, PairAct, Plan, Var};
 use std::alloc::Global;
 
@@ -24,6 +26,15 @@ const MEMBERS: u32 = 255;
 /// How many others each of them challenges, and asks to be its partner.
 const ASKED: u32 = 16;
 
+/// How many have an account.
+const ACCOUNTS: u32 = 4_096;
+
+/// How many adjourned games there are: one less than the shelf holds, so that a game can begin.
+const GAMES: u32 = 9_999;
+
+/// The digest of all passwords.
+const DIGEST: Digest = [0; 32];
+
 /// A lobby, and the keys of its members in the order of their sessions, which count from 1.
 #[derive(Drop)]
 pub struct FullHall {
@@ -33,18 +44,28 @@ pub struct FullHall {
 }
 
 impl FullHall {
-    /// A hall with 4,096 accounts and 255 guests who don't want to hear of seeks, of whom each has three seeks,
-    /// challenges 16 others, has asked 16 to be its partner, and is in 20 channels.
+    /// A hall with 4,096 accounts, 9,999 games of theirs that are adjourned, and 255 guests who don't want to hear of
+    /// seeks, of whom each has three seeks, challenges 16 others, has asked 16 to be its partner, and is in 20
+    /// channels.
     pub fn open(alloc: Global) -> Result<FullHall, Fail> {
         let mut hall = FullHall {
             alloc,
             lobby: Lobby::new(alloc)?,
             keys: Vec::new(alloc),
         };
-        for number in 0..4_096 {
+        for number in 0..ACCOUNTS {
             let name = account_name(number)?;
-            let digest = [0; 32];
+            let digest = DIGEST;
             hall.lobby.add_account(Account { name, digest })?;
+        }
+        for number in 0..GAMES {
+            let white = account_name(number)?;
+            let black = account_name(number + 1 + number / ACCOUNTS)?;
+            put(
+                &mut hall.lobby,
+                u64::from(number) + 1,
+                game_of(alloc, white, black)?,
+            )?;
         }
         for session in 1..=MEMBERS {
             let key = hall.enter(session)?;
@@ -78,11 +99,22 @@ impl FullHall {
 
     /// The session comes in as a guest, and has this key.
     pub fn enter(&mut self, session: u32) -> Result<HandleKey, Fail> {
-        let act = LobbyAct::Enter {
-            name: None,
-            digest: None,
-        };
-        let LobbyReply::Entered(name) = self.act(session, act)? else {
+        self.enter_as(session, None, None)
+    }
+
+    /// The session comes in under the name of the account of this number.
+    pub fn enter_by_account(&mut self, session: u32, number: u32) -> Result<HandleKey, Fail> {
+        let name = account_name(number)?;
+        self.enter_as(session, Some(name), Some(DIGEST))
+    }
+
+    fn enter_as(
+        &mut self,
+        session: u32,
+        name: Option<Handle>,
+        digest: Option<Digest>,
+    ) -> Result<HandleKey, Fail> {
+        let LobbyReply::Entered(name) = self.act(session, LobbyAct::Enter { name, digest })? else {
             return Err(Fail::Refused(Refusal::BadHandle));
         };
         Ok(name.key())
@@ -128,8 +160,9 @@ fn carry_out(lobby: &mut Lobby, planned: &Result<Plan, Refusal>) -> Result<(), F
     }
 }
 
-/// The name of the account of this number.
-fn account_name(number: u16) -> Result<Handle, Fail> {
+/// The name of the account of this number, which counts on from 0 behind the last one.
+pub fn account_name(number: u32) -> Result<Handle, Fail> {
+    let number = number % ACCOUNTS;
     let letters = [
         b'P',
         letter(number / 676),
@@ -142,6 +175,6 @@ fn account_name(number: u16) -> Result<Handle, Fail> {
     }
 }
 
-fn letter(number: u16) -> u8 {
+fn letter(number: u32) -> u8 {
     b'a' + (number % 26) as u8
 }

@@ -110,7 +110,7 @@ fn name_of(side: u8, number: u32) -> Result<Handle, Fail> {
 }
 
 /// A game of the two without a half-move.
-fn game_of(alloc: Global, white: Handle, black: Handle) -> Result<StoredGame, NoMemory>
+pub fn game_of(alloc: Global, white: Handle, black: Handle) -> Result<StoredGame, NoMemory>
     ensures { IfOk result Replays }
 {
     played_by_steps();
@@ -124,7 +124,7 @@ fn game_of(alloc: Global, white: Handle, black: Handle) -> Result<StoredGame, No
     })
 }
 
-fn put(lobby: &mut Lobby, number: u64, game: StoredGame) -> Result<(), Fail>
+pub fn put(lobby: &mut Lobby, number: u64, game: StoredGame) -> Result<(), Fail>
     requires { Replays game }
 {
     if number < 1 || lobby.stored(number).is_some() {
@@ -161,7 +161,7 @@ fn starts(lobby: &mut Lobby, to: HandleKey) -> bool {
 }
 
 /// Whether the game of desk 1 is cleared, and this one goes on the shelf.
-fn adjourns(lobby: &mut Lobby, game: StoredGame) -> bool
+pub fn adjourns(lobby: &mut Lobby, game: StoredGame) -> bool
     requires { Replays game }
 {
     let serial = match lobby.game(1) {

@@ -11,24 +11,31 @@ use memory::NoMemory;
 use std::alloc::Global;
 use test_steps::first_wrong;
 
-/// What stands for an answer of another kind than the step has.
-const NOBODY: u16 = 1000 + STRANGE as u16;
+/// How many heard what was said, or were listed.
+#[derive(Clone, Copy, PartialEq, Eq)]
+pub enum HowMany {
+    Exactly(u16),
+    /// It was refused, by the refusal of this number.
+    Refused(u8),
+    /// The answer is of another kind than the step has.
+    Strange,
+}
 
 /// A step: the session that makes it, what it does, and what it has to answer; a number is that of the refusal.
 #[derive(Clone, Copy)]
 pub enum Talk {
     Tell(u32, [u8; 3], &'static [u8], u8),
-    /// Is heard by so many, or is refused: a refusal stands for its number and 1,000.
-    Shout(u32, &'static [u8], u16),
+    /// Is heard by so many.
+    Shout(u32, &'static [u8], HowMany),
     /// Tells it so many times, and each time without a refusal.
     TellTimes(u32, [u8; 3], &'static [u8], u32),
     Set(u32, Var, bool, u8),
     /// Joins a channel, or leaves it.
     Channel(u32, u8, bool, u8),
-    /// Is heard by so many in the channel, or is refused: a refusal stands for its number and 1,000.
-    TellChannel(u32, u8, &'static [u8], u16),
-    /// So many are in the channel, the first of them with this handle, or it is refused as above.
-    InChannel(u32, u8, u16, &'static [u8]),
+    /// Is heard by so many in the channel.
+    TellChannel(u32, u8, &'static [u8], HowMany),
+    /// So many are in the channel, the first of them with this handle.
+    InChannel(u32, u8, HowMany, &'static [u8]),
     Decline(u32, Option<[u8; 3]>, u8),
     Withdraw(u32, Option<[u8; 3]>, u8),
     Other(Step),
@@ -116,19 +123,19 @@ pub fn number_if_told_one(answer: &Result<LobbyReply, Fail>) -> u8 {
     }
 }
 
-/// How many were told, or a refusal's number and 1,000.
-fn told(answer: &Result<LobbyReply, Fail>) -> u16 {
+/// How many were told.
+fn told(answer: &Result<LobbyReply, Fail>) -> HowMany {
     match answer {
-        Ok(LobbyReply::Told(count)) => *count,
-        Ok(_) => NOBODY,
-        Err(_) => 1000 + u16::from(number_of(answer)),
+        Ok(LobbyReply::Told(count)) => HowMany::Exactly(*count),
+        Ok(_) => HowMany::Strange,
+        Err(_) => HowMany::Refused(number_of(answer)),
     }
 }
 
-fn shouting(alloc: Global, lobby: &mut Lobby, session: u32, text: &[u8]) -> u16 {
+fn shouting(alloc: Global, lobby: &mut Lobby, session: u32, text: &[u8]) -> HowMany {
     match said(alloc, text) {
         Some(text) => told(&acted(lobby, session, &LobbyAct::Shout { text })),
-        None => NOBODY,
+        None => HowMany::Strange,
     }
 }
 
@@ -143,36 +150,36 @@ fn telling_channel(
     session: u32,
     channel: u8,
     text: &[u8],
-) -> u16 {
+) -> HowMany {
     match said(alloc, text) {
         Some(text) => told(&acted(lobby, session, &LobbyAct::TellChannel { channel, text })),
-        None => NOBODY,
+        None => HowMany::Strange,
     }
 }
 
 /// How many are in the channel, where the first has this handle.
-fn in_channel(lobby: &mut Lobby, session: u32, channel: u8, first: &[u8]) -> u16 {
+fn in_channel(lobby: &mut Lobby, session: u32, channel: u8, first: &[u8]) -> HowMany {
     listed(
         &acted(lobby, session, &LobbyAct::InChannel { channel }),
         first,
     )
 }
 
-/// How many lines are answered, where the first is this one, or a refusal's number and 1,000.
-fn listed(answer: &Result<LobbyReply, Fail>, first: &[u8]) -> u16 {
+/// How many lines are answered, where the first is this one.
+fn listed(answer: &Result<LobbyReply, Fail>, first: &[u8]) -> HowMany {
     match answer {
         Ok(LobbyReply::Lines(lines)) => count_from(&lines, first),
-        Ok(_) => NOBODY,
-        Err(_) => 1000 + u16::from(number_of(answer)),
+        Ok(_) => HowMany::Strange,
+        Err(_) => HowMany::Refused(number_of(answer)),
     }
 }
 
 /// How many lines these are, where the first is this one.
-fn count_from(lines: &Lines, first: &[u8]) -> u16 {
+fn count_from(lines: &Lines, first: &[u8]) -> HowMany {
     match lines.get(0) {
-        None => 0,
-        Some(line) if line == first => lines.len().min(999) as u16,
-        Some(_) => NOBODY,
+        None => HowMany::Exactly(0),
+        Some(line) if line == first => HowMany::Exactly(lines.len().min(999) as u16),
+        Some(_) => HowMany::Strange,
     }
 }
 
