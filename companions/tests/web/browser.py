@@ -5,7 +5,9 @@ from pathlib import Path
 from typing import Any, Protocol, TypeVar
 
 from selenium.webdriver.common.action_chains import ActionChains
+from selenium.webdriver.common.actions.action_builder import ActionBuilder
 from selenium.webdriver.common.by import By
+from selenium.webdriver.common.keys import Keys
 from selenium.webdriver.remote.webdriver import WebDriver
 from selenium.webdriver.remote.webelement import WebElement
 
@@ -38,6 +40,9 @@ class Browser(Protocol):
 
     def prefer_scheme(self, scheme: str | None) -> None:
         """Light or dark, as if the system had it; None for what it has."""
+
+    def to_page(self) -> None:
+        """Brings the keyboard back to the page, where Tab has led it to what the browser has around that."""
 
     def has_fingers(self) -> None:
         """From now on there are fingers."""
@@ -209,9 +214,18 @@ class Window:
         acts = ActionChains(self.driver).move_to_element(man).click_and_hold().move_by_offset(4, 4)
         acts.move_to_element(self.square(square)).release().perform()
 
-    def press(self, *keys: str) -> None:
-        """Keys, as they are pressed where the focus is."""
+    def leave_alone(self) -> None:
+        """The mouse is upon nothing that shows it."""
         self.front()
+        acts = ActionBuilder(self.driver)
+        acts.pointer_action.move_to_location(0, 0)
+        acts.perform()
+
+    def press(self, *keys: str) -> None:
+        """Keys, as they are pressed where the focus is; all but Tab are for the page."""
+        self.front()
+        if Keys.TAB not in keys:
+            self.browser.to_page()
         ActionChains(self.driver).send_keys(*keys).perform()
 
     def drop(self, colour: str, kind: str, square: str) -> None:

@@ -68,6 +68,9 @@ class Chromium:
         features = [{"name": "prefers-color-scheme", "value": scheme}] if scheme else []
         self.driver.execute_cdp_cmd("Emulation.setEmulatedMedia", {"features": features})
 
+    def to_page(self) -> None:
+        """Nothing is to be done: without a screen it has nothing around the page."""
+
     def has_fingers(self) -> None:
         self.driver.execute_cdp_cmd("Emulation.setTouchEmulationEnabled", {"enabled": True})
 
