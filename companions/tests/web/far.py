@@ -42,6 +42,15 @@ class Far:
         self.loop.call_at(max(self.loop.time(), made) + self.half, writer.close)
 
     def end(self) -> None:
-        self.loop.call_soon_threadsafe(self.server.close)
+        asyncio.run_coroutine_threadsafe(self.close(), self.loop).result()
         self.loop.call_soon_threadsafe(self.loop.stop)
         self.thread.join()
+        self.loop.close()
+
+    async def close(self) -> None:
+        """Closes the door, and cuts off whoever is connected."""
+        self.server.close()
+        carried = asyncio.all_tasks() - {asyncio.current_task()}
+        for it in carried:
+            it.cancel()
+        await asyncio.gather(*carried, return_exceptions=True)
