@@ -6,7 +6,7 @@ import { byId, onClick } from "../shell/elements.js";
 import { copyPgn } from "../board/pgn_view.js";
 import { Table } from "../board/table.js";
 import { onLanguage, t } from "../shell/texts.js";
-import { reasonInWords } from "../game/state_words.js";
+import { endInWords } from "../game/state_words.js";
 import { gameAddress, pgnAddress, TOP } from "./addresses.js";
 import { archivedGame, archivedPair } from "./game.js";
 import { ratedInWords } from "./rating_view.js";
@@ -102,7 +102,7 @@ export class GameView {
     byId("who").replaceChildren(playerLink(game.white), " – ", playerLink(game.black));
     byId("facts").textContent = [game.terms.inWords(), dayInWords(day), game.tags.Time?.slice(0, 5)]
       .filter(Boolean).join(", ");
-    byId("status").textContent = this.ending();
+    byId("status").textContent = endInWords(game);
     byId("rated").textContent = ratedInWords(told.rated);
     byId("rated").hidden = !told.rated;
     byId("cut-off").hidden = !game.isCutOff;
@@ -113,11 +113,5 @@ export class GameView {
     setLink("earlier", told.earlier && gameAddress(told.earlier));
     setLink("later", told.later && gameAddress(told.later));
     this.show();
-  }
-
-  ending() {
-    const { reason, result } = this.game.end;
-    const words = t(`result.${result}`);
-    return reason ? t("game.ended", { reason: reasonInWords(reason), result: words }) : words;
   }
 }

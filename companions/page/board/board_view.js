@@ -11,7 +11,7 @@ import { otherThan } from "../game/legal.js";
 import { wordOf } from "../game/moves.js";
 import { Table } from "./table.js";
 import { t } from "../shell/texts.js";
-import { choiceOf, endInWords, statusOf } from "../game/state_words.js";
+import { choiceOf, endInWords, headOf, statusOf } from "../game/state_words.js";
 
 const PLAYER_ACTS = /** @type {const} */ (["draw", "takeback", "abort", "adjourn", "flag", "resign", "move",
   "move-send"]);
@@ -106,7 +106,8 @@ export class BoardView {
     if (pair?.place) {
       this.partner.show(pair, !this.main.blackBelow);
     }
-    byId("status").textContent = statusOf(game, this.session.me);
+    byId("status-game").textContent = headOf(game);
+    byId("status-now").textContent = statusOf(game, this.session.me);
     byId("status").classList.toggle("over", game.isOver);
     this.moves.show(game);
     this.away.show();
@@ -130,8 +131,7 @@ export class BoardView {
       byId(id).hidden = !isOpen;
     }
     byId("move-form").hidden = !isOpen;
-    byId("takeback-line").hidden = !isOpen;
-    byId("takeback").disabled ||= Boolean(pair);
+    byId("takeback-line").hidden = !isOpen || game.terms.isBughouse; // which has no takeback
     byId("flag").disabled ||= !game.terms.isTimed;
     byId("close-game").hidden = game.role === "mine" && !game.isOver;
     byId("close-game").textContent = t(

@@ -1,7 +1,7 @@
 /** How the game on the board ended, upon the board, until it is clicked or one looks back. */
 
 import { element } from "../shell/elements.js";
-import { reasonInWords } from "../game/state_words.js";
+import { capital, reasonInWords } from "../game/state_words.js";
 
 /** @type {Record<string, string>} */
 const SCORES = { "1-0": "1 – 0", "0-1": "0 – 1", "1/2-1/2": "½ – ½" };
@@ -30,7 +30,7 @@ export class Result {
     } else if (end !== this.end) {
       this.end = end;
       this.score.textContent = SCORES[end.result] ?? "";
-      this.reason.textContent = reasonInWords(end.reason);
+      this.reason.textContent = capital(reasonInWords(end.reason));
       this.root.hidden = false;
     }
   }

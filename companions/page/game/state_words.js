@@ -12,16 +12,18 @@ export function reasonInWords(reason) {
   return hasText(`end.${what}`) ? t(`end.${what}`, { who }) : reason;
 }
 
-/** Who won, and why, as "Ben resigns: White wins, 1-0".
- * @param {Game} game */
-export function endInWords(game) {
-  const { reason = "", result = "*" } = game.end ?? {};
-  return t("game.ended", { reason: reasonInWords(reason), result: t(`result.${result}`) });
+/** Words as a sentence begins.
+ * @param {string} words */
+export function capital(words) {
+  return words.slice(0, 1).toUpperCase() + words.slice(1);
 }
 
-/** @param {string} words */
-function capital(words) {
-  return words[0].toUpperCase() + words.slice(1);
+/** Who won and, where that is known, why, as "Ben resigns: White wins, 1-0".
+ * @param {{ end: End | null }} game */
+export function endInWords({ end }) {
+  const { reason = "", result = "*" } = end ?? {};
+  const words = t(`result.${result}`);
+  return capital(reason ? t("game.ended", { reason: reasonInWords(reason), result: words }) : words);
 }
 
 /** @param {Game} game @param {string} me */
@@ -30,14 +32,18 @@ function turnInWords(game, me) {
   return name === me ? t("game.your-move") : t("game.to-move", { name });
 }
 
-/** The line above the board.
+/** Which game it is.
+ * @param {Game} game */
+export function headOf({ number, white, black, terms }) {
+  return `${t("game.head", { number, white, black, terms: terms.inWords() })}.`;
+}
+
+/** How it stands.
  * @param {Game} game @param {string} me */
 export function statusOf(game, me) {
-  const { number, white, black } = game;
-  const head = t("game.head", { number, white, black, terms: game.terms.inWords() });
   const state = game.isOver ? endInWords(game) : capital(turnInWords(game, me));
   const looking = game.looking === null ? "" : ` ${t("game.earlier")}`;
-  return `${head}. ${state}.${looking}`;
+  return `${state}.${looking}`;
 }
 
 /** A game among several.

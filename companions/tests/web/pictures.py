@@ -21,7 +21,8 @@ DOCUMENTED = {"web": (1180, 720), "lobby": (1180, 900), "archive": (1180, 720)}
 
 
 def take(folder: Path, window: Window, name: str, sizes: tuple[Size, ...] = WIDTHS) -> None:
-    """Pictures of those sizes; the dark ones are for eyes alone."""
+    """Pictures of those sizes, with the mouse on nothing; the dark ones are for eyes alone."""
+    window.leave_alone()
     for ending, scheme in SCHEMES.items() if paths.pictures else [("", "light")]:
         window.front()
         window.browser.prefer_scheme(scheme)
@@ -39,7 +40,8 @@ def take_one(folder: Path, window: Window, name: str, size: Size) -> None:
 
 
 def document(folder: Path, window: Window, name: str) -> None:
-    """A picture of docs/, of a size of its own."""
+    """A picture of docs/, of a size of its own, with the mouse on nothing."""
+    window.leave_alone()
     take_one(folder, window, name, DOCUMENTED[name])
     window.resize(WIDE)
 

@@ -47,7 +47,7 @@ def test_the_list_has_it_once_the_opponent_was_told(evening: Evening) -> None:
     ben.until(lambda: ben.is_seen("#board"), "the board")
     ann.ask("adjourn")
     ben.click('#offers [data-command="adjourn"]')
-    ben.sees("adjourned", "#status")
+    ben.sees("Adjourned", "#status")
     ben.sees("Ann – Ben", "#stored")
 
 
@@ -58,7 +58,7 @@ def test_another_day(evening: Evening, store: Path) -> None:
     ann.click("#adjourn")
     ben.click('#offers [data-command="adjourn"]')
     for it in windows:
-        it.sees("adjourned", "#status")
+        it.sees("Adjourned", "#status")
         it.sees("Ann – Ben", "#stored")
         it.view("lobby")
         assert it.is_seen('#stored [data-command^="resume "]')

@@ -27,6 +27,6 @@ def test_to_an_end(evening: Evening) -> None:
     for it in (ann, ben):
         it.sees("Ben checkmated", "#status")
     for it in (cat, dan):
-        it.sees("partner's game ended", "#status")
+        it.sees("Partner's game ended", "#status")
         it.sees_man("wQ", "f7", "partner")
         assert it.complaints() == []

@@ -20,7 +20,7 @@ def test_a_takeback_and_then_a_draw(evening: Evening) -> None:
     ben.click("#draw")
     ann.click('#offers [data-command="draw"]')
     for it in (ann, ben):
-        it.sees("drawn by agreement", "#status")
+        it.sees("Drawn by agreement", "#status")
 
 
 def test_the_button_of_a_draw_accepts_no_takeback(evening: Evening) -> None:
@@ -31,7 +31,7 @@ def test_the_button_of_a_draw_accepts_no_takeback(evening: Evening) -> None:
     ann.sees("draw", "#offers")
     ann.click('#offers [data-command="draw"]')
     for it in (ann, ben):
-        it.sees("drawn by agreement", "#status")
+        it.sees("Drawn by agreement", "#status")
         assert it.man("e5") == "bP"
 
 
