@@ -7,6 +7,7 @@ from typing import Any, Protocol, TypeVar
 from selenium.webdriver.common.action_chains import ActionChains
 from selenium.webdriver.common.actions.action_builder import ActionBuilder
 from selenium.webdriver.common.by import By
+from selenium.webdriver.common.keys import Keys
 from selenium.webdriver.remote.webdriver import WebDriver
 from selenium.webdriver.remote.webelement import WebElement
 
@@ -41,7 +42,7 @@ class Browser(Protocol):
         """Light or dark, as if the system had it; None for what it has."""
 
     def to_page(self) -> None:
-        """Brings the keyboard back to the page, from what the browser has around it, where Tab goes too."""
+        """Brings the keyboard back to the page, where Tab has led it to what the browser has around that."""
 
     def has_fingers(self) -> None:
         """From now on there are fingers."""
@@ -221,8 +222,10 @@ class Window:
         acts.perform()
 
     def press(self, *keys: str) -> None:
-        """Keys, as they are pressed where the focus is."""
+        """Keys, as they are pressed where the focus is; all but Tab are for the page."""
         self.front()
+        if Keys.TAB not in keys:
+            self.browser.to_page()
         ActionChains(self.driver).send_keys(*keys).perform()
 
     def drop(self, colour: str, kind: str, square: str) -> None:

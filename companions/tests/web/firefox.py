@@ -7,6 +7,8 @@ from typing import Any
 
 from selenium import webdriver
 
+from tests.kit.running import wait_until
+
 from .marionette import Marionette
 
 TAB = "const tab = gBrowser.selectedBrowser, page = tab.browsingContext.top;"
@@ -19,6 +21,8 @@ for (const [side, long] of [["width", width], ["height", height]]) {
   ["min-", "max-"].forEach((it) => tab.style.setProperty(it + side, `${long}px`));
 }"""
 )
+SIZE = "return [innerWidth, innerHeight]"
+RESIZES_WITHIN = 60  # seconds
 PREFER_SCHEME = TAB + "page.prefersColorSchemeOverride = arguments[0];"
 TO_PAGE = TAB + "tab.focus();"
 HAS_FINGERS = TAB + "page.touchEventsOverride = 'enabled';"
@@ -86,7 +90,10 @@ class Firefox:
         self.resize(self.size)
 
     def resize(self, size: tuple[int, int]) -> None:
+        """As for each browser; the page, which is in another process, has that size a little later."""
         self.inside(RESIZE, *size)
+        if not wait_until(lambda: self.driver.execute_script(SIZE) == list(size), seconds=RESIZES_WITHIN):
+            raise TimeoutError(f"the page is {self.driver.execute_script(SIZE)} wide and high, not {size}")
 
     def prefer_scheme(self, scheme: str | None) -> None:
         self.inside(PREFER_SCHEME, scheme or "none")

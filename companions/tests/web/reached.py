@@ -96,8 +96,7 @@ def check_names(window: Window) -> None:
 
 
 def check_tabs(window: Window) -> None:
-    """Tab goes to each control that is seen, the squares of a board aside, to which the arrows go. The keyboard is at
-    the page afterwards."""
+    """Tab goes to each control that is seen, the squares of a board aside, to which the arrows go."""
     assert window.script(UNREACHABLE) == []
     wanted = set(window.script(REACHABLE))
     window.script("document.activeElement.blur(); window.scrollTo(0, 0)")
@@ -107,7 +106,6 @@ def check_tabs(window: Window) -> None:
         reached.add(window.script(FOCUSED))
         if wanted <= reached:
             break
-    window.browser.to_page()
     assert wanted - reached == set()
 
 

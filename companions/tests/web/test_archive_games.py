@@ -104,7 +104,7 @@ def test_crazyhouse_fischer_random_and_a_game_that_was_come_to_late(evening: Eve
     window = opened(evening, f"/games/{DAY}/7")
     window.sees_man("bN", "c6")
     assert window.texts("#moves button") == ["Nc6"]
-    assert "no result" in window.text("#status")
+    assert window.text("#status") == "No result, *"
 
 
 def test_a_pair_side_by_side(evening: Evening) -> None:

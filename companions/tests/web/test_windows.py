@@ -79,7 +79,7 @@ def test_two_boards(evening: Evening, size: Size) -> None:
     field = ["#move", "#move-send"] if size == LOW else []
     check_in_sight(ann, [*BOARD, *PLATES, *PARTNER, *field, "#draw", "#resign", "#flag", "#status"])
     assert ann.script(WIDTH) >= LEAST_BOARD[size] - 140
-    ann.type("e5") if ann.is_seen("#move") else ann.move("a2", "a6")
+    ann.type("e5") if ann.is_seen("#move") else ann.command("e5")
     ann.until(lambda: ann.is_seen("#notice"), "a refusal")
     assert ann.script(BELOW_NOTICE, [*BOARD, *PARTNER, *ACTS[:2]]) == []
     keep_picture(ann, f"bughouse_{size[0]}")
