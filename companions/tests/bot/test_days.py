@@ -25,7 +25,7 @@ async def goes_on(ann: Guest) -> None:
     """The adjourned game goes on, and the bot answers two half-moves."""
     game = await ann.game()
     assert game.board.ply == 2
-    await ann.plays(game, "d2d4", "g1f3")
+    await ann.plays_on(game, 2)
     await ann.turn(game, 6)
 
 
@@ -65,7 +65,7 @@ async def test_a_bot_that_is_killed_leaves_an_adjourned_game_and_goes_on_with_it
     run = evening.with_account()
     ann = await evening.guest("Ann", "swordfish")
     game = await ann.challenges()
-    await ann.plays(game, "e2e4", "d2d4")
+    await ann.plays_on(game, 2)
     await ann.turn(game, 4)
     run.end()
     assert await ann.ended(game) == ("adjourned", "*")
@@ -74,7 +74,7 @@ async def test_a_bot_that_is_killed_leaves_an_adjourned_game_and_goes_on_with_it
     await ann.does("resume House")
     game = await ann.game()
     assert game.board.ply == 4
-    await ann.plays(game, "g1f3")
+    await ann.plays_on(game, 1)
     await ann.turn(game, 6)
     assert not [it for it in again.log if "any half-move" in it]
 

@@ -19,10 +19,10 @@ async def test_it_plays_several_at_a_time_and_no_more(evening: Evening) -> None:
     assert [it.colour for it in games] == ["black"] * 3
     await guests[3].does("match House 5 0")
     await guests[3].tell("I play 3 games now, and no more at a time. Please try later.")
-    await asyncio.gather(*(guest.plays(game, "h7h6", "g7g6", "f7f6") for guest, game in zip(guests, games)))
-    for guest, game in zip(guests, games):
+    played = await asyncio.gather(*(guest.plays_on(game, 3) for guest, game in zip(guests, games)))
+    for guest, game, words in zip(guests, games, played):
         await guest.turn(game, 7)
-        assert [str(it.short) for it in game.boards[2::2]] == ["h6", "g6", "f6"]
+        assert game.moves()[1::2] == words
     await guests[0].member.act(games[0], "resign")
     await guests[0].ended(games[0])
     assert not (await guests[3].challenges("5 0")).is_over
@@ -33,16 +33,18 @@ async def test_an_end_elsewhere_moves_nothing_at_another_board(evening: Evening)
     guests = [await evening.guest(it) for it in NAMES]
     games = [await it.challenges("5 0") for it in guests]
 
-    async def play(guest: Guest, game: Game, resigns: bool) -> None:
-        await guest.plays(game, "h7h6", "g7g6")
+    async def play(guest: Guest, game: Game, resigns: bool) -> list[str]:
+        words = await guest.plays_on(game, 2)
         if resigns:
             await guest.member.act(game, "resign")
-        else:
-            await guest.plays(game, "f7f6", "e7e6", "d7d6")
+            return words
+        return words + await guest.plays_on(game, 3)
 
-    await asyncio.gather(*(play(guest, game, n % 2 == 1) for n, (guest, game) in enumerate(zip(guests, games))))
-    for guest, game in list(zip(guests, games))[::2]:
+    ways = (play(guest, game, n % 2 == 1) for n, (guest, game) in enumerate(zip(guests, games)))
+    played = await asyncio.gather(*ways)
+    for guest, game, words in list(zip(guests, games, played))[::2]:
         await guest.turn(game, 11)
+        assert game.moves()[1::2] == words
 
 
 async def test_who_asks_for_white_gets_it_alone(evening: Evening) -> None:

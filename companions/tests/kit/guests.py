@@ -9,6 +9,7 @@ from ficslink.lines import Tell
 from ficslink.member import Member
 
 from .running import PATIENCE, async_wait_until
+from .steps import steady
 
 
 class Guest:
@@ -116,6 +117,15 @@ class Guest:
             ply = game.board.ply
             await self.member.move(game, word)
             await self.until(lambda _: game.board.ply > ply or game.is_over, f"behind {word}")
+
+    async def plays_on(self, game: Game, half_moves: int) -> list[str]:
+        """Makes so many half-moves, each once it is to move, whatever the other side has played; their words."""
+        words = []
+        for _ in range(half_moves):
+            await self.turn(game)
+            words.append(steady(game.board))
+            await self.plays(game, words[-1])
+        return words
 
     async def leave(self) -> None:
         await self.member.leave()
