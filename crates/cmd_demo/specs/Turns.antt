@@ -5,7 +5,7 @@ use Rattle.chess_model.specs.declared.moves.Move.{Move}
 use Rattle.chess_model.specs.AllMoves.{allowed_moves}
 use Rattle.chess_model.specs.Holdings.{same_colour}
 use Rattle.game_board.specs.Board.{Board, position_of, to_move}
-use Rattle.desk_boards.specs.Boards.{place}
+use Rattle.fics_words.specs.Boards.{board_place}
 use Rattle.linked_desk.specs.Desk.{DeskState, boards_at, end_of}
 use Rattle.linked_desk.specs.Seats.{board_of, colour_at}
 use Rattle.lobby_state.specs.Lobby.{places_of}
@@ -36,7 +36,7 @@ moves_on_one colour (Some board) = moves_on colour board
 abbrev pub moves_at : ℕ → DeskState → List Move
 moves_at seat desk =
     if is_some (end_of desk) then []
-    else moves_on_one (colour_at seat) (slice_get (boards_at desk) (place (board_of seat)))
+    else moves_on_one (colour_at seat) (slice_get (boards_at desk) (board_place (board_of seat)))
 
 abbrev pub moves_in : ℕ → Option Part → List Move
 moves_in seat (Some (ADesk desk)) = moves_at seat desk

@@ -26,9 +26,10 @@ use Rattle.game_board.specs.Learn.{learnt}
 use Rattle.game_board.specs.Acked.{acknowledged}
 use Rattle.game_board.specs.Play.{with_half_move}
 use Rattle.game_records.specs.Replays.{GoesOn}
-use Rattle.desk_boards.specs.Boards.{board_numbers, boards_acked, boards_after, changed_at, new_boards, word_at, other_number, place}
-use Rattle.desk_boards.specs.declared.board_number.BoardNumber.{BoardNumber}
-use Rattle.desk_boards.specs.declared.board_number.BoardNumber.TheVariants.{First, Second}
+use Rattle.fics_words.specs.Boards.{other_number, board_place}
+use Rattle.desk_boards.specs.Boards.{board_numbers, boards_acked, boards_after, changed_at, new_boards, word_at}
+use Rattle.fics_words.specs.declared.board_number.BoardNumber.{BoardNumber}
+use Rattle.fics_words.specs.declared.board_number.BoardNumber.TheVariants.{First, Second}
 use Rattle.desk_boards.specs.Sound.{AreSoundBoards, GoOn}
 use Rattle.desk_boards.proofs.BoardLists.{All-at, All-changed_at, nothing-changed_at}
 use Rattle.desk_boards.proofs.Pairs.{never_three, numbers_of_two}
@@ -127,7 +128,7 @@ acked_position b c stamp = same_acknowledged (λ (x : Board). position_of x) b c
 pub go_acked : (boards : List Board) (board : BoardNumber) (c : Colour) (stamp : ℕ) → GoOn boards
     → GoOn (boards_acked boards board c stamp)
 go_acked boards board c stamp goes =
-    All-changed_at (λ (b : Board). GoesOn (position_of b)) boards (place board) (λ b. acknowledged b c stamp)
+    All-changed_at (λ (b : Board). GoesOn (position_of b)) boards (board_place board) (λ b. acknowledged b c stamp)
     (λ b there h. subst GoesOn (sym (acked_position b c stamp)) h) goes
 
 -- a pair is played by the terms of bughouse
@@ -145,8 +146,8 @@ Goes b = GoesOn (position_of b)
 
 go_made : (t : Terms) (boards : List Board) (board : BoardNumber) (own : Board) (change : Board → Board) (m : Move)
     → AreSoundBoards t boards → GoOn boards →
-    slice_get boards (place board) ≡ Some own
-    → IfSome (slice_get (stepped boards board change m) (place board)) (λ b. GoesOn (position_of b)) →
+    slice_get boards (board_place board) ≡ Some own
+    → IfSome (slice_get (stepped boards board change m) (board_place board)) (λ b. GoesOn (position_of b)) →
     GoOn (stepped boards board change m)
 go_made t [] First own change m s goes here there = absurd cc
 go_made t [] Second own change m s goes here there = absurd cc
@@ -165,26 +166,28 @@ go_made t (b ∷ c ∷ d ∷ more) board own change m s goes here there = absurd
 go_answered : (t : Terms) (boards : List Board) (board : BoardNumber) (moment : ℕ) (c : Colour) (word : MoveWord)
     (stamp : Option ℕ)
     → AreSoundBoards t boards → GoOn boards →
-    (answer : Result Move Refusal) → word_at (slice_get boards (place board)) c word ≡ answer →
-    IfSome (slice_get (boards_after boards board moment stamp answer) (place board)) (λ b. GoesOn (position_of b))
+    (answer : Result Move Refusal) → word_at (slice_get boards (board_place board)) c word ≡ answer →
+    IfSome (slice_get (boards_after boards board moment stamp answer) (board_place board)) (λ b. GoesOn (position_of b))
     → GoOn (boards_after boards board moment stamp answer)
 go_answered t boards board moment c word stamp s goes (Err cause) e there =
     subst GoOn
-    (sym (nothing-changed_at (changed_at boards (place board) (λ b. b)) (place (other_number board))
-    ∙ nothing-changed_at boards (place board)))
+    (sym (nothing-changed_at (changed_at boards (board_place board) (λ b. b)) (board_place (other_number board))
+    ∙ nothing-changed_at boards (board_place board)))
     goes
 go_answered t boards board moment c word stamp s goes (Ok m) e there =
-    let found = played_there (slice_get boards (place board)) c word m e in
+    let found = played_there (slice_get boards (board_place board)) c word m e in
     go_made t boards board found.0 (λ b. with_half_move b m moment stamp) m s goes found.1 there
 
 pub go_played : (t : Terms) (boards : List Board) (board : BoardNumber) (moment : ℕ) (c : Colour) (word : MoveWord)
     (stamp : Option ℕ)
     → AreSoundBoards t boards → GoOn boards →
     IfSome
-    (slice_get (boards_after boards board moment stamp (word_at (slice_get boards (place board)) c word)) (place board))
+    (slice_get (boards_after boards board moment stamp (word_at (slice_get boards (board_place board)) c word))
+    (board_place board))
     (λ b. GoesOn (position_of b)) →
-    GoOn (boards_after boards board moment stamp (word_at (slice_get boards (place board)) c word))
+    GoOn (boards_after boards board moment stamp (word_at (slice_get boards (board_place board)) c word))
 go_played t boards board moment c word stamp s goes there =
-    go_answered t boards board moment c word stamp s goes (word_at (slice_get boards (place board)) c word) refl there
+    go_answered t boards board moment c word stamp s goes (word_at (slice_get boards (board_place board)) c word) refl
+    there
 
 pub ruleset each_goes_on = (go_start, go_played, go_acked)

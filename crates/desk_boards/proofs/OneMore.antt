@@ -27,9 +27,10 @@ use Rattle.game_records.specs.Bounds.{IsCharge, IsHalf}
 use Rattle.game_records.specs.Codes.{HasCode, MayBecome}
 use Rattle.game_records.specs.Replays.{AreTimed, CanBePlayed, GoesOn, MayCome, MayFollow, OtherGoesOn, half_moves, made_on, position_on}
 use Rattle.game_records.proofs.Played.{by_steps}
-use Rattle.desk_boards.specs.Boards.{board_numbers, other_number, place}
-use Rattle.desk_boards.specs.declared.board_number.BoardNumber.{BoardNumber}
-use Rattle.desk_boards.specs.declared.board_number.BoardNumber.TheVariants.{First, Second}
+use Rattle.fics_words.specs.Boards.{other_number, board_place}
+use Rattle.desk_boards.specs.Boards.{board_numbers}
+use Rattle.fics_words.specs.declared.board_number.BoardNumber.{BoardNumber}
+use Rattle.fics_words.specs.declared.board_number.BoardNumber.TheVariants.{First, Second}
 use Rattle.desk_boards.specs.Halves.{halves_of}
 use Rattle.desk_boards.specs.Sound.{AreSoundBoards}
 use Rattle.desk_boards.proofs.BoardLists.{All-at}
@@ -153,8 +154,8 @@ other_of_two t halves n c pair number terms all goes =
     (subst (λ (v : Variant). GoesOn (position_on v halves (3 - n))) pair here)
 
 pub other_goes : (t : Terms) (boards : List Board) (board : BoardNumber) (own : Board) → AreSoundBoards t boards
-    → slice_get boards (place board) ≡ Some own →
-    ((other : Board) → slice_get boards (place (other_number board)) ≡ Some other → GoesOn (position_of other))
+    → slice_get boards (board_place board) ≡ Some own →
+    ((other : Board) → slice_get boards (board_place (other_number board)) ≡ Some other → GoesOn (position_of other))
     → OtherGoesOn t.variant (halves_of boards) own.number
 other_goes t [] board own s there goes = absurd (never_none t.variant s.numbers)
 other_goes t (b ∷ []) board own s there goes =
@@ -195,11 +196,11 @@ pub record MayGrow (t : Terms) (halves : List Half) (h : Half) : Type 0 where
   pub played : CanBePlayed t (halves ++ h ∷ [])
 
 pub may_grow : (t : Terms) (boards : List Board) (board : BoardNumber) (own new : Board) (p : Played)
-    → AreSoundBoards t boards → slice_get boards (place board) ≡ Some own → IsOneMore own p new →
-    ((other : Board) → slice_get boards (place (other_number board)) ≡ Some other → GoesOn (position_of other))
+    → AreSoundBoards t boards → slice_get boards (board_place board) ≡ Some own → IsOneMore own p new →
+    ((other : Board) → slice_get boards (board_place (other_number board)) ≡ Some other → GoesOn (position_of other))
     → MayGrow t (halves_of boards) (half_on own.number p)
 may_grow t boards board own new p s there more goes =
-    let k : ℕ = place board in
+    let k : ℕ = board_place board in
     let halves : List Half = halves_of boards in
     let terms : own.terms ≡ t = All-at (λ (x : Board). x.terms ≡ t) boards k own s.terms there in
     let all : half_moves halves ≡ own.all =

@@ -16,9 +16,10 @@ use Rattle.fics_words.specs.declared.refusal.Refusal.{Refusal}
 use Rattle.game_board.specs.Board.{Board, position_of}
 use Rattle.game_board.specs.Learn.{partner_position}
 use Rattle.game_records.specs.Bounds as bounds
-use Rattle.desk_boards.specs.Boards.{board_numbers, number_of, numbered, place, told_answer}
-use Rattle.desk_boards.specs.declared.board_number.BoardNumber.{BoardNumber}
-use Rattle.desk_boards.specs.declared.board_number.BoardNumber.TheVariants.{First, Second}
+use Rattle.fics_words.specs.Boards.{board_number, numbered_board, board_place}
+use Rattle.desk_boards.specs.Boards.{board_numbers, told_answer}
+use Rattle.fics_words.specs.declared.board_number.BoardNumber.{BoardNumber}
+use Rattle.fics_words.specs.declared.board_number.BoardNumber.TheVariants.{First, Second}
 use Rattle.desk_boards.specs.Sound.{AreSame}
 
 -- the numbers of two boards, which are those of a pair
@@ -46,8 +47,8 @@ number_at v boards k b numbers there =
     ∙ ap (option_map (λ (x : Board). x.number)) there
 
 -- the number of a board in its place
-pub number_is : (v : Variant) (board : BoardNumber) (n : ℕ) → slice_get (board_numbers v) (place board) ≡ Some n
-    → n ≡ number_of board
+pub number_is : (v : Variant) (board : BoardNumber) (n : ℕ) → slice_get (board_numbers v) (board_place board) ≡ Some n
+    → n ≡ board_number board
 number_is Chess First n e = let one : 1 ≡ n = cc in sym one
 number_is Chess Second n e = absurd cc
 number_is Crazyhouse First n e = let one : 1 ≡ n = cc in sym one
@@ -58,15 +59,15 @@ number_is Bughouse First n e = let one : 1 ≡ n = cc in sym one
 number_is Bughouse Second n e = let two : 2 ≡ n = cc in sym two
 
 -- the board of a number has it
-pub number_of-numbered : (n : ℕ) (board : BoardNumber) → numbered n ≡ Some board → number_of board ≡ n
+pub number_of-numbered : (n : ℕ) (board : BoardNumber) → numbered_board n ≡ Some board → board_number board ≡ n
 number_of-numbered zero board e = absurd cc
-number_of-numbered (suc zero) board e = let first : First ≡ board = cc in ap number_of (sym first)
-number_of-numbered (suc (suc zero)) board e = let second : Second ≡ board = cc in ap number_of (sym second)
+number_of-numbered (suc zero) board e = let first : First ≡ board = cc in ap board_number (sym first)
+number_of-numbered (suc (suc zero)) board e = let second : Second ≡ board = cc in ap board_number (sym second)
 number_of-numbered (suc (suc (suc n))) board e = absurd cc
 
 -- a number that half-moves of a variant may have is that of a board
 pub board_within : (v : Variant) (n : ℕ) → 1 ≤ n → n ≤ bounds.boards v
-    → (board : BoardNumber) × (numbered n ≡ Some board)
+    → (board : BoardNumber) × (numbered_board n ≡ Some board)
 board_within v zero low high = absurd (omega (arith, low))
 board_within v (suc zero) low high = (First, refl)
 board_within v (suc (suc zero)) low high = (Second, refl)

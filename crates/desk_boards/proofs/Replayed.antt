@@ -28,9 +28,10 @@ use Rattle.game_records.specs.declared.stored_game.Half.{Half}
 use Rattle.game_records.specs.Bounds as bounds
 use Rattle.game_records.specs.Bounds.{IsCharge, IsHalf}
 use Rattle.game_records.specs.Replays.{AreTimed, CanBePlayed, GoesOn, MayCome, OtherGoesOn, half_moves, made_on, position_on}
-use Rattle.desk_boards.specs.Boards.{board_numbers, changed_at, new_boards, number_of, numbered, other_number, place}
-use Rattle.desk_boards.specs.declared.board_number.BoardNumber.{BoardNumber}
-use Rattle.desk_boards.specs.declared.board_number.BoardNumber.TheVariants.{First, Second}
+use Rattle.fics_words.specs.Boards.{board_number, numbered_board, other_number, board_place}
+use Rattle.desk_boards.specs.Boards.{board_numbers, changed_at, new_boards}
+use Rattle.fics_words.specs.declared.board_number.BoardNumber.{BoardNumber}
+use Rattle.fics_words.specs.declared.board_number.BoardNumber.TheVariants.{First, Second}
 use Rattle.desk_boards.specs.Halves.{halves_of, played_of}
 use Rattle.desk_boards.specs.Laws.{IsFresh}
 use Rattle.desk_boards.specs.Replaying.{boards_put, boards_with, goes_on, other_goes_on, own_takes, played_on, replayed, takes_half}
@@ -111,25 +112,29 @@ record AreAt (t : Terms) (moment : ℕ) (halves : List Half) (boards : List Boar
 fresh_learnt : (moment : ℕ) (boards : List Board) (board : BoardNumber) (p : Played) → All (IsFresh moment) boards
     → All (IsFresh moment) (boards_put boards board p)
 fresh_learnt moment boards board p f =
-    All-changed_at (IsFresh moment) (changed_at boards (place board) (λ b. with_put b p)) (place (other_number board))
+    All-changed_at (IsFresh moment) (changed_at boards (board_place board) (λ b. with_put b p))
+    (board_place (other_number board))
     (λ b. learnt b p.what)
     (λ b there h. record { begin = h.begin; kept = h.kept; played = h.played; resumed = h.resumed })
-    (All-changed_at (IsFresh moment) boards (place board) (λ b. with_put b p) (λ b there h. fresh_put moment b p h) f)
+    (All-changed_at (IsFresh moment) boards (board_place board) (λ b. with_put b p)
+    (λ b there h. fresh_put moment b p h) f)
 
 step_at : (t : Terms) (moment : ℕ) (boards : List Board) (before : List Half) (board : BoardNumber) (n : ℕ)
     (own : Board) (p : Played)
     → AreAt t moment before boards →
-    slice_get boards (place board) ≡ Some own → number_of board ≡ n → IsTrue (takes_played own p) → IsCharge p.charge →
-    other_goes_on (slice_get boards (place (other_number board))) ≡ true
+    slice_get boards (board_place board) ≡ Some own → board_number board ≡ n → IsTrue (takes_played own p)
+    → IsCharge p.charge →
+    other_goes_on (slice_get boards (board_place (other_number board))) ≡ true
     → AreAt t moment (before ++ half_on n p ∷ []) (boards_put boards board p)
 step_at t moment boards before board n own p at there number takes charge others =
     let s : AreSoundBoards t boards = at.known.sound in
     let is : own.number ≡ n =
-    number_is t.variant board own.number (number_at t.variant boards (place board) own s.numbers there) ∙ number in
-    let more = put_more own p (All-at IsTrueScore boards (place board) own s.scores there) takes charge in
+    number_is t.variant board own.number (number_at t.variant boards (board_place board) own s.numbers there)
+    ∙ number in
+    let more = put_more own p (All-at IsTrueScore boards (board_place board) own s.scores there) takes charge in
     let step =
     sound_step t boards board own p (λ b. with_put b p) s there more
-    (others_go (slice_get boards (place (other_number board))) others) in
+    (others_go (slice_get boards (board_place (other_number board))) others) in
     let halves : halves_of boards ++ half_on own.number p ∷ [] ≡ before ++ half_on n p ∷ [] =
     (λ i. at.known.made i ++ half_on (is i) p ∷ []) in
     record {
@@ -141,16 +146,16 @@ step_at t moment boards before board n own p at there number takes charge others
 step_taken : (t : Terms) (moment : ℕ) (boards : List Board) (before : List Half) (n : ℕ) (board : BoardNumber)
     (p : Played)
     → AreAt t moment before boards → IsCharge p.charge →
-    numbered n ≡ Some board → takes_half boards board p ≡ true
+    numbered_board n ≡ Some board → takes_half boards board p ≡ true
     → AreAt t moment (before ++ half_on n p ∷ []) (boards_put boards board p)
 step_taken t moment boards before n board p at charge is e =
-    on_board (slice_get boards (place board)) refl
-    (and_parts (own_takes (slice_get boards (place board)) p)
-    (other_goes_on (slice_get boards (place (other_number board)))) e)
+    on_board (slice_get boards (board_place board)) refl
+    (and_parts (own_takes (slice_get boards (board_place board)) p)
+    (other_goes_on (slice_get boards (board_place (other_number board)))) e)
   where
-    on_board : (o : Option Board) → slice_get boards (place board) ≡ o →
-        (own_takes (slice_get boards (place board)) p ≡ true)
-        × (other_goes_on (slice_get boards (place (other_number board))) ≡ true) →
+    on_board : (o : Option Board) → slice_get boards (board_place board) ≡ o →
+        (own_takes (slice_get boards (board_place board)) p ≡ true)
+        × (other_goes_on (slice_get boards (board_place (other_number board))) ≡ true) →
         AreAt t moment (before ++ half_on n p ∷ []) (boards_put boards board p)
     on_board None there h =
         absurd (let none : own_takes None p ≡ true = ap (λ (o : Option Board). own_takes o p) (sym there) ∙ h.0 in cc)
@@ -179,9 +184,10 @@ run t moment before [] boards after at each e =
     subst (λ (bs : List Board). AreAt t moment (before ++ []) bs) same
     (subst (λ (hs : List Half). AreAt t moment hs boards) (sym (append-nil before)) at)
 run t moment before (h ∷ halves) boards after at each e =
-    elim (numbered h.board)
+    elim (numbered_board h.board)
     as (λ o.
-    numbered h.board ≡ o → from_one boards h halves o ≡ Some after → AreAt t moment (before ++ h ∷ halves) after) [
+    numbered_board h.board ≡ o → from_one boards h halves o ≡ Some after
+    → AreAt t moment (before ++ h ∷ halves) after) [
       | None ↦ λ is f. absurd cc
       | Some board ↦ λ is f.
           elim (takes_half boards board (played_of h))
@@ -263,7 +269,7 @@ other_pair t before n c pair number terms all goes =
 -- a half-move that may come is taken
 may_take : (t : Terms) (moment : ℕ) (boards : List Board) (before : List Half) (h : Half) → AreAt t moment before boards
     → IsHalf t.variant h → MayCome t before h →
-    (board : BoardNumber) × (numbered h.board ≡ Some board) × (takes_half boards board (played_of h) ≡ true)
+    (board : BoardNumber) × (numbered_board h.board ≡ Some board) × (takes_half boards board (played_of h) ≡ true)
 may_take t moment [] before h at half comes = absurd (never_none t.variant at.known.sound.numbers)
 may_take t moment (b ∷ []) before h at half comes =
     let s = at.known.sound in
@@ -277,7 +283,7 @@ may_take t moment (b ∷ []) before h at half comes =
     let own =
     own_may t b before h (All-at IsTrueScore (b ∷ []) 0 b s.scores refl) fresh.played
     (All-at (λ (x : Board). x.terms ≡ t) (b ∷ []) 0 b s.terms refl) all (one.1 ∙ sym number) comes in
-    (First, ap numbered number, ap (λ (t : Bool). t && true) own)
+    (First, ap numbered_board number, ap (λ (t : Bool). t && true) own)
 may_take t moment (b ∷ c ∷ []) before h at half comes =
     let s = at.known.sound in
     let two = numbers_of_two t.variant b c s.numbers in
@@ -295,13 +301,13 @@ may_take t moment (b ∷ c ∷ []) before h at half comes =
           own_may t b before h (All-at IsTrueScore (b ∷ c ∷ []) 0 b s.scores refl)
           (All-at (IsFresh moment) (b ∷ c ∷ []) 0 b at.fresh refl).played terms_b all_b (two.1 ∙ sym first) comes in
           let other = other_pair t before h.board c two.0 (omega (arith, first, two.2)) terms_c all_c comes.other in
-          (First, ap numbered first, λ i. own i && other i)
+          (First, ap numbered_board first, λ i. own i && other i)
       | inr second ↦
           let own =
           own_may t c before h (All-at IsTrueScore (b ∷ c ∷ []) 1 c s.scores refl)
           (All-at (IsFresh moment) (b ∷ c ∷ []) 1 c at.fresh refl).played terms_c all_c (two.2 ∙ sym second) comes in
           let other = other_pair t before h.board b two.0 (omega (arith, second, two.1)) terms_b all_b comes.other in
-          (Second, ap numbered second, λ i. own i && other i)
+          (Second, ap numbered_board second, λ i. own i && other i)
     ]
   where
     of_two : (n : ℕ) → 1 ≤ n → n ≤ 2 → (n ≡ 1) ⊎ (n ≡ 2)

@@ -29,8 +29,9 @@ use Rattle.game_board.proofs.Scoresheet.{IsTrueScore-acknowledged, IsTrueScore-n
 use Rattle.game_records.specs.Bounds.{IsCharge, IsHalf}
 use Rattle.game_records.specs.Replays.{CanBePlayed, GoesOn}
 use Rattle.game_records.proofs.Played.{by_steps}
-use Rattle.desk_boards.specs.Boards.{board_numbers, boards_acked, boards_after, changed_at, latest, new_boards, word_at, other_number, place}
-use Rattle.desk_boards.specs.declared.board_number.BoardNumber.{BoardNumber}
+use Rattle.fics_words.specs.Boards.{other_number, board_place}
+use Rattle.desk_boards.specs.Boards.{board_numbers, boards_acked, boards_after, changed_at, latest, new_boards, word_at}
+use Rattle.fics_words.specs.declared.board_number.BoardNumber.{BoardNumber}
 use Rattle.desk_boards.specs.Halves.{halves_from, halves_of}
 use Rattle.desk_boards.specs.Sound.{AreSame, AreSoundBoards, GoOn}
 use Rattle.desk_boards.proofs.BoardLists.{All-at, All-changed_at, begin-latest, map-changed_at, nothing-changed_at}
@@ -137,15 +138,15 @@ sound_answered : (t : Terms) (boards : List Board) (board : BoardNumber) (moment
     (stamp : Option ℕ)
     → AreSoundBoards t boards → GoOn boards →
     latest boards ≤ moment → moment ≤ 2 ^ 48 → IfSome stamp IsStamp → (answer : Result Move Refusal)
-    → word_at (slice_get boards (place board)) c word ≡ answer →
+    → word_at (slice_get boards (board_place board)) c word ≡ answer →
     AreSoundBoards t (boards_after boards board moment stamp answer)
 sound_answered t boards board moment c word stamp s goes order timely stamped (Err cause) e =
     subst (AreSoundBoards t)
-    (sym (nothing-changed_at (changed_at boards (place board) (λ b. b)) (place (other_number board))
-    ∙ nothing-changed_at boards (place board)))
+    (sym (nothing-changed_at (changed_at boards (board_place board) (λ b. b)) (board_place (other_number board))
+    ∙ nothing-changed_at boards (board_place board)))
     s
 sound_answered t boards board moment c word stamp s goes order timely stamped (Ok m) e =
-    let k : ℕ = place board in
+    let k : ℕ = board_place board in
     let found = played_there (slice_get boards k) c word m e in
     let own : Board = found.0 in
     let here : slice_get boards k ≡ Some own = found.1 in
@@ -160,16 +161,16 @@ sound_answered t boards board moment c word stamp s goes order timely stamped (O
       charge = next_charge own moment stamp;
     }) (λ b. with_half_move b m moment stamp) s here more
     (λ other there.
-    All-at (λ (b : Board). GoesOn (position_of b)) boards (place (other_number board)) other goes there)).sound
+    All-at (λ (b : Board). GoesOn (position_of b)) boards (board_place (other_number board)) other goes there)).sound
 
 pub sound_play : (t : Terms) (boards : List Board) (board : BoardNumber) (moment : ℕ) (c : Colour) (word : MoveWord)
     (stamp : Option ℕ)
     → AreSoundBoards t boards → GoOn boards →
     latest boards ≤ moment → moment ≤ 2 ^ 48 → IfSome stamp IsStamp
-    → AreSoundBoards t (boards_after boards board moment stamp (word_at (slice_get boards (place board)) c word))
+    → AreSoundBoards t (boards_after boards board moment stamp (word_at (slice_get boards (board_place board)) c word))
 sound_play t boards board moment c word stamp s goes order timely stamped =
     sound_answered t boards board moment c word stamp s goes order timely stamped
-    (word_at (slice_get boards (place board)) c word) refl
+    (word_at (slice_get boards (board_place board)) c word) refl
 
 -- ---- an acknowledgement
 
@@ -198,7 +199,7 @@ halves_of-changed_at t (b ∷ c ∷ d ∷ more) k change s lists all = absurd (n
 pub sound_acked : (t : Terms) (boards : List Board) (board : BoardNumber) (c : Colour) (stamp : ℕ)
     → AreSoundBoards t boards → IsStamp stamp → AreSoundBoards t (boards_acked boards board c stamp)
 sound_acked t boards board c stamp s stamped =
-    let k : ℕ = place board in
+    let k : ℕ = board_place board in
     let after : Board → Board = λ b. acknowledged b c stamp in
     let halves : halves_of (boards_acked boards board c stamp) ≡ halves_of boards =
     halves_of-changed_at t boards k after s (λ b. same_acknowledged (λ x. x.list) b c stamp refl)

@@ -17,9 +17,10 @@ use Rattle.game_board.proofs.Scoresheet.{IsTrueScore-learnt}
 use Rattle.game_records.specs.declared.stored_game.Half.{Half}
 use Rattle.game_records.specs.Bounds.{IsHalf}
 use Rattle.game_records.specs.Replays.{CanBePlayed, GoesOn}
-use Rattle.desk_boards.specs.Boards.{board_numbers, changed_at, other_number, place}
-use Rattle.desk_boards.specs.declared.board_number.BoardNumber.{BoardNumber}
-use Rattle.desk_boards.specs.declared.board_number.BoardNumber.TheVariants.{First, Second}
+use Rattle.fics_words.specs.Boards.{other_number, board_place}
+use Rattle.desk_boards.specs.Boards.{board_numbers, changed_at}
+use Rattle.fics_words.specs.declared.board_number.BoardNumber.{BoardNumber}
+use Rattle.fics_words.specs.declared.board_number.BoardNumber.TheVariants.{First, Second}
 use Rattle.desk_boards.specs.Halves.{halves_from, halves_of}
 use Rattle.desk_boards.specs.Sound.{AreSame, AreSoundBoards}
 use Rattle.desk_boards.proofs.Halved.{half_on, halves_from-one, halves_from-two}
@@ -31,7 +32,7 @@ use Rattle.std.proofs.lemmas.Option.{same_Some}
 -- the boards with a change of one of them, of which the other one learns that it was this half-move
 abbrev pub stepped : List Board → BoardNumber → (Board → Board) → Move → List Board
 stepped boards board change m =
-    changed_at (changed_at boards (place board) change) (place (other_number board)) (λ b. learnt b m)
+    changed_at (changed_at boards (board_place board) change) (board_place (other_number board)) (λ b. learnt b m)
 
 -- sound boards that have these half-moves
 pub record AreSoundWith (t : Terms) (halves : List Half) (boards : List Board) : Type 0 where
@@ -163,8 +164,8 @@ step_second t b c new p s more grows =
 pub sound_step : (t : Terms) (boards : List Board) (board : BoardNumber) (own : Board) (p : Played)
     (change : Board → Board)
     → AreSoundBoards t boards →
-    slice_get boards (place board) ≡ Some own → IsOneMore own p (change own) →
-    ((other : Board) → slice_get boards (place (other_number board)) ≡ Some other → GoesOn (position_of other)) →
+    slice_get boards (board_place board) ≡ Some own → IsOneMore own p (change own) →
+    ((other : Board) → slice_get boards (board_place (other_number board)) ≡ Some other → GoesOn (position_of other)) →
     AreSoundWith t (halves_of boards ++ half_on own.number p ∷ []) (stepped boards board change p.what)
 sound_step t [] board own p change s there more goes = absurd (never_none t.variant s.numbers)
 sound_step t (b ∷ []) First own p change s there more goes =

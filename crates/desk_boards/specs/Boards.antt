@@ -8,6 +8,8 @@ use Rattle.chess_model.specs.declared.moves.MoveWord.{MoveWord}
 use Rattle.chess_model.specs.declared.variant.Terms.{Terms}
 use Rattle.chess_model.specs.declared.variant.Variant.{Variant}
 use Rattle.chess_model.specs.declared.variant.Variant.TheVariants.{Chess, Crazyhouse, Bughouse, Fischer}
+use Rattle.fics_words.specs.Boards.{board_place, other_number}
+use Rattle.fics_words.specs.declared.board_number.BoardNumber.{BoardNumber}
 use Rattle.fics_words.specs.declared.refusal.Refusal.{Refusal}
 use Rattle.fics_words.specs.declared.refusal.Refusal.TheVariants.{NotPlaying}
 use Rattle.game_board.specs.Acked.{acknowledged}
@@ -15,31 +17,6 @@ use Rattle.game_board.specs.Board.{Board, new_board}
 use Rattle.game_board.specs.Flag.{flag_answer}
 use Rattle.game_board.specs.Learn.{learnt}
 use Rattle.game_board.specs.Play.{move_answer, play_after, play_reply}
-use Rattle.desk_boards.specs.declared.board_number.BoardNumber.{BoardNumber}
-use Rattle.desk_boards.specs.declared.board_number.BoardNumber.TheVariants.{First, Second}
-
--- where a board stands in the list of a game's boards
-abbrev pub place : BoardNumber → ℕ
-place First = 0
-place Second = 1
-
--- its number, in the rules and in records
-abbrev pub number_of : BoardNumber → ℕ
-number_of board = suc (place board)
-
--- the board that has a number, if one has it
-abbrev pub numbered : ℕ → Option BoardNumber
-numbered (suc zero) = Some First
-numbered (suc (suc zero)) = Some Second
-numbered _ = None
-
--- the other board of a pair
-abbrev pub other_number : BoardNumber → BoardNumber
-other_number First = Second
-other_number Second = First
-
-example_numbers : map numbered (0 ∷ 1 ∷ 2 ∷ 3 ∷ []) ≡ None ∷ Some First ∷ Some Second ∷ None ∷ []
-example_numbers = refl
 
 -- the numbers of the boards on which a variant is played
 abbrev pub board_numbers : Variant → List ℕ
@@ -90,9 +67,10 @@ told_answer b (Err cause) = b
 -- it in the same step, so that a man who is captured comes into a hand there
 abbrev pub boards_after : List Board → BoardNumber → ℕ → Option ℕ → Result Move Refusal → List Board
 boards_after boards board moment stamp answer =
-    changed_at (changed_at boards (place board) (λ b. play_after b moment stamp answer)) (place (other_number board))
+    changed_at (changed_at boards (board_place board) (λ b. play_after b moment stamp answer))
+    (board_place (other_number board))
     (λ b. told_answer b answer)
 
 -- the boards once a client of that colour has acknowledged one of them
 abbrev pub boards_acked : List Board → BoardNumber → Colour → ℕ → List Board
-boards_acked boards board colour stamp = changed_at boards (place board) (λ b. acknowledged b colour stamp)
+boards_acked boards board colour stamp = changed_at boards (board_place board) (λ b. acknowledged b colour stamp)

@@ -5,8 +5,8 @@ use Rattle.clock_ledger.specs.declared.charges.Charge.{Charge}
 use Rattle.game_board.specs.declared.played.Played.{Played}
 use Rattle.game_board.specs.Board.{Board}
 use Rattle.game_records.specs.declared.stored_game.Half.{Half}
-use Rattle.desk_boards.specs.Boards.{numbered}
-use Rattle.desk_boards.specs.declared.board_number.BoardNumber.{BoardNumber}
+use Rattle.fics_words.specs.Boards.{numbered_board}
+use Rattle.fics_words.specs.declared.board_number.BoardNumber.{BoardNumber}
 
 -- a half-move of a record, as the list of its board has it
 abbrev pub played_of : Half → Played
@@ -18,7 +18,7 @@ list_on board halves = map played_of (filter (λ h. nat_eq h.board board) halves
 
 -- the board on which the last of some half-moves was made, if there is one
 abbrev pub last_board : List Half → Option BoardNumber
-last_board halves = option_and_then (λ (h : Half). numbered h.board) (slice_get halves (length halves - 1))
+last_board halves = option_and_then (λ (h : Half). numbered_board h.board) (slice_get halves (length halves - 1))
 
 -- the charge of the first half-move of a list, if it has one
 abbrev pub first_charge : List Played → Option Charge

@@ -10,8 +10,9 @@ use Rattle.game_board.specs.Board.{Board, position_of}
 use Rattle.game_records.specs.declared.stored_game.Half.{Half}
 use Rattle.game_records.specs.Bounds.{AreHalves, IsHalf}
 use Rattle.game_records.specs.Replays.{CanBePlayed, GoesOn, half_moves}
-use Rattle.desk_boards.specs.Boards.{boards_acked, boards_after, latest, new_boards, word_at, place}
-use Rattle.desk_boards.specs.declared.board_number.BoardNumber.{BoardNumber}
+use Rattle.fics_words.specs.Boards.{board_place}
+use Rattle.desk_boards.specs.Boards.{boards_acked, boards_after, latest, new_boards, word_at}
+use Rattle.fics_words.specs.declared.board_number.BoardNumber.{BoardNumber}
 use Rattle.desk_boards.specs.Halves.{halves_of, list_on}
 use Rattle.desk_boards.specs.Replaying.{replayed, resumed_at}
 use Rattle.desk_boards.specs.Sound.{AreSoundBoards, GoOn}
@@ -59,7 +60,7 @@ pub record BoardsStaySound : Type 0 where
   pub play : (t : Terms) (boards : List Board) (board : BoardNumber) (moment : ℕ) (c : Colour) (word : MoveWord)
       (stamp : Option ℕ) → AreSoundBoards t boards → GoOn boards → latest boards ≤ moment → moment ≤ last_moment →
       IfSome stamp IsStamp →
-      AreSoundBoards t (boards_after boards board moment stamp (word_at (slice_get boards (place board)) c word))
+      AreSoundBoards t (boards_after boards board moment stamp (word_at (slice_get boards (board_place board)) c word))
   pub acked : (t : Terms) (boards : List Board) (board : BoardNumber) (c : Colour) (stamp : ℕ) →
       AreSoundBoards t boards → IsStamp stamp → AreSoundBoards t (boards_acked boards board c stamp)
   pub take_back : (t : Terms) (boards : List Board) (n moment : ℕ) → AreSoundBoards t boards → latest boards ≤ moment →
@@ -72,9 +73,9 @@ pub record EndsComeByMoves : Type 0 where
   pub start : (t : Terms) (moment : ℕ) → GoOn (new_boards t moment)
   pub play : (t : Terms) (boards : List Board) (board : BoardNumber) (moment : ℕ) (c : Colour) (word : MoveWord)
       (stamp : Option ℕ) → AreSoundBoards t boards → GoOn boards →
-      IfSome (slice_get (boards_after boards board moment stamp (word_at (slice_get boards (place board)) c word))
-      (place board)) (λ b. GoesOn (position_of b)) →
-      GoOn (boards_after boards board moment stamp (word_at (slice_get boards (place board)) c word))
+      IfSome (slice_get (boards_after boards board moment stamp (word_at (slice_get boards (board_place board)) c word))
+      (board_place board)) (λ b. GoesOn (position_of b)) →
+      GoOn (boards_after boards board moment stamp (word_at (slice_get boards (board_place board)) c word))
   pub acked : (boards : List Board) (board : BoardNumber) (c : Colour) (stamp : ℕ) → GoOn boards →
       GoOn (boards_acked boards board c stamp)
   pub take_back : (t : Terms) (boards : List Board) (n moment : ℕ) → AreSoundBoards t boards → latest boards ≤ moment →

@@ -8,8 +8,9 @@ use Rattle.game_board.specs.Board.{Board, position_of}
 use Rattle.game_board.specs.Learn.{learnt}
 use Rattle.game_board.specs.Put.{takes_played, with_put}
 use Rattle.game_records.specs.declared.stored_game.Half.{Half}
-use Rattle.desk_boards.specs.Boards.{changed_at, new_boards, numbered, other_number, place}
-use Rattle.desk_boards.specs.declared.board_number.BoardNumber.{BoardNumber}
+use Rattle.fics_words.specs.Boards.{numbered_board, other_number, board_place}
+use Rattle.desk_boards.specs.Boards.{changed_at, new_boards}
+use Rattle.fics_words.specs.declared.board_number.BoardNumber.{BoardNumber}
 use Rattle.desk_boards.specs.Halves.{played_of}
 
 -- whether a board is at no end: its player to move is neither mated nor stalemated
@@ -29,12 +30,14 @@ other_goes_on (Some b) = goes_on b
 -- whether the boards take a half-move at one of them: it takes it, and the other one of a pair hasn't ended the game
 abbrev pub takes_half : List Board → BoardNumber → Played → Bool
 takes_half boards board p =
-    own_takes (slice_get boards (place board)) p && other_goes_on (slice_get boards (place (other_number board)))
+    own_takes (slice_get boards (board_place board)) p
+    && other_goes_on (slice_get boards (board_place (other_number board)))
 
 -- the boards with one half-move more at one of them, with the charge that it has; the other of a pair learns of it
 abbrev pub boards_put : List Board → BoardNumber → Played → List Board
 boards_put boards board p =
-    changed_at (changed_at boards (place board) (λ b. with_put b p)) (place (other_number board)) (λ b. learnt b p.what)
+    changed_at (changed_at boards (board_place board) (λ b. with_put b p)) (board_place (other_number board))
+    (λ b. learnt b p.what)
 
 -- and if they take it
 abbrev pub boards_with : List Board → Played → BoardNumber → Option (List Board)
@@ -45,7 +48,7 @@ abbrev pub played_on : List Board → List Half → Option (List Board)
 played_on boards [] = Some boards
 played_on boards (h ∷ halves) =
     option_and_then (λ after. played_on after halves)
-    (option_and_then (boards_with boards (played_of h)) (numbered h.board))
+    (option_and_then (boards_with boards (played_of h)) (numbered_board h.board))
 
 -- the boards of a game on these terms that was played so, and is resumed at that moment
 abbrev pub replayed : Terms → List Half → ℕ → Option (List Board)

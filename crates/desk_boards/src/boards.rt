@@ -9,13 +9,13 @@ ghost use Rattle.game_board.specs.Board.{new_board};
 ghost use Rattle.desk_boards.specs.Claims.{claim_at};
 ghost use Rattle.desk_boards.specs.Replaying.{boards_put, own_takes};
 ghost use Rattle.desk_boards.specs.TakenBack.{boards_taken_back, lacks_half_moves};
-ghost use Rattle.desk_boards.specs.Boards.{boards_acked, boards_after, flag_at, latest, new_boards, reply_at, word_at, place};
+ghost use Rattle.fics_words.specs.Boards.{board_place};
+ghost use Rattle.desk_boards.specs.Boards.{boards_acked, boards_after, flag_at, latest, new_boards, reply_at, word_at};
 
-use crate::board_number::BoardNumber;
 use crate::linked::play_linked;
 use chess_model::{Colour, Man, MoveWord, Terms, Variant, Why};
 use clock_ledger::Moment;
-use fics_words::Refusal;
+use fics_words::{BoardNumber, Refusal};
 use game_board::{GameBoard, Played};
 use memory::NoMemory;
 use std::alloc::Global;
@@ -89,7 +89,7 @@ impl Boards {
 
     /// The board of that number, if the game has it.
     pub fn at(&self, board: BoardNumber) -> Option<&GameBoard>
-        ensures { option_copied result ≡ slice_get self.now (place board) }
+        ensures { option_copied result ≡ slice_get self.now (board_place board) }
     {
         match board {
             BoardNumber::First => Some(&self.first),
@@ -109,12 +109,12 @@ impl Boards {
     ) -> Result<Option<Man>, Refusal>
         requires order { latest self.old ≤ moment }
         requires stamp { IfSome stamp IsStamp }
-        ensures refused { first_cause (refused_by (word_at (slice_get self.old (place board)) colour word.now))
+        ensures refused { first_cause (refused_by (word_at (slice_get self.old (board_place board)) colour word.now))
             ≡ refusal_of result }
-        ensures reply { result ≡ reply_at (slice_get self.old (place board))
-            (word_at (slice_get self.old (place board)) colour word.now) }
+        ensures reply { result ≡ reply_at (slice_get self.old (board_place board))
+            (word_at (slice_get self.old (board_place board)) colour word.now) }
         ensures after { self.new ≡ boards_after self.old board moment stamp
-            (word_at (slice_get self.old (place board)) colour word.now) }
+            (word_at (slice_get self.old (board_place board)) colour word.now) }
         ensures unchanged { OnErr result (self.new ≡ self.old) }
         ensures order { latest self.new ≤ moment }
     {
@@ -133,8 +133,8 @@ impl Boards {
     /// Puts a half-move on a board, with the charge that it has. The other board of a pair learns of it. Takes no
     /// memory.
     pub(crate) fn put(&mut self, board: BoardNumber, half: &Played)
-        requires takes { IsTrue (own_takes (slice_get self.old (place board)) half.now) }
-        requires short { IfSome (slice_get self.old (place board)) (λ b. length b.list < most_halves) }
+        requires takes { IsTrue (own_takes (slice_get self.old (board_place board)) half.now) }
+        requires short { IfSome (slice_get self.old (board_place board)) (λ b. length b.list < most_halves) }
         requires sound { IfSome half.now.charge IsChargeable }
         ensures after { self.new ≡ boards_put self.old board half.now }
     {
@@ -159,7 +159,7 @@ impl Boards {
 
     /// The draw that may be claimed at a board, if there is one.
     pub fn claim(&self, board: BoardNumber) -> Option<Why>
-        ensures { result ≡ claim_at (slice_get self.now (place board)) }
+        ensures { result ≡ claim_at (slice_get self.now (board_place board)) }
     {
         let board = self.at(board)?;
         match board.claim_draw() {
@@ -203,7 +203,7 @@ impl Boards {
         moment: Moment,
     ) -> Result<Option<Colour>, Refusal>
         requires order { latest self.now ≤ moment }
-        ensures { result ≡ flag_at (slice_get self.now (place board)) caller moment }
+        ensures { result ≡ flag_at (slice_get self.now (board_place board)) caller moment }
     {
         match board {
             BoardNumber::First => self.first.flag(caller, moment),

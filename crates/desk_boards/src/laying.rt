@@ -5,12 +5,12 @@ ghost use Rattle.chess_model.specs.Allowed.{Allowed};
 ghost use Rattle.clock_ledger.specs.Charges.{IsChargeable};
 ghost use Rattle.game_board.specs.Board.{position_of};
 ghost use Rattle.game_board.specs.Rewind.{rewound};
-ghost use Rattle.desk_boards.specs.Boards.{place};
+ghost use Rattle.fics_words.specs.Boards.{board_place};
 ghost use Rattle.desk_boards.specs.Replaying.{boards_put};
 
-use crate::board_number::BoardNumber;
 use crate::boards::Boards;
 use crate::linked::lay_linked;
+use fics_words::BoardNumber;
 use game_board::Played;
 
 impl Boards {
@@ -28,10 +28,10 @@ impl Boards {
     /// Lays an allowed half-move on a board, with the charge that it has, if it has one; whether a charge belongs there
     /// isn't asked. The other board of a pair learns of it. Takes no memory.
     pub fn lay(&mut self, board: BoardNumber, half: &Played)
-        requires there { IsSome (slice_get self.old (place board)) }
-        requires allowed { IfSome (slice_get self.old (place board)) (λ b. Allowed (position_of b) half.now.what) }
-        requires room { IfSome (slice_get self.old (place board)) (λ b. b.played < most_halves) }
-        requires short { IfSome (slice_get self.old (place board)) (λ b. length b.list < most_halves) }
+        requires there { IsSome (slice_get self.old (board_place board)) }
+        requires allowed { IfSome (slice_get self.old (board_place board)) (λ b. Allowed (position_of b) half.now.what) }
+        requires room { IfSome (slice_get self.old (board_place board)) (λ b. b.played < most_halves) }
+        requires short { IfSome (slice_get self.old (board_place board)) (λ b. length b.list < most_halves) }
         requires sound { IfSome half.now.charge IsChargeable }
         ensures after { self.new ≡ boards_put self.old board half.now }
     {

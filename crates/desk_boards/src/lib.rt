@@ -6,7 +6,6 @@
 //! exactly where such half-moves can be played. `rewind` and `lay` go through a game that was played.
 #![tactic(auto)]
 
-mod board_number;
 mod boards;
 mod halves;
 mod laws;
@@ -15,7 +14,6 @@ mod linked;
 mod replay;
 mod stored;
 
-pub use board_number::BoardNumber;
 pub use boards::Boards;
 pub use laws::{boards_are_replayed, boards_stay_sound, ends_come_by_moves, halves_are_the_boards};
 pub use stored::replays;

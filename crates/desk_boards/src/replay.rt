@@ -3,14 +3,14 @@ ghost use Rattle.std.specs.Prelude.{◌≡◌, ◌<◌, IfOk, IfSome, IsTrue, le
 ghost use Rattle.std.specs.List.{AllByRecursion};
 ghost use Rattle.chess_model.specs.Limits.{most_halves};
 ghost use Rattle.game_records.specs.Bounds.{IsCharge};
-ghost use Rattle.desk_boards.specs.Boards.{place};
+ghost use Rattle.fics_words.specs.Boards.{board_place};
 ghost use Rattle.desk_boards.specs.Halves.{played_of};
 ghost use Rattle.desk_boards.specs.Replaying.{goes_on, replayed, takes_half};
 
-use crate::board_number::BoardNumber;
 use crate::boards::Boards;
 use chess_model::Terms;
 use clock_ledger::Moment;
+use fics_words::BoardNumber;
 use game_board::{GameBoard, Played};
 use game_records::{Half, PackedHalf};
 use memory::NoMemory;
@@ -48,7 +48,7 @@ impl Boards {
     /// Whether the boards take a half-move at this one, with the charge that it has.
     fn takes(&self, board: BoardNumber, half: &Played) -> bool
         ensures value { result ≡ takes_half self.now board half.now }
-        ensures short { IsTrue result → IfSome (slice_get self.now (place board)) (λ b. length b.list < most_halves) }
+        ensures short { IsTrue result → IfSome (slice_get self.now (board_place board)) (λ b. length b.list < most_halves) }
     {
         let Some(own) = self.at(board) else {
             return false;

@@ -24,7 +24,8 @@ use Rattle.linked_desk.specs.Desk.{DeskState, GameState, moment_at, seat_of}
 use Rattle.linked_desk.specs.Playing.{moved, moved_by, seat_word, with_cleared, word_by}
 use Rattle.linked_desk.specs.Seats.{board_of, colour_at}
 use Rattle.linked_desk.specs.Sound.{IsSound}
-use Rattle.desk_boards.specs.Boards.{boards_after, word_at, place}
+use Rattle.fics_words.specs.Boards.{board_place}
+use Rattle.desk_boards.specs.Boards.{boards_after, word_at}
 use Rattle.move_reader.specs.Reading.{reading}
 use Rattle.one_server.specs.declared.act.Timed.{Timed}
 use Rattle.one_server.specs.declared.part.Part.{Part}
@@ -119,7 +120,7 @@ module _ (parts : List Part) (whole : IsWhole parts) (number : ℕ) (desk : Desk
           ∙ (λ i.
           unless (none i) desk (record desk { game = Some (moved_by desk.number game moment (sits i) word stamp) }))
 
-      played_at : (b : Board) → slice_get game.boards (place (board_of seat)) ≡ Some b
+      played_at : (b : Board) → slice_get game.boards (board_place (board_of seat)) ≡ Some b
           → IsPlayed (after house parts session timed) number seat (moment_at game moment) b m
       played_at b there = record {
         desk = record desk { game = Some game_then };
@@ -128,11 +129,11 @@ module _ (parts : List Part) (whole : IsWhole parts) (number : ℕ) (desk : Desk
         plays = refl;
         board = with_half_move b m (moment_at game moment) stamp;
         there =
-            ap (λ (boards : List Board). slice_get boards (place (board_of seat)))
+            ap (λ (boards : List Board). slice_get boards (board_place (board_of seat)))
             (boards_moved desk.number (with_cleared seat game) moment (board_of seat) stamp (seat_word game seat word))
             ∙ (λ i.
             slice_get (boards_after game.boards (board_of seat) (moment_at game moment) stamp (is i))
-            (place (board_of seat)))
+            (board_place (board_of seat)))
             ∙ board_after game.boards (board_of seat) (moment_at game moment) stamp b m there;
         last = record { what = m; charge = next_charge b (moment_at game moment) stamp };
         half_moves = refl;
@@ -145,8 +146,8 @@ module _ (parts : List Part) (whole : IsWhole parts) (number : ℕ) (desk : Desk
         → IsLegalMove parts (after house parts session timed) number session moment game word
     accepted_at seat sits runs m e =
         let is : seat_word game seat word ≡ Ok m = sym (ap (λ (o : Option ℕ). word_by game o word) sits) ∙ e in
-        let at = played_there (slice_get game.boards (place (board_of seat))) (colour_at seat) word m is in
-        let by = word_taken at.0 (colour_at seat) word m (few (place (board_of seat)) at.0 at.1) at.2 in
+        let at = played_there (slice_get game.boards (board_place (board_of seat))) (colour_at seat) word m is in
+        let by = word_taken at.0 (colour_at seat) word m (few (board_place (board_of seat)) at.0 at.1) at.2 in
         record {
           board = at.0;
           mover = record { seat = seat; sits = sits; board = at.1; turn = by.0; runs = runs; room = by.1 };
@@ -173,7 +174,7 @@ module _ (parts : List Part) (whole : IsWhole parts) (number : ℕ) (desk : Desk
         accepted_reply to.seat to.sits to.runs m is
 
   legal_there : (session : ℕ) (b : Board) → IsToMove game session b → IsLegal b.terms.variant b.all
-  legal_there session b to = (score (place (board_of to.seat)) b to.board).legal
+  legal_there session b to = (score (board_place (board_of to.seat)) b to.board).legal
 
   each_text : (session : ℕ) (b : Board) (m : Move) → IsToMove game session b → Allowed (position_of b) m
       → (word : MoveWord) × (reading (pretty_in (position_of b) m) ≡ Some word) × IsAnswer (position_of b) word m

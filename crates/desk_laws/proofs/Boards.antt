@@ -13,9 +13,10 @@ use Rattle.game_board.specs.Play.{next_charge, play_after, with_half_move}
 use Rattle.histories.proofs.Parts.{get_set_else, get_set_same}
 use Rattle.style12_writer.specs.declared.item.Item.{Item}
 use Rattle.style12_writer.specs.declared.view.BoardView.{BoardView}
-use Rattle.desk_boards.specs.Boards.{boards_after, changed_at, reply_at, set_board, told_answer, other_number, place}
-use Rattle.desk_boards.specs.declared.board_number.BoardNumber.{BoardNumber}
-use Rattle.desk_boards.specs.declared.board_number.BoardNumber.TheVariants.{First, Second}
+use Rattle.fics_words.specs.Boards.{other_number, board_place}
+use Rattle.desk_boards.specs.Boards.{boards_after, changed_at, reply_at, set_board, told_answer}
+use Rattle.fics_words.specs.declared.board_number.BoardNumber.{BoardNumber}
+use Rattle.fics_words.specs.declared.board_number.BoardNumber.TheVariants.{First, Second}
 use Rattle.linked_desk.specs.declared.ended.Ended.{Ended}
 use Rattle.linked_desk.specs.Desk.{GameState, moment_at}
 use Rattle.linked_desk.specs.Finish.{end_at, with_end}
@@ -46,12 +47,12 @@ boards_moved desk g moment board stamp answer =
     record g { boards = boards_after g.boards board (moment_at g moment) stamp answer; last = moment_at g moment } in
     let shown : GameState = shown_moved desk g moment board stamp answer in
     let held : GameState = held_moved desk g moment board stamp answer in
-    let man : Option Man = captured_by (reply_at (slice_get g.boards (place board)) answer) in
+    let man : Option Man = captured_by (reply_at (slice_get g.boards (board_place board)) answer) in
     let own : GameState = with_hands desk board man shown in
     same_with_end desk held moment (end_at held board)
     ∙ same_with_item own (partner_hands_at desk own board man)
     ∙ same_with_item shown (hands_at desk shown board man)
-    ∙ same_with_view after (slice_get (views_of desk after) (place board))
+    ∙ same_with_view after (slice_get (views_of desk after) (board_place board))
 
 -- ---- one board is changed
 
@@ -70,18 +71,20 @@ changed_else : (boards : List Board) (k j : ℕ) (change : Board → Board) → 
     → slice_get (changed_at boards k change) j ≡ slice_get boards j
 changed_else boards k j change other = set_else boards k j (option_map change (slice_get boards k)) other
 
-other_differs : (board : BoardNumber) → place board ≢ place (other_number board)
+other_differs : (board : BoardNumber) → board_place board ≢ board_place (other_number board)
 other_differs First e = omega (arith, e)
 other_differs Second e = omega (arith, e)
 
 -- the board has the half-move
 pub board_after : (boards : List Board) (board : BoardNumber) (moment : ℕ) (stamp : Option ℕ) (b : Board) (m : Move)
-    → slice_get boards (place board) ≡ Some b
-    → slice_get (boards_after boards board moment stamp (Ok m)) (place board) ≡ Some (with_half_move b m moment stamp)
+    → slice_get boards (board_place board) ≡ Some b
+    → slice_get (boards_after boards board moment stamp (Ok m)) (board_place board)
+    ≡ Some (with_half_move b m moment stamp)
 board_after boards board moment stamp b m e =
-    changed_else (changed_at boards (place board) (λ x. play_after x moment stamp (Ok m))) (place (other_number board))
-    (place board) (λ x. told_answer x (Ok m)) (other_differs board)
-    ∙ changed_here boards (place board) (λ x. play_after x moment stamp (Ok m)) b e
+    changed_else (changed_at boards (board_place board) (λ x. play_after x moment stamp (Ok m)))
+    (board_place (other_number board))
+    (board_place board) (λ x. told_answer x (Ok m)) (other_differs board)
+    ∙ changed_here boards (board_place board) (λ x. play_after x moment stamp (Ok m)) b e
 
 -- what it is charged
 abbrev IsCharged : Board → ℕ → Option Charge → Type 0

@@ -14,7 +14,7 @@ use Rattle.histories.specs.Core.{after, reply}
 use Rattle.linked_desk.specs.declared.acts.DeskAct.TheVariants as act
 use Rattle.linked_desk.specs.declared.acts.DeskReply.TheVariants.{Done}
 use Rattle.linked_desk.specs.Desk.{DeskState, GameState, moment_at, seat_of}
-use Rattle.desk_boards.specs.Boards.{place}
+use Rattle.fics_words.specs.Boards.{board_place}
 use Rattle.linked_desk.specs.Seats.{board_of, colour_at}
 use Rattle.move_reader.specs.Reading.{reading}
 use Rattle.one_server.specs.declared.act.Act.TheVariants.{Desk}
@@ -30,7 +30,7 @@ use Rattle.rules_reading.specs.ReadsBack.{pretty_in}
 pub record IsToMove (game : GameState) (session : ℕ) (b : Board) : Type 0 where
   pub seat : ℕ
   pub sits : seat_of game session ≡ Some seat
-  pub board : slice_get game.boards (place (board_of seat)) ≡ Some b
+  pub board : slice_get game.boards (board_place (board_of seat)) ≡ Some b
   pub turn : to_move b ≡ colour_at seat
   pub runs : game.ended ≡ None
   pub room : b.played < most_halves
@@ -47,7 +47,7 @@ pub record IsPlayed (later : List Part) (number seat moment : ℕ) (b : Board) (
   pub game : GameState
   pub plays : desk.game ≡ Some game
   pub board : Board
-  pub there : slice_get game.boards (place (board_of seat)) ≡ Some board
+  pub there : slice_get game.boards (board_place (board_of seat)) ≡ Some board
   pub last : Played
   pub half_moves : board.list ≡ b.list ++ last ∷ []
   pub is_move : last.what ≡ m

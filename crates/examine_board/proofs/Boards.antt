@@ -13,9 +13,10 @@ use Rattle.game_board.specs.Rewind.{rewound}
 use Rattle.game_records.specs.declared.stored_game.Half.{Half}
 use Rattle.game_records.specs.Bounds as bounds
 use Rattle.game_records.specs.Replays.{half_moves, made_on}
-use Rattle.desk_boards.specs.Boards.{board_numbers, number_of, place}
-use Rattle.desk_boards.specs.declared.board_number.BoardNumber.{BoardNumber}
-use Rattle.desk_boards.specs.declared.board_number.BoardNumber.TheVariants.{First, Second}
+use Rattle.fics_words.specs.Boards.{board_number, board_place}
+use Rattle.desk_boards.specs.Boards.{board_numbers}
+use Rattle.fics_words.specs.declared.board_number.BoardNumber.{BoardNumber}
+use Rattle.fics_words.specs.declared.board_number.BoardNumber.TheVariants.{First, Second}
 use Rattle.desk_boards.specs.Halves.{list_on, played_of}
 use Rattle.desk_boards.specs.Replaying.{boards_put}
 use Rattle.desk_boards.proofs.Halved.{list_on-own, list_on-else}
@@ -121,13 +122,13 @@ board_told t halves h n other number =
 
 -- ---- all boards
 
-one_board : (t : Terms) (halves : List Half) (h : Half) (board : BoardNumber) → h.board ≡ number_of board
+one_board : (t : Terms) (halves : List Half) (h : Half) (board : BoardNumber) → h.board ≡ board_number board
     → h.board ≤ 1 →
     boards_put (board_after t halves 1 ∷ []) board (played_of h) ≡ board_after t (halves ++ h ∷ []) 1 ∷ []
 one_board t halves h First own last = ap (λ b. b ∷ []) (board_more t halves h 1 own)
 one_board t halves h Second own last = absurd (omega (arith, own, last))
 
-two_boards : (t : Terms) (halves : List Half) (h : Half) (board : BoardNumber) → h.board ≡ number_of board →
+two_boards : (t : Terms) (halves : List Half) (h : Half) (board : BoardNumber) → h.board ≡ board_number board →
     boards_put (board_after t halves 1 ∷ board_after t halves 2 ∷ []) board (played_of h)
     ≡ board_after t (halves ++ h ∷ []) 1 ∷ board_after t (halves ++ h ∷ []) 2 ∷ []
 two_boards t halves h First own =
@@ -138,7 +139,7 @@ two_boards t halves h Second own =
     λ i. board_told t halves h 1 other (sym own) i ∷ board_more t halves h 2 own i ∷ []
 
 boards_more : (v : Variant) (t : Terms) (halves : List Half) (h : Half) (board : BoardNumber)
-    → h.board ≡ number_of board → h.board ≤ bounds.boards v →
+    → h.board ≡ board_number board → h.board ≤ bounds.boards v →
     boards_put (map (board_after t halves) (board_numbers v)) board (played_of h)
     ≡ map (board_after t (halves ++ h ∷ [])) (board_numbers v)
 boards_more Chess t halves h board own last = one_board t halves h board own last
@@ -147,15 +148,15 @@ boards_more (Fischer number) t halves h board own last = one_board t halves h bo
 boards_more Bughouse t halves h board own last = two_boards t halves h board own
 
 -- a half-move more is laid on the boards
-pub boards_laid : (t : Terms) (halves : List Half) (h : Half) (board : BoardNumber) → h.board ≡ number_of board
+pub boards_laid : (t : Terms) (halves : List Half) (h : Half) (board : BoardNumber) → h.board ≡ board_number board
     → h.board ≤ bounds.boards t.variant →
     boards_put (boards_after t halves) board (played_of h) ≡ boards_after t (halves ++ h ∷ [])
 boards_laid t halves h board own last = boards_more t.variant t halves h board own last
 
 -- a board in its place
-board_in : (v : Variant) (t : Terms) (halves : List Half) (board : BoardNumber) → number_of board ≤ bounds.boards v →
-    slice_get (map (board_after t halves) (board_numbers v)) (place board)
-    ≡ Some (board_after t halves (number_of board))
+board_in : (v : Variant) (t : Terms) (halves : List Half) (board : BoardNumber) → board_number board ≤ bounds.boards v →
+    slice_get (map (board_after t halves) (board_numbers v)) (board_place board)
+    ≡ Some (board_after t halves (board_number board))
 board_in Chess t halves First last = refl
 board_in Crazyhouse t halves First last = refl
 board_in (Fischer number) t halves First last = refl
@@ -165,8 +166,9 @@ board_in Chess t halves Second last = absurd (omega (arith, last))
 board_in Crazyhouse t halves Second last = absurd (omega (arith, last))
 board_in (Fischer number) t halves Second last = absurd (omega (arith, last))
 
-pub board_there : (t : Terms) (halves : List Half) (board : BoardNumber) → number_of board ≤ bounds.boards t.variant →
-    slice_get (boards_after t halves) (place board) ≡ Some (board_after t halves (number_of board))
+pub board_there : (t : Terms) (halves : List Half) (board : BoardNumber)
+    → board_number board ≤ bounds.boards t.variant →
+    slice_get (boards_after t halves) (board_place board) ≡ Some (board_after t halves (board_number board))
 board_there t halves board last = board_in t.variant t halves board last
 
 -- the boards at the start of the game

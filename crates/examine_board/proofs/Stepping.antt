@@ -5,8 +5,8 @@ use Rattle.chess_model.specs.declared.variant.Terms.{Terms}
 use Rattle.chess_model.specs.Allowed.{Allowed}
 use Rattle.game_board.specs.Board.{Board, position_of}
 use Rattle.game_records.specs.declared.stored_game.Half.{Half}
-use Rattle.desk_boards.specs.Boards.{number_of, numbered, place}
-use Rattle.desk_boards.specs.declared.board_number.BoardNumber.{BoardNumber}
+use Rattle.fics_words.specs.Boards.{board_number, numbered_board, board_place}
+use Rattle.fics_words.specs.declared.board_number.BoardNumber.{BoardNumber}
 use Rattle.desk_boards.specs.Halves.{played_of}
 use Rattle.desk_boards.specs.Replaying.{boards_put}
 use Rattle.desk_boards.proofs.Pairs.{number_of-numbered}
@@ -29,32 +29,34 @@ unfolding position_of
 allowed_on t halves h lies = lies.allowed
 
 module _ (t : Terms) (halves : List Half) (h : Half) (board : BoardNumber) (boards : List Board)
-    (on : numbered h.board ≡ Some board) (lies : MayLie t halves h)
+    (on : numbered_board h.board ≡ Some board) (lies : MayLie t halves h)
     (are : boards ≡ boards_after t halves) where
-  own : number_of board ≡ h.board
+  own : board_number board ≡ h.board
   own = number_of-numbered h.board board on
 
-  there : slice_get boards (place board) ≡ Some (board_after t halves h.board)
+  there : slice_get boards (board_place board) ≡ Some (board_after t halves h.board)
   there =
-      ap (λ (bs : List Board). slice_get bs (place board)) are
+      ap (λ (bs : List Board). slice_get bs (board_place board)) are
       ∙ board_there t halves board (subst (λ (n : ℕ). n ≤ bounds.boards t.variant) (sym own) lies.last)
       ∙ ap (λ (n : ℕ). Some (board_after t halves n)) own
 
-  pub lay_board : IsSome (slice_get boards (place board))
-  lay_board = there_some (slice_get boards (place board)) (board_after t halves h.board) there
+  pub lay_board : IsSome (slice_get boards (board_place board))
+  lay_board = there_some (slice_get boards (board_place board)) (board_after t halves h.board) there
 
-  pub lay_allowed : IfSome (slice_get boards (place board)) (λ b. Allowed (position_of b) h.what)
+  pub lay_allowed : IfSome (slice_get boards (board_place board)) (λ b. Allowed (position_of b) h.what)
   lay_allowed =
-      there_if (λ b. Allowed (position_of b) h.what) (slice_get boards (place board)) (board_after t halves h.board)
+      there_if (λ b. Allowed (position_of b) h.what) (slice_get boards (board_place board))
+      (board_after t halves h.board)
       there (allowed_on t halves h lies)
 
-  pub lay_room : IfSome (slice_get boards (place board)) (λ b. b.played < 1200)
+  pub lay_room : IfSome (slice_get boards (board_place board)) (λ b. b.played < 1200)
   lay_room =
-      there_if (λ b. b.played < 1200) (slice_get boards (place board)) (board_after t halves h.board) there lies.room
+      there_if (λ b. b.played < 1200) (slice_get boards (board_place board)) (board_after t halves h.board) there
+      lies.room
 
-  pub lay_short : IfSome (slice_get boards (place board)) (λ b. length b.list < 1200)
+  pub lay_short : IfSome (slice_get boards (board_place board)) (λ b. length b.list < 1200)
   lay_short =
-      there_if (λ b. length b.list < 1200) (slice_get boards (place board)) (board_after t halves h.board) there
+      there_if (λ b. length b.list < 1200) (slice_get boards (board_place board)) (board_after t halves h.board) there
       lies.room
 
   pub laid : (new : List Board) → new ≡ boards_put boards board (played_of h) → new ≡ boards_after t (halves ++ h ∷ [])

@@ -20,7 +20,7 @@ use Rattle.game_board.specs.Play.{move_answer}
 use Rattle.game_records.specs.declared.stored_game.Half.{Half}
 use Rattle.game_records.specs.Bounds as bounds
 use Rattle.desk_boards.specs.Boards.{board_numbers}
-use Rattle.desk_boards.specs.declared.board_number.BoardNumber.TheVariants.{First}
+use Rattle.fics_words.specs.declared.board_number.BoardNumber.TheVariants.{First}
 use Rattle.desk_boards.specs.Halves.{list_on}
 use Rattle.examine_board.specs.Exam.{ExamState, board_after, board_on, boards_after, present}
 use Rattle.examine_board.specs.Laid.{CanBeLaid, MayLie}

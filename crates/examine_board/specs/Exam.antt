@@ -5,8 +5,9 @@ use Rattle.game_board.specs.Board.{Board}
 use Rattle.game_records.specs.declared.stored_game.Half.{Half}
 use Rattle.game_records.specs.declared.stored_game.StoredGame.{StoredGame}
 use Rattle.game_records.specs.Replays.{half_moves}
-use Rattle.desk_boards.specs.Boards.{board_numbers, number_of}
-use Rattle.desk_boards.specs.declared.board_number.BoardNumber.{BoardNumber}
+use Rattle.fics_words.specs.Boards.{board_number}
+use Rattle.desk_boards.specs.Boards.{board_numbers}
+use Rattle.fics_words.specs.declared.board_number.BoardNumber.{BoardNumber}
 use Rattle.desk_boards.specs.Halves.{list_on}
 
 pub record ExamState : Type 0 where
@@ -47,4 +48,4 @@ boards_after t halves = map (board_after t halves) (board_numbers t.variant)
 
 -- a board where the exam is
 abbrev pub board_on : ExamState → BoardNumber → Board
-board_on e board = board_after e.terms (present e) (number_of board)
+board_on e board = board_after e.terms (present e) (board_number board)

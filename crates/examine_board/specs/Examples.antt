@@ -5,7 +5,7 @@ use Rattle.chess_model.specs.declared.variant.Variant.TheVariants.{Chess}
 use Rattle.clock_ledger.specs.declared.charges.Charge.{Charge}
 use Rattle.fics_words.specs.declared.refusal.Refusal.TheVariants.{NoMoreMoves, NoEarlierMoves}
 use Rattle.game_records.specs.declared.stored_game.Half.{Half}
-use Rattle.desk_boards.specs.declared.board_number.BoardNumber.TheVariants.{First, Second}
+use Rattle.fics_words.specs.declared.board_number.BoardNumber.TheVariants.{First, Second}
 use Rattle.examine_board.specs.Exam.{ExamState}
 use Rattle.examine_board.specs.Lines.{shown_behind}
 use Rattle.examine_board.specs.Play.{uncharged, with_move}

@@ -10,9 +10,9 @@ use Rattle.game_board.specs.Board.{Board, position_of}
 use Rattle.game_board.specs.BoardFace.{board_face, last_taken}
 use Rattle.game_board.specs.Charges.{remaining_of}
 use Rattle.game_records.specs.declared.stored_game.Half.{Half}
-use Rattle.desk_boards.specs.Boards.{number_of}
-use Rattle.desk_boards.specs.declared.board_number.BoardNumber.{BoardNumber}
-use Rattle.desk_boards.specs.declared.board_number.BoardNumber.TheVariants.{First}
+use Rattle.fics_words.specs.Boards.{board_number}
+use Rattle.fics_words.specs.declared.board_number.BoardNumber.{BoardNumber}
+use Rattle.fics_words.specs.declared.board_number.BoardNumber.TheVariants.{First}
 use Rattle.desk_boards.specs.Halves.{last_board}
 use Rattle.style12_writer.specs.declared.view.BoardView.{BoardView}
 use Rattle.style12_writer.specs.declared.view.Viewer.{Viewer}
@@ -37,9 +37,9 @@ name_at names seat = slice_index_or names seat []
 unfoldable pub view_of : ExamState → BoardNumber → BoardView
 view_of e board = record {
   face = board_face (board_on e board);
-  game = number_of board;
-  white = name_at e.names (2 * number_of board - 2);
-  black = name_at e.names (2 * number_of board - 1);
+  game = board_number board;
+  white = name_at e.names (2 * board_number board - 2);
+  black = name_at e.names (2 * board_number board - 1);
   minutes = e.terms.minutes;
   increment = e.terms.increment;
   remaining = remaining_of (board_on e board) White ∷ remaining_of (board_on e board) Black ∷ [];

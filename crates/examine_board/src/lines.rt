@@ -1,14 +1,13 @@
 //! The lines that show where the exam is.
 ghost use Rattle.std.specs.Prelude.{◌≡◌, ◌*◌, ◌<◌, ◌≤◌, ◌++◌, IfOk, OnOk};
 ghost use Rattle.game_records.specs.Bounds as bounds;
-ghost use Rattle.desk_boards.specs.Boards.{number_of};
+ghost use Rattle.fics_words.specs.Boards.{board_number};
 ghost use Rattle.examine_board.specs.Exam.{board_on};
 ghost use Rattle.examine_board.specs.Lines.{exam_lines, hands_line, hands_lines, name_at, shown_board, view_of};
 
 use crate::exam::Exam;
 use chess_model::{Colour, has_drops};
-use desk_boards::BoardNumber;
-use fics_words::{Handle, Line};
+use fics_words::{BoardNumber, Handle, Line};
 use game_board::GameBoard;
 use memory::NoMemory;
 use std::alloc::Global;
@@ -36,7 +35,7 @@ impl Exam {
     /// The board that is shown.
     fn shown_board(&self) -> BoardNumber
         ensures value { result ≡ shown_board self.now }
-        ensures last { number_of result ≤ bounds.boards self.now.terms.variant }
+        ensures last { board_number result ≤ bounds.boards self.now.terms.variant }
     {
         if self.point == 0 {
             return BoardNumber::First;
@@ -48,7 +47,7 @@ impl Exam {
     /// What the line of a board shows.
     #[tactic(auto, unfolding(crate::specs::Lines::view_of))]
     fn view(&self, shown: BoardNumber) -> BoardView
-        requires { number_of shown ≤ bounds.boards self.now.terms.variant }
+        requires { board_number shown ≤ bounds.boards self.now.terms.variant }
         ensures { result ≡ view_of self.now shown }
     {
         let board = self.board(shown);
@@ -70,7 +69,7 @@ impl Exam {
 
     /// The board of that number.
     fn board(&self, number: BoardNumber) -> &GameBoard
-        requires { number_of number ≤ bounds.boards self.now.terms.variant }
+        requires { board_number number ≤ bounds.boards self.now.terms.variant }
         ensures { result.now ≡ board_on self.now number }
     {
         let Some(board) = self.boards.at(number) else {

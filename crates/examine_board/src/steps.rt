@@ -7,8 +7,7 @@ ghost use Rattle.examine_board.specs.Steps.{backed, forwarded, reverted};
 
 use crate::exam::Exam;
 use crate::same::is_same_half;
-use desk_boards::BoardNumber;
-use fics_words::Refusal;
+use fics_words::{BoardNumber, Refusal};
 use game_board::Played;
 
 impl Exam {

@@ -1,5 +1,5 @@
 //! The words that every part of the server shares: refusals with their numbers and names, failures, handles
-//! of players, lines of text, decimals, numbers of desks, accounts and players.
+//! of players, lines of text, decimals, numbers of boards and desks, accounts and players.
 //!
 //! The contract: a reader gives a value exactly where its grammar has one, and the value stands for the very
 //! bytes that were read; a refusal has one number and one name; a call that takes memory answers its error
@@ -7,6 +7,7 @@
 #![tactic(auto)]
 
 mod account;
+mod board_number;
 mod desk_number;
 mod fail;
 mod handle;
@@ -18,6 +19,7 @@ mod refusal;
 mod seats;
 
 pub use account::{Account, Digest};
+pub use board_number::BoardNumber;
 pub use desk_number::DeskNumber;
 pub use fail::Fail;
 pub use handle::{Handle, HandleKey, MOST_HANDLE_LETTERS};

@@ -11,8 +11,9 @@ use Rattle.offer_book.proofs.Meaning.{clears_for_the_move}
 use Rattle.style12_writer.specs.declared.item.Item.{Item}
 use Rattle.style12_writer.specs.declared.view.BoardView.{BoardView}
 use Rattle.linked_desk.specs.declared.ended.Ended.{Ended}
-use Rattle.desk_boards.specs.Boards.{reply_at, place}
-use Rattle.desk_boards.specs.declared.board_number.BoardNumber.{BoardNumber}
+use Rattle.fics_words.specs.Boards.{board_place}
+use Rattle.desk_boards.specs.Boards.{reply_at}
+use Rattle.fics_words.specs.declared.board_number.BoardNumber.{BoardNumber}
 use Rattle.linked_desk.specs.Desk.{GameState}
 use Rattle.linked_desk.specs.Finish.{end_at, with_end}
 use Rattle.linked_desk.specs.Hands.{hands_at, partner_hands_at}
@@ -43,12 +44,12 @@ same_moved desk g moment board stamp answer =
     let after : GameState = played g moment board stamp answer in
     let shown : GameState = shown_moved desk g moment board stamp answer in
     let held : GameState = held_moved desk g moment board stamp answer in
-    let man : Option Man = captured_by (reply_at (slice_get g.boards (place board)) answer) in
+    let man : Option Man = captured_by (reply_at (slice_get g.boards (board_place board)) answer) in
     let own : GameState = with_hands desk board man shown in
     same_with_end desk held moment (end_at held board)
     ∙ same_with_item own (partner_hands_at desk own board man)
     ∙ same_with_item shown (hands_at desk shown board man)
-    ∙ same_with_view after (slice_get (views_of desk after) (place board))
+    ∙ same_with_view after (slice_get (views_of desk after) (board_place board))
 
 pub cleared_by_move : (desk : ℕ) (g : GameState) (moment seat : ℕ) (word : MoveWord) (stamp : Option ℕ)
     → IsCleared (moved_by desk g moment (Some seat) word stamp).offers.standing seat

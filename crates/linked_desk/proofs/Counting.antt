@@ -8,7 +8,7 @@ use Rattle.style12_writer.specs.OfferLines.{taken_text}
 use Rattle.style12_writer.specs.declared.item.Item.{Item}
 use Rattle.style12_writer.specs.declared.item.Item.TheVariants as item
 use Rattle.style12_writer.specs.declared.view.BoardView.{BoardView}
-use Rattle.desk_boards.specs.declared.board_number.BoardNumber.TheVariants.{First}
+use Rattle.fics_words.specs.declared.board_number.BoardNumber.TheVariants.{First}
 use Rattle.linked_desk.specs.Desk.{GameState}
 use Rattle.linked_desk.specs.Hands.{first_hands}
 use Rattle.linked_desk.specs.Offering.{agreed, with_taken}

@@ -6,7 +6,7 @@ use Rattle.chess_model.specs.declared.states.State.{State}
 use Rattle.chess_model.specs.declared.states.State.TheVariants.{Safe, Check, Mate, Stalemate}
 use Rattle.chess_model.specs.Result.{result, is_end}
 use Rattle.game_board.specs.Board.{Board, to_move, position_of}
-use Rattle.desk_boards.specs.declared.board_number.BoardNumber.{BoardNumber}
+use Rattle.fics_words.specs.declared.board_number.BoardNumber.{BoardNumber}
 use Rattle.linked_desk.specs.declared.ended.Ended.{Ended}
 use Rattle.linked_desk.specs.Desk.{GameState, occupant}
 use Rattle.linked_desk.specs.Finish.{end_in, end_on, end_at, with_end, finished}

@@ -19,9 +19,10 @@ use Rattle.game_records.specs.Bounds as bounds
 use Rattle.game_records.specs.Bounds.{IsHalf}
 use Rattle.game_records.specs.Replays.{CanBePlayed, GoesOn, MayCome, OtherGoesOn, half_moves, position_on}
 use Rattle.game_records.proofs.Played.{by_steps}
-use Rattle.desk_boards.specs.Boards.{board_numbers, new_boards, number_of, numbered, place}
-use Rattle.desk_boards.specs.declared.board_number.BoardNumber.{BoardNumber}
-use Rattle.desk_boards.specs.declared.board_number.BoardNumber.TheVariants.{First, Second}
+use Rattle.fics_words.specs.Boards.{board_number, numbered_board, board_place}
+use Rattle.desk_boards.specs.Boards.{board_numbers, new_boards}
+use Rattle.fics_words.specs.declared.board_number.BoardNumber.{BoardNumber}
+use Rattle.fics_words.specs.declared.board_number.BoardNumber.TheVariants.{First, Second}
 use Rattle.desk_boards.specs.Halves.{halves_of, last_board}
 use Rattle.desk_boards.specs.Sound.{AreSoundBoards, GoOn}
 use Rattle.desk_boards.proofs.BoardLists.{All-at}
@@ -78,8 +79,8 @@ other_goes_on front h n is low high going =
 
 -- a board of a game has that number, or it is the other one of a pair
 own_or_other : (v : Variant) (k n m : ℕ) (board : BoardNumber) → slice_get (board_numbers v) k ≡ Some n
-    → number_of board ≡ m → m ≤ bounds.boards v →
-    (place board ≡ k) ⊎ ((v ≡ Bughouse) × (n ≡ 3 - m))
+    → board_number board ≡ m → m ≤ bounds.boards v →
+    (board_place board ≡ k) ⊎ ((v ≡ Bughouse) × (n ≡ 3 - m))
 own_or_other Chess zero n m First there is high = inl refl
 own_or_other Chess zero n m Second there is high = absurd (omega (arith, is, high))
 own_or_other Chess (suc k) n m board there is high = absurd cc
@@ -106,18 +107,19 @@ goes_on_by Bughouse front h n pair is low high going = other_goes_on front h n i
 -- that board goes on, if it is one
 abbrev pub GoesOnAt : List Board → Option BoardNumber → Type 0
 GoesOnAt boards None = Unit {0}
-GoesOnAt boards (Some board) = IfSome (slice_get boards (place board)) (λ b. GoesOn (position_of b))
+GoesOnAt boards (Some board) = IfSome (slice_get boards (board_place board)) (λ b. GoesOn (position_of b))
 
 after_last : (t : Terms) (boards : List Board) (front : List Half) (h : Half) (board : BoardNumber)
-    → numbered h.board ≡ Some board → AreSoundBoards t boards → halves_of boards ≡ front ++ h ∷ [] → MayCome t front h
+    → numbered_board h.board ≡ Some board → AreSoundBoards t boards → halves_of boards ≡ front ++ h ∷ []
+    → MayCome t front h
     → IsHalf t.variant h →
-    IfSome (slice_get boards (place board)) (λ b. GoesOn (position_of b)) → (k : ℕ) (b : Board)
+    IfSome (slice_get boards (board_place board)) (λ b. GoesOn (position_of b)) → (k : ℕ) (b : Board)
     → slice_get boards k ≡ Some b → GoesOn (position_of b)
 after_last t boards front h board on s made comes half here k b there =
     elim (own_or_other t.variant k b.number h.board board (number_at t.variant boards k b s.numbers there)
     (number_of-numbered h.board board on) half.last) [
       | inl same ↦
-          let own : slice_get boards (place board) ≡ Some b = ap (slice_get boards) same ∙ there in
+          let own : slice_get boards (board_place board) ≡ Some b = ap (slice_get boards) same ∙ there in
           subst (λ (o : Option Board). IfSome o (λ c. GoesOn (position_of c))) own here
       | inr other ↦
           let position : position_of b ≡ position_on t.variant (front ++ h ∷ []) b.number =
@@ -148,7 +150,8 @@ replayed_go_on t halves boards each played s made here =
           (each-back (IsHalf t.variant) front (h ∷ []) (subst (AllByRecursion (IsHalf t.variant)) some.1.1 each)).0 in
           let on = board_within t.variant h.board half.first half.last in
           let last : last_board halves ≡ Some on.0 =
-          ap last_board some.1.1 ∙ ap (option_and_then (λ (x : Half). numbered x.board)) (last_at front h) ∙ on.1 in
+          ap last_board some.1.1 ∙ ap (option_and_then (λ (x : Half). numbered_board x.board)) (last_at front h)
+          ∙ on.1 in
           after_last t boards front h on.0 on.1 s (made ∙ some.1.1)
           (by_steps.last t front h (subst (CanBePlayed t) some.1.1 played)) half
           (subst (GoesOnAt boards) last here)

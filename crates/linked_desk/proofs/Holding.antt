@@ -7,8 +7,8 @@ use Rattle.chess_model.specs.Holdings.{handed_kind}
 use Rattle.chess_model.specs.Tests.{has_drops}
 use Rattle.game_board.specs.Board.{Board}
 use Rattle.game_board.specs.BoardFace.{last_played}
-use Rattle.desk_boards.specs.Boards.{other_number, place}
-use Rattle.desk_boards.specs.declared.board_number.BoardNumber.{BoardNumber}
+use Rattle.fics_words.specs.Boards.{other_number, board_place}
+use Rattle.fics_words.specs.declared.board_number.BoardNumber.{BoardNumber}
 use Rattle.linked_desk.specs.Desk.{GameState}
 use Rattle.linked_desk.specs.Hands.{hold_item, first_hands, ends_with_drop, changes_hands, hands_told, hands_at, partner_told, partner_hands_at}
 use Rattle.linked_desk.specs.Sound.{NamesWinner}
@@ -33,7 +33,7 @@ names_of desk (Some b) man = names_told desk b man
 
 pub names_hands_at : (desk : ℕ) (g : GameState) (board : BoardNumber) (man : Option Man)
     → IfSome (hands_at desk g board man) NamesWinner
-names_hands_at desk g board man = names_of desk (slice_get g.boards (place board)) man
+names_hands_at desk g board man = names_of desk (slice_get g.boards (board_place board)) man
 
 names_partner : (desk : ℕ) (b : Board) (man : Option Man) → IfSome (partner_told desk b man) NamesWinner
 names_partner desk b None = tt
@@ -46,4 +46,5 @@ names_partner_of desk (Some b) man = names_partner desk b man
 
 pub names_partner_hands_at : (desk : ℕ) (g : GameState) (board : BoardNumber) (man : Option Man)
     → IfSome (partner_hands_at desk g board man) NamesWinner
-names_partner_hands_at desk g board man = names_partner_of desk (slice_get g.boards (place (other_number board))) man
+names_partner_hands_at desk g board man =
+    names_partner_of desk (slice_get g.boards (board_place (other_number board))) man

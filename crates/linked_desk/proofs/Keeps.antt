@@ -14,7 +14,7 @@ use Rattle.style12_writer.specs.declared.item.Item.TheVariants as item
 use Rattle.style12_writer.specs.declared.view.BoardView.{BoardView}
 use Rattle.style12_writer.specs.EndLine.{is_decisive}
 use Rattle.game_board.specs.Board.{Board}
-use Rattle.desk_boards.specs.Boards.{number_of}
+use Rattle.fics_words.specs.Boards.{board_number}
 use Rattle.linked_desk.specs.declared.acts.DeskReply.{DeskReply}
 use Rattle.linked_desk.specs.declared.ended.Ended.{Ended}
 use Rattle.linked_desk.specs.Desk.{GameState, moment_at, occupant}
@@ -79,7 +79,7 @@ names_by false decisive winner h = names_other decisive winner h
 -- an end names its winner at each board
 end_item-names : (desk : ℕ) (e : Ended) → Names e.why e.winner → (players : Opponents) (b : Board)
     → NamesWinner (end_item desk e players b)
-end_item-names desk e h players b = names_by (b.number == number_of e.board) (is_decisive e.why) e.winner h
+end_item-names desk e h players b = names_by (b.number == board_number e.board) (is_decisive e.why) e.winner h
 
 -- a game that has ended is sound, whatever stands on its boards
 pub IsSound-over : (g : GameState) (e : Ended) → Names e.why e.winner → IsSound g

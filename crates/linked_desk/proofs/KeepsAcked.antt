@@ -6,8 +6,9 @@ use Rattle.clock_ledger.specs.Span.{IsStamp}
 use Rattle.game_board.specs.Acked.{acknowledged}
 use Rattle.game_board.specs.Board.{Board}
 use Rattle.linked_desk.specs.Acked.{acked_by, acked_effect}
-use Rattle.desk_boards.specs.Boards.{latest, boards_acked, place}
-use Rattle.desk_boards.specs.declared.board_number.BoardNumber.{BoardNumber}
+use Rattle.fics_words.specs.Boards.{board_place}
+use Rattle.desk_boards.specs.Boards.{latest, boards_acked}
+use Rattle.fics_words.specs.declared.board_number.BoardNumber.{BoardNumber}
 use Rattle.linked_desk.specs.Desk.{GameState, seat_of, moment_at}
 use Rattle.linked_desk.specs.Seats.{board_of, colour_at}
 use Rattle.linked_desk.specs.Sound.{IsSound}
@@ -35,7 +36,7 @@ IsSound-acked g moment board colour stamp stamped timely s =
       seated = s.seated;
       boards = sound_acked g.terms g.boards board colour stamp s.boards stamped;
       going = λ runs. go_acked g.boards board colour stamp (s.going runs);
-      order = latest-changed_at g.boards (place board) (moment_at g moment) after
+      order = latest-changed_at g.boards (board_place board) (moment_at g moment) after
           (λ b h.
           let same : (acknowledged b colour stamp).begin ≡ b.begin =
           same_acknowledged (λ c. c.begin) b colour stamp refl in

@@ -2,7 +2,7 @@
 use Rattle.std.proofs.Common.{◌≤◌, ◌^◌, ℕ, false, Option, Some, None, Result, Ok, Err, refl}
 use Rattle.chess_model.specs.declared.man.Colour.{Colour}
 use Rattle.fics_words.specs.declared.refusal.Refusal.{Refusal}
-use Rattle.desk_boards.specs.declared.board_number.BoardNumber.{BoardNumber}
+use Rattle.fics_words.specs.declared.board_number.BoardNumber.{BoardNumber}
 use Rattle.linked_desk.specs.Desk.{GameState, seat_of}
 use Rattle.linked_desk.specs.Flag.{seat_flag, flag_end, flagged, flagged_by, flag_effect}
 use Rattle.linked_desk.specs.Seats.{board_of}

@@ -14,7 +14,7 @@ use Rattle.linked_desk.specs.Desk.{GameState, seat_of}
 use Rattle.desk_boards.specs.Claims.{claim_at, granted}
 use Rattle.linked_desk.specs.Make.{claim_effect, claimed, fitting_effect, make_effect, stood}
 use Rattle.linked_desk.specs.Offering.{agreed, end_without_winner, offer_item, with_offers}
-use Rattle.desk_boards.specs.Boards.{place}
+use Rattle.fics_words.specs.Boards.{board_place}
 use Rattle.linked_desk.specs.Seats.{board_of}
 use Rattle.linked_desk.specs.Sound.{Names}
 use Rattle.linked_desk.proofs.Keeps.{Follows, Keeps, and_then, either, ended_follows, if_there, stays}
@@ -37,7 +37,7 @@ claim_names (Some b) = names_if (not (has_claims b.terms.variant)) (is_fifty (po
 
 claimed_names : (boards : List Board) (seat : ℕ) (offer : Offer)
     → IfSome (claimed boards seat offer) (λ cause. Names cause None)
-claimed_names boards seat Draw = claim_names (slice_get boards (place (board_of seat)))
+claimed_names boards seat Draw = claim_names (slice_get boards (board_place (board_of seat)))
 claimed_names boards seat Abort = tt
 claimed_names boards seat Adjourn = tt
 claimed_names boards seat (Takeback n) = tt

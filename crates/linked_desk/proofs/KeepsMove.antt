@@ -14,8 +14,9 @@ use Rattle.offer_book.specs.Offers.{after_half_move, where_stand}
 use Rattle.style12_writer.specs.declared.item.Item.{Item}
 use Rattle.style12_writer.specs.declared.item.Item.TheVariants as item
 use Rattle.style12_writer.specs.declared.view.BoardView.{BoardView}
-use Rattle.desk_boards.specs.Boards.{reply_at, latest, boards_after, changed_at, told_answer, other_number, place}
-use Rattle.desk_boards.specs.declared.board_number.BoardNumber.{BoardNumber}
+use Rattle.fics_words.specs.Boards.{other_number, board_place}
+use Rattle.desk_boards.specs.Boards.{reply_at, latest, boards_after, changed_at, told_answer}
+use Rattle.fics_words.specs.declared.board_number.BoardNumber.{BoardNumber}
 use Rattle.desk_boards.proofs.BoardLists.{latest-changed_at}
 use Rattle.desk_boards.proofs.Pairs.{same_told}
 use Rattle.linked_desk.specs.declared.ended.Ended.{Ended}
@@ -52,11 +53,12 @@ order_played : (g : GameState) (moment : ℕ) (board : BoardNumber) (stamp : Opt
 order_played g moment board stamp answer order =
     let after : Board → Board = λ b. play_after b (moment_at g moment) stamp answer in
     let tell : Board → Board = λ b. told_answer b answer in
-    latest-changed_at (changed_at g.boards (place board) after) (place (other_number board)) (moment_at g moment) tell
+    latest-changed_at (changed_at g.boards (board_place board) after) (board_place (other_number board))
+    (moment_at g moment) tell
     (λ b h.
     let same : (told_answer b answer).begin ≡ b.begin = same_told (λ c. c.begin) b answer (λ T. refl) in
     omega (arith, same, h))
-    (latest-changed_at g.boards (place board) (moment_at g moment) after
+    (latest-changed_at g.boards (board_place board) (moment_at g moment) after
     (λ b. begin-played b (moment_at g moment) stamp answer) (omega (arith, order)))
 
 -- the game once a seat's word was played, which goes on or has this end
@@ -92,12 +94,13 @@ names_view (Some view) = tt
 names_told : (desk : ℕ) (g : GameState) (board : BoardNumber) (man : Option Man) → All NamesWinner g.feed
     → All NamesWinner (told_of desk g board man).feed
 names_told desk g board man names =
-    let shown : List Item = feed_with g.feed (option_map item.Board (slice_get (views_of desk g) (place board))) in
+    let shown : List Item =
+    feed_with g.feed (option_map item.Board (slice_get (views_of desk g) (board_place board))) in
     names_with (feed_with shown (hands_at desk g board man)) (partner_hands_at desk g board man)
     (names_partner_hands_at desk g board man)
     (names_with shown (hands_at desk g board man) (names_hands_at desk g board man)
-    (names_with g.feed (option_map item.Board (slice_get (views_of desk g) (place board)))
-    (names_view (slice_get (views_of desk g) (place board))) names))
+    (names_with g.feed (option_map item.Board (slice_get (views_of desk g) (board_place board)))
+    (names_view (slice_get (views_of desk g) (board_place board))) names))
 
 -- a game that is told goes on or has its end as before
 IsSound-told_of : (desk : ℕ) (g : GameState) (board : BoardNumber) (man : Option Man) (end : Option Ended)
@@ -110,7 +113,8 @@ IsSound-told_of desk g board man end s =
 
 -- the man that a seat's word captures, if it does
 abbrev captured_of : GameState → ℕ → MoveWord → Option Man
-captured_of g seat word = captured_by (reply_at (slice_get g.boards (place (board_of seat))) (seat_word g seat word))
+captured_of g seat word =
+    captured_by (reply_at (slice_get g.boards (board_place (board_of seat))) (seat_word g seat word))
 
 -- what is offered has no part in it
 IsSound-with_cleared : (seat : ℕ) (g : GameState) → IsSound g → IsSound (with_cleared seat g)
@@ -128,7 +132,8 @@ moved_follows {conditions = conditions} desk g moment seat word stamp timely sta
     let man : Option Man = captured_of g seat word in
     let told : GameState = told_of desk after board man in
     let end : Option Ended = end_at after board in
-    let names : IfSome end (λ e. Names e.why e.winner) = end_on-names board (slice_get after.boards (place board)) in
+    let names : IfSome end (λ e. Names e.why e.winner) =
+    end_on-names board (slice_get after.boards (board_place board)) in
     subst (λ (h : GameState). Follows conditions g (finished desk h moment board))
     (sym (with_hands-told desk after board man))
     (record {
@@ -136,7 +141,7 @@ moved_follows {conditions = conditions} desk g moment seat word stamp timely sta
       sound = λ c s.
           let going : end ≡ None → GoOn after.boards = λ none.
           go_played g.terms g.boards board (moment_at g moment) (colour_at seat) word stamp s.boards (s.going (runs c))
-          (goes_on_at board (slice_get after.boards (place board)) none) in
+          (goes_on_at board (slice_get after.boards (board_place board)) none) in
           IsSound-with_end desk told moment end names (timely c) (runs c)
           (IsSound-told_of desk after board man end
           (IsSound-played g moment seat word stamp end (timely c) (stamped c) (runs c) names going s));

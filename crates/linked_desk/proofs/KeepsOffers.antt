@@ -15,7 +15,7 @@ use Rattle.offer_book.specs.Offers.{OfferBook}
 use Rattle.style12_writer.specs.OfferLines.{decline_text, taken_text}
 use Rattle.style12_writer.specs.declared.item.Item.{Item}
 use Rattle.style12_writer.specs.declared.item.Item.TheVariants as item
-use Rattle.desk_boards.specs.declared.board_number.BoardNumber.TheVariants.{First}
+use Rattle.fics_words.specs.declared.board_number.BoardNumber.TheVariants.{First}
 use Rattle.desk_boards.specs.Boards.{latest}
 use Rattle.linked_desk.specs.Desk.{GameState, moment_at}
 use Rattle.linked_desk.specs.Hands.{first_hands}

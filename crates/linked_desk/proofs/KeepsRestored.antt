@@ -6,8 +6,9 @@ use Rattle.fics_words.specs.declared.seats.Seats.{Seats}
 use Rattle.game_board.specs.Board.{Board}
 use Rattle.game_records.specs.declared.stored_game.StoredGame.{StoredGame}
 use Rattle.game_records.specs.Replays.{Replays}
-use Rattle.desk_boards.specs.Boards.{latest, place}
-use Rattle.desk_boards.specs.declared.board_number.BoardNumber.{BoardNumber}
+use Rattle.fics_words.specs.Boards.{board_place}
+use Rattle.desk_boards.specs.Boards.{latest}
+use Rattle.fics_words.specs.declared.board_number.BoardNumber.{BoardNumber}
 use Rattle.desk_boards.specs.Halves.{last_board}
 use Rattle.desk_boards.specs.Replaying.{replayed}
 use Rattle.desk_boards.specs.Sound.{AreSoundBoards, GoOn}
@@ -58,10 +59,10 @@ module _ (desk serial : ℕ) (g : StoredGame) (seats : Seats) (moment : ℕ) (bo
       IsSound-begun Resumption desk serial g.terms seats boards moment None may sound order timely tt (λ runs. go tt)
   sound_finished_at (Some board) go =
       let end : Option Ended = end_at start board in
-      let names : IfSome end (λ e. Names e.why e.winner) = end_on-names board (slice_get boards (place board)) in
+      let names : IfSome end (λ e. Names e.why e.winner) = end_on-names board (slice_get boards (board_place board)) in
       IsSound-with_end desk start moment end names timely refl
       (IsSound-begun Resumption desk serial g.terms seats boards moment end may sound order timely names
-      (λ none. go (goes_on_at board (slice_get boards (place board)) none)))
+      (λ none. go (goes_on_at board (slice_get boards (board_place board)) none)))
 
 pub IsSound-resumed : (desk serial : ℕ) (g : StoredGame) (seats : Seats) (moment : ℕ) (boards : List Board) → Replays g
     → HasPairsFor g.terms seats → AllDiffer (names_of seats) →

@@ -14,7 +14,7 @@ use Rattle.clock_ledger.specs.Clock as clock
 use Rattle.game_records.specs.declared.stored_game.StoredGame.{StoredGame}
 use Rattle.game_records.specs.Replays.{Replays, half_moves}
 use Rattle.desk_boards.specs.Boards.{board_numbers}
-use Rattle.desk_boards.specs.declared.board_number.BoardNumber.{BoardNumber}
+use Rattle.fics_words.specs.declared.board_number.BoardNumber.{BoardNumber}
 use Rattle.desk_boards.specs.Halves.{halves_of, last_board, list_on}
 use Rattle.desk_boards.specs.Laws.{IsFresh}
 use Rattle.desk_boards.specs.Replaying.{replayed}

@@ -7,8 +7,9 @@ use Rattle.fics_words.specs.declared.refusal.Refusal.{Refusal}
 use Rattle.style12_writer.specs.declared.item.Item.{Item}
 use Rattle.style12_writer.specs.declared.item.Item.TheVariants as item
 use Rattle.style12_writer.specs.declared.view.BoardView.{BoardView}
-use Rattle.desk_boards.specs.Boards.{boards_after, reply_at, place}
-use Rattle.desk_boards.specs.declared.board_number.BoardNumber.{BoardNumber}
+use Rattle.fics_words.specs.Boards.{board_place}
+use Rattle.desk_boards.specs.Boards.{boards_after, reply_at}
+use Rattle.fics_words.specs.declared.board_number.BoardNumber.{BoardNumber}
 use Rattle.linked_desk.specs.Desk.{GameState, moment_at}
 use Rattle.linked_desk.specs.Finish.{finished}
 use Rattle.linked_desk.specs.Hands.{hands_at, partner_hands_at}
@@ -28,7 +29,7 @@ with_view-feed g (Some v) = refl
 abbrev pub told_of : ℕ → GameState → BoardNumber → Option Man → GameState
 told_of desk g board man = record g {
   feed = feed_with
-      (feed_with (feed_with g.feed (option_map item.Board (slice_get (views_of desk g) (place board))))
+      (feed_with (feed_with g.feed (option_map item.Board (slice_get (views_of desk g) (board_place board))))
       (hands_at desk g board man))
       (partner_hands_at desk g board man);
 }
@@ -38,10 +39,10 @@ pub with_hands-told : (desk : ℕ) (g : GameState) (board : BoardNumber) (man : 
     ≡ told_of desk g board man
 with_hands-told desk g board man =
     let shown : GameState =
-    record g { feed = feed_with g.feed (option_map item.Board (slice_get (views_of desk g) (place board))) } in
+    record g { feed = feed_with g.feed (option_map item.Board (slice_get (views_of desk g) (board_place board))) } in
     let held : GameState = record shown { feed = feed_with shown.feed (hands_at desk g board man) } in
     ap (λ (s : GameState). with_partner_hands desk board man (with_hands desk board man s))
-    (with_view-feed g (slice_get (views_of desk g) (place board)))
+    (with_view-feed g (slice_get (views_of desk g) (board_place board)))
     ∙ ap (λ (s : GameState). with_partner_hands desk board man s) (with_item-feed shown (hands_at desk g board man))
     ∙ with_item-feed held (partner_hands_at desk g board man)
 
@@ -51,12 +52,12 @@ pub finished-moved : (desk : ℕ) (g base told new : GameState) (moment : ℕ) (
     new ≡ finished desk told moment at → told ≡ told_of desk base at man →
     base
     ≡ record g { boards = boards_after g.boards board (moment_at g moment) stamp answer; last = moment_at g moment } →
-    man ≡ captured_by (reply_at (slice_get g.boards (place board)) answer) → at ≡ board
+    man ≡ captured_by (reply_at (slice_get g.boards (board_place board)) answer) → at ≡ board
     → new ≡ moved desk g moment board stamp answer
 finished-moved desk g base told new moment board at stamp answer man ends tells plays takes same =
     let played : GameState =
     record g { boards = boards_after g.boards board (moment_at g moment) stamp answer; last = moment_at g moment } in
-    let captured : Option Man = captured_by (reply_at (slice_get g.boards (place board)) answer) in
+    let captured : Option Man = captured_by (reply_at (slice_get g.boards (board_place board)) answer) in
     ends
     ∙ ap (λ (s : GameState). finished desk s moment at) tells
     ∙ (λ i. finished desk (told_of desk (plays i) (same i) (takes i)) moment (same i))

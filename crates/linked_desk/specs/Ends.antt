@@ -9,7 +9,7 @@ use Rattle.fics_words.specs.declared.seats.Opponents.{Opponents}
 use Rattle.style12_writer.specs.declared.item.Item.{Item}
 use Rattle.style12_writer.specs.declared.item.Item.TheVariants as item
 use Rattle.game_board.specs.Board.{Board}
-use Rattle.desk_boards.specs.Boards.{number_of}
+use Rattle.fics_words.specs.Boards.{board_number}
 use Rattle.linked_desk.specs.declared.ended.Ended.{Ended}
 use Rattle.linked_desk.specs.Desk.{GameState, moment_at, seat_of}
 use Rattle.linked_desk.specs.Seats.{pairs_of}
@@ -26,12 +26,12 @@ over_cause g = (is_some g.ended, GameOver)
 -- who won at a board, by its number: partners have different colours, so at the other board of a pair the other colour
 -- won
 abbrev pub winner_on : Ended → ℕ → Option Colour
-winner_on e board = if board == number_of e.board then e.winner else option_map opposite e.winner
+winner_on e board = if board == board_number e.board then e.winner else option_map opposite e.winner
 
 -- what is told of the end at a board
 abbrev pub end_item : ℕ → Ended → Opponents → Board → Item
 end_item desk e players board =
-    item.End (view_of desk players board) e.why (winner_on e board.number) (board.number == number_of e.board)
+    item.End (view_of desk players board) e.why (winner_on e board.number) (board.number == board_number e.board)
 
 -- what is told of the end
 abbrev pub end_items : ℕ → GameState → Ended → List Item

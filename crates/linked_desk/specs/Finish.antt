@@ -8,8 +8,8 @@ use Rattle.chess_model.specs.declared.why.Why.TheVariants as why
 use Rattle.chess_model.specs.Placement.{opposite}
 use Rattle.chess_model.specs.Result.{result}
 use Rattle.game_board.specs.Board.{Board, to_move, position_of}
-use Rattle.desk_boards.specs.Boards.{place}
-use Rattle.desk_boards.specs.declared.board_number.BoardNumber.{BoardNumber}
+use Rattle.fics_words.specs.Boards.{board_place}
+use Rattle.fics_words.specs.declared.board_number.BoardNumber.{BoardNumber}
 use Rattle.linked_desk.specs.declared.ended.Ended.{Ended}
 use Rattle.linked_desk.specs.Desk.{GameState}
 use Rattle.linked_desk.specs.Ends.{ended_by}
@@ -28,7 +28,7 @@ end_on board b = end_in board (to_move b) (result (position_of b))
 
 -- and in a game
 abbrev pub end_at : GameState → BoardNumber → Option Ended
-end_at g board = option_and_then (end_on board) (slice_get g.boards (place board))
+end_at g board = option_and_then (end_on board) (slice_get g.boards (board_place board))
 
 -- the game ended, where there is an end
 abbrev pub with_end : ℕ → GameState → ℕ → Option Ended → GameState

@@ -8,15 +8,17 @@ use Rattle.fics_words.specs.declared.refusal.Refusal.TheVariants.{NotPlaying}
 use Rattle.linked_desk.specs.declared.acts.DeskReply.{DeskReply}
 use Rattle.linked_desk.specs.declared.acts.DeskReply.TheVariants.{Done}
 use Rattle.linked_desk.specs.declared.ended.Ended.{Ended}
-use Rattle.desk_boards.specs.Boards.{flag_at, place}
-use Rattle.desk_boards.specs.declared.board_number.BoardNumber.{BoardNumber}
+use Rattle.fics_words.specs.Boards.{board_place}
+use Rattle.desk_boards.specs.Boards.{flag_at}
+use Rattle.fics_words.specs.declared.board_number.BoardNumber.{BoardNumber}
 use Rattle.linked_desk.specs.Desk.{GameState, moment_at, seat_of}
 use Rattle.linked_desk.specs.Ends.{no_seat_cause, over_cause, ended_by}
 use Rattle.linked_desk.specs.Seats.{board_of, colour_at}
 
 -- what the call of a seat on its opponent brings: the winner, None for a draw, or the refusal
 abbrev pub seat_flag : GameState → ℕ → ℕ → Result (Option Colour) Refusal
-seat_flag g moment seat = flag_at (slice_get g.boards (place (board_of seat))) (colour_at seat) (moment_at g moment)
+seat_flag g moment seat =
+    flag_at (slice_get g.boards (board_place (board_of seat))) (colour_at seat) (moment_at g moment)
 
 -- the end that a flag brings that fell at a board
 abbrev pub flag_end : BoardNumber → Option Colour → Ended

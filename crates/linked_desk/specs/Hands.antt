@@ -19,8 +19,8 @@ use Rattle.game_board.specs.Board.{Board, position_of}
 use Rattle.game_board.specs.BoardFace.{last_played}
 use Rattle.style12_writer.specs.declared.item.Item.{Item}
 use Rattle.style12_writer.specs.declared.item.Item.TheVariants as item
-use Rattle.desk_boards.specs.Boards.{other_number, place}
-use Rattle.desk_boards.specs.declared.board_number.BoardNumber.{BoardNumber}
+use Rattle.fics_words.specs.Boards.{other_number, board_place}
+use Rattle.fics_words.specs.declared.board_number.BoardNumber.{BoardNumber}
 use Rattle.linked_desk.specs.Desk.{GameState, game_number}
 
 -- both hands at a board as it stands, and the kind of the man that has just come into one of them, if one has
@@ -61,7 +61,7 @@ hands_told desk b man =
 
 -- and of the board of that number
 abbrev pub hands_at : ℕ → GameState → BoardNumber → Option Man → Option Item
-hands_at desk g board man = option_and_then (λ b. hands_told desk b man) (slice_get g.boards (place board))
+hands_at desk g board man = option_and_then (λ b. hands_told desk b man) (slice_get g.boards (board_place board))
 
 -- what is told of the hands of a board after a half-move on its partner's board that captured this man, if it did: the
 -- man has come into a hand, so both hands as they stand now, and as which kind it came
@@ -72,7 +72,7 @@ partner_told desk b (Some man) = Some (hold_item desk b (Some (handed_kind man))
 -- and of the other board than that one, if there is one
 abbrev pub partner_hands_at : ℕ → GameState → BoardNumber → Option Man → Option Item
 partner_hands_at desk g board man =
-    option_and_then (λ b. partner_told desk b man) (slice_get g.boards (place (other_number board)))
+    option_and_then (λ b. partner_told desk b man) (slice_get g.boards (board_place (other_number board)))
 
 -- a knight is captured, a man is dropped, and neither: in chess, crazyhouse, bughouse and Fischer random
 example_changes : map (λ v. changes_hands v false (Some (record { colour = White; kind = Knight; promoted = false })))

@@ -8,7 +8,7 @@ use Rattle.game_board.specs.Board.{Board}
 use Rattle.offer_book.specs.declared.offer.Offer.{Offer}
 use Rattle.offer_book.specs.declared.offer.Offer.TheVariants.{Draw, Abort, Adjourn, Takeback}
 use Rattle.offer_book.specs.Offers.{offering, stands}
-use Rattle.desk_boards.specs.Boards.{place}
+use Rattle.fics_words.specs.Boards.{board_place}
 use Rattle.desk_boards.specs.Claims.{claim_at}
 use Rattle.desk_boards.specs.TakenBack.{lacks_half_moves}
 use Rattle.linked_desk.specs.declared.acts.DeskReply.{DeskReply}
@@ -33,7 +33,7 @@ behind (Some cause) causes = (true, cause) ∷ []
 
 -- the draw that an offer of this seat claims at its board, if it does
 abbrev pub claimed : List Board → ℕ → Offer → Option Why
-claimed boards seat Draw = claim_at (slice_get boards (place (board_of seat)))
+claimed boards seat Draw = claim_at (slice_get boards (board_place (board_of seat)))
 claimed boards seat Abort = None
 claimed boards seat Adjourn = None
 claimed boards seat (Takeback n) = None

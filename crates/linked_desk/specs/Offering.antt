@@ -14,8 +14,8 @@ use Rattle.style12_writer.specs.OfferLines.{abort_text, adjourn_text, decline_te
 use Rattle.style12_writer.specs.declared.item.Item.{Item}
 use Rattle.style12_writer.specs.declared.item.Item.TheVariants as item
 use Rattle.linked_desk.specs.declared.ended.Ended.{Ended}
-use Rattle.desk_boards.specs.Boards.{place}
-use Rattle.desk_boards.specs.declared.board_number.BoardNumber.TheVariants.{First}
+use Rattle.fics_words.specs.Boards.{board_place}
+use Rattle.fics_words.specs.declared.board_number.BoardNumber.TheVariants.{First}
 use Rattle.desk_boards.specs.TakenBack.{boards_taken_back}
 use Rattle.linked_desk.specs.Desk.{GameState, moment_at}
 use Rattle.linked_desk.specs.Ends.{ended_by}
@@ -68,7 +68,7 @@ with_taken g moment n =
 
 -- the hands of the first board, where its variant has hands
 abbrev pub hands_shown : ℕ → GameState → GameState
-hands_shown desk g = with_item g (option_and_then (first_hands desk) (slice_get g.boards (place First)))
+hands_shown desk g = with_item g (option_and_then (first_hands desk) (slice_get g.boards (board_place First)))
 
 -- the game after the last n half-moves of its board were taken back: that is told, and then the board with its hands
 abbrev pub taken_back : ℕ → GameState → ℕ → ℕ → GameState

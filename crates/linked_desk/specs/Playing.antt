@@ -11,8 +11,9 @@ use Rattle.fics_words.specs.declared.refusal.Refusal.TheVariants.{NotPlaying}
 use Rattle.offer_book.specs.Offers.{after_half_move, where_stand}
 use Rattle.linked_desk.specs.declared.acts.DeskReply.{DeskReply}
 use Rattle.linked_desk.specs.declared.acts.DeskReply.TheVariants.{Done}
-use Rattle.desk_boards.specs.Boards.{word_at, reply_at, boards_after, place}
-use Rattle.desk_boards.specs.declared.board_number.BoardNumber.{BoardNumber}
+use Rattle.fics_words.specs.Boards.{board_place}
+use Rattle.desk_boards.specs.Boards.{word_at, reply_at, boards_after}
+use Rattle.fics_words.specs.declared.board_number.BoardNumber.{BoardNumber}
 use Rattle.linked_desk.specs.Desk.{GameState, moment_at, seat_of}
 use Rattle.linked_desk.specs.Ends.{no_seat_cause, over_cause}
 use Rattle.linked_desk.specs.Finish.{finished}
@@ -22,7 +23,7 @@ use Rattle.linked_desk.specs.Views.{with_board_item, with_item}
 
 -- the half-move that a word of a seat stands for, or the refusal
 abbrev pub seat_word : GameState → ℕ → MoveWord → Result Move Refusal
-seat_word g seat word = word_at (slice_get g.boards (place (board_of seat))) (colour_at seat) word
+seat_word g seat word = word_at (slice_get g.boards (board_place (board_of seat))) (colour_at seat) word
 
 -- and of who has that seat, or none
 abbrev pub word_by : GameState → Option ℕ → MoveWord → Result Move Refusal
@@ -54,7 +55,7 @@ with_partner_hands desk board man g = with_item g (partner_hands_at desk g board
 -- and the hands told that the half-move has changed, those of the own board first
 abbrev pub held_moved : ℕ → GameState → ℕ → BoardNumber → Option ℕ → Result Move Refusal → GameState
 held_moved desk g moment board stamp answer =
-    let man = captured_by (reply_at (slice_get g.boards (place board)) answer) in
+    let man = captured_by (reply_at (slice_get g.boards (board_place board)) answer) in
     with_partner_hands desk board man
     (with_hands desk board man (shown_moved desk g moment board stamp answer))
 

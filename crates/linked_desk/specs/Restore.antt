@@ -4,7 +4,7 @@ use Rattle.std.specs.Option.{option_map}
 use Rattle.fics_words.specs.declared.seats.Seats.{Seats}
 use Rattle.game_board.specs.Board.{Board}
 use Rattle.game_records.specs.declared.stored_game.StoredGame.{StoredGame}
-use Rattle.desk_boards.specs.declared.board_number.BoardNumber.{BoardNumber}
+use Rattle.fics_words.specs.declared.board_number.BoardNumber.{BoardNumber}
 use Rattle.desk_boards.specs.Halves.{last_board}
 use Rattle.desk_boards.specs.Replaying.{replayed}
 use Rattle.linked_desk.specs.declared.occasion.Occasion.TheVariants.{Resumption}

@@ -5,9 +5,9 @@ use Rattle.chess_model.specs.declared.man.Colour.{Colour}
 use Rattle.chess_model.specs.declared.man.Colour.TheVariants.{White, Black}
 use Rattle.chess_model.specs.Holdings.{same_colour}
 use Rattle.style12_writer.specs.declared.view.Viewer.{Viewer}
-use Rattle.desk_boards.specs.Boards.{number_of}
-use Rattle.desk_boards.specs.declared.board_number.BoardNumber.{BoardNumber}
-use Rattle.desk_boards.specs.declared.board_number.BoardNumber.TheVariants.{First, Second}
+use Rattle.fics_words.specs.Boards.{board_number}
+use Rattle.fics_words.specs.declared.board_number.BoardNumber.{BoardNumber}
+use Rattle.fics_words.specs.declared.board_number.BoardNumber.TheVariants.{First, Second}
 use Rattle.linked_desk.specs.Seats.{board_of, colour_at}
 
 -- 1 where I play and it is my move, -1 where I play and it is the opponent's
@@ -27,7 +27,7 @@ observing = record { relation = pos 0; flip = false }
 abbrev pub sight : Option ℕ → BoardNumber → Colour → Viewer
 sight None board to_move = observing
 sight (Some seat) board to_move =
-    if number_of (board_of seat) == number_of board then playing (colour_at seat) to_move else observing
+    if board_number (board_of seat) == board_number board then playing (colour_at seat) to_move else observing
 
 -- which board it is, by the number under which it is shown: the boards of desk d are games 2 d - 1 and 2 d
 abbrev pub board_in : ℕ → BoardNumber

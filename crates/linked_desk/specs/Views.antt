@@ -8,8 +8,8 @@ use Rattle.style12_writer.specs.declared.view.BoardView.{BoardView}
 use Rattle.game_board.specs.Board.{Board}
 use Rattle.game_board.specs.BoardFace.{board_face, last_taken}
 use Rattle.game_board.specs.Charges.{remaining_of}
-use Rattle.desk_boards.specs.Boards.{place}
-use Rattle.desk_boards.specs.declared.board_number.BoardNumber.{BoardNumber}
+use Rattle.fics_words.specs.Boards.{board_place}
+use Rattle.fics_words.specs.declared.board_number.BoardNumber.{BoardNumber}
 use Rattle.linked_desk.specs.Desk.{GameState, game_number}
 use Rattle.linked_desk.specs.Seats.{pairs_of}
 
@@ -57,4 +57,4 @@ with_view g (Some view) = with_items g (item.Board view ∷ [])
 
 -- the game with a board as the last item, if it has it
 abbrev pub with_board_item : ℕ → BoardNumber → GameState → GameState
-with_board_item desk board g = with_view g (slice_get (views_of desk g) (place board))
+with_board_item desk board g = with_view g (slice_get (views_of desk g) (board_place board))

@@ -2,7 +2,7 @@
 ghost use Rattle.std.specs.Prelude.{◌≡◌, ◌≤◌, ◌↔◌, ◌==◌, ℕ, None, Some, IfOk, IsSome, IsTrue, OnOk, OnErr, slice_get};
 ghost use Rattle.std.specs.Option.{option_copied};
 ghost use Rattle.fics_words.specs.Effect.{Takes};
-ghost use Rattle.desk_boards.specs.Boards.{place};
+ghost use Rattle.fics_words.specs.Boards.{board_place};
 
 use crate::acts::{DeskAct, DeskReply};
 use crate::ended::Ended;
@@ -11,8 +11,7 @@ use crate::restore::resumed;
 use crate::seating::opened;
 use chess_model::Terms;
 use clock_ledger::Moment;
-use desk_boards::BoardNumber;
-use fics_words::{DeskNumber, Fail, Refusal, Seats};
+use fics_words::{BoardNumber, DeskNumber, Fail, Refusal, Seats};
 use game_board::GameBoard;
 use game_records::StoredGame;
 use memory::NoMemory;
@@ -219,7 +218,7 @@ impl Desk {
 
     /// The board of that number; None where the game has no such board, and where the desk is vacant.
     pub fn board(&self, board: BoardNumber) -> Option<&GameBoard>
-        ensures { option_copied result ≡ slice_get (boards_at self.now) (place board) }
+        ensures { option_copied result ≡ slice_get (boards_at self.now) (board_place board) }
     {
         match &self.game {
             Some(game) => game.boards().at(board),

@@ -1,6 +1,6 @@
 //! How a game ended.
 use chess_model::{Colour, Why};
-use desk_boards::BoardNumber;
+use fics_words::BoardNumber;
 
 /// How a game ended.
 #[derive(Clone, Copy, PartialEq, Eq)]

@@ -6,8 +6,7 @@ use crate::ended::Ended;
 use crate::game::Game;
 use chess_model::{State, Why};
 use clock_ledger::Moment;
-use desk_boards::BoardNumber;
-use fics_words::DeskNumber;
+use fics_words::{BoardNumber, DeskNumber};
 use game_board::GameBoard;
 
 impl Game {

@@ -9,8 +9,7 @@ use crate::game::Game;
 use crate::seats::{board_of, colour_at};
 use chess_model::{Colour, Why};
 use clock_ledger::Moment;
-use desk_boards::BoardNumber;
-use fics_words::{DeskNumber, Fail, Refusal};
+use fics_words::{BoardNumber, DeskNumber, Fail, Refusal};
 
 impl Game {
     /// Calls the flag for a session on its opponent. Takes no memory.

@@ -6,8 +6,7 @@ ghost use Rattle.linked_desk.specs.Hands.{changes_hands, ends_with_drop, first_h
 use crate::game::Game;
 use crate::views::game_number;
 use chess_model::{Colour, Kind, Man, Move, Variant, has_drops};
-use desk_boards::BoardNumber;
-use fics_words::DeskNumber;
+use fics_words::{BoardNumber, DeskNumber};
 use game_board::{GameBoard, Played, handed_over_as};
 use style12_writer::Item;
 

@@ -2,8 +2,8 @@
 ghost use Rattle.std.specs.Prelude.{◌≡◌, ℕ, ◌≤◌, IfSome, Some};
 ghost use Rattle.clock_ledger.specs.Charges.{last_moment};
 ghost use Rattle.chess_model.specs.declared.variant.Terms.{Terms};
-ghost use Rattle.desk_boards.specs.Boards.{number_of};
-ghost use Rattle.desk_boards.specs.declared.board_number.BoardNumber.{BoardNumber};
+ghost use Rattle.fics_words.specs.Boards.{board_number};
+ghost use Rattle.fics_words.specs.declared.board_number.BoardNumber.{BoardNumber};
 ghost use Rattle.fics_words.specs.declared.seats.Seats.{Seats};
 ghost use Rattle.linked_desk.specs.declared.acts.DeskAct.{DeskAct};
 ghost use Rattle.linked_desk.specs.Desk.{DeskState, game_number, occupant_of};
@@ -50,7 +50,7 @@ pub fn acts_keep_the_game()
 
 /// Each board of a desk is shown under a number of its own, by which viewers know which board it is.
 pub fn boards_are_known_by_their_games()
-    ensures { (desk : ℕ) (board : BoardNumber) → board_in (game_number desk (number_of board)) ≡ board }
+    ensures { (desk : ℕ) (board : BoardNumber) → board_in (game_number desk (board_number board)) ≡ board }
 {}
 
 /// No man of a game at a desk is made or lost: in chess and Fischer random the men of a colour and kind on the board,

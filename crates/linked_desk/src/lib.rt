@@ -47,7 +47,6 @@ mod watch;
 pub use acts::{DeskAct, DeskReply};
 pub use chess_model::Why;
 pub use desk::Desk;
-pub use desk_boards::BoardNumber;
 pub use ended::Ended;
 pub use laws::{
     acts_keep_the_game, acts_keep_the_players, boards_are_known_by_their_games, men_stay_whole,

@@ -3,7 +3,8 @@ ghost use Rattle.std.specs.Prelude.{◌≡◌, ◌≢◌, ◌+◌, ◌≤◌, []
 ghost use Rattle.fics_words.specs.Seats.{seat_list};
 ghost use Rattle.offer_book.specs.Offers.{no_offers};
 ghost use Rattle.observer_feed.specs.Feed.{empty_feed, is_viewer};
-ghost use Rattle.desk_boards.specs.Boards.{latest, number_of};
+ghost use Rattle.fics_words.specs.Boards.{board_number};
+ghost use Rattle.desk_boards.specs.Boards.{latest};
 ghost use Rattle.linked_desk.specs.Seating.{AllDiffer, HasPairsFor, announcement, announcements, first_items, from_start, game_at, news, opened, sessions_of, shown_items};
 ghost use Rattle.linked_desk.specs.Seats.{pairs_of};
 
@@ -14,8 +15,8 @@ use crate::tally::Tally;
 use crate::views::{game_number, view_of};
 use chess_model::Terms;
 use clock_ledger::Moment;
-use desk_boards::{BoardNumber, Boards};
-use fics_words::{DeskNumber, Line, Opponents, Seats};
+use desk_boards::Boards;
+use fics_words::{BoardNumber, DeskNumber, Line, Opponents, Seats};
 use game_board::GameBoard;
 use memory::NoMemory;
 use observer_feed::{Backlog, Feed};
@@ -157,7 +158,7 @@ fn announcement(
     board: BoardNumber,
     players: &Opponents,
 ) -> Result<Item, NoMemory>
-    ensures { IfOk result (λ item. item ≡ announcement occasion desk terms.now (number_of board) players.now) }
+    ensures { IfOk result (λ item. item ≡ announcement occasion desk terms.now (board_number board) players.now) }
 {
     let game = game_number(desk, board.number());
     Ok(Item::Talk(news(alloc, occasion, game, players, terms)?))

@@ -3,7 +3,7 @@ ghost use Rattle.std.specs.Prelude.{◌≡◌};
 ghost use Rattle.linked_desk.specs.Seats.{board_of, colour_at};
 
 use chess_model::Colour;
-use desk_boards::BoardNumber;
+use fics_words::BoardNumber;
 
 /// The colour of a seat: seats 0 and 2 are White's, 1 and 3 Black's.
 pub fn colour_at(seat: u8) -> Colour

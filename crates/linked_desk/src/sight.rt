@@ -4,7 +4,7 @@ ghost use Rattle.linked_desk.specs.Sight.{board_in, observing, playing, sight};
 
 use crate::seats::{board_of, colour_at};
 use chess_model::Colour;
-use desk_boards::BoardNumber;
+use fics_words::BoardNumber;
 use style12_writer::{BoardView, Viewer};
 
 /// How a board is seen: by the player of that seat, or by an observer, who has none. A player has relation 1 or -1 at

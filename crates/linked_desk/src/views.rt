@@ -1,7 +1,7 @@
 //! What is shown of a game.
 ghost use Rattle.std.specs.Prelude.{◌≡◌, ◌+◌, ◌<◌, ◌≤◌, ℕ, IfOk, option_map, slice_get};
 ghost use Rattle.style12_writer.specs.declared.item.Item.TheVariants as item;
-ghost use Rattle.desk_boards.specs.Boards.{place};
+ghost use Rattle.fics_words.specs.Boards.{board_place};
 ghost use Rattle.linked_desk.specs.Acts.{game_effect, items_told};
 ghost use Rattle.linked_desk.specs.Desk.{game_number};
 ghost use Rattle.linked_desk.specs.Views.{feed_with, view_of, views_of};
@@ -9,8 +9,7 @@ ghost use Rattle.linked_desk.specs.Views.{feed_with, view_of, views_of};
 use crate::acts::DeskAct;
 use crate::game::Game;
 use chess_model::Colour;
-use desk_boards::BoardNumber;
-use fics_words::{DeskNumber, Opponents};
+use fics_words::{BoardNumber, DeskNumber, Opponents};
 use game_board::GameBoard;
 use memory::NoMemory;
 use observer_feed::Feed;
@@ -47,14 +46,14 @@ pub(crate) fn view_of(desk: DeskNumber, players: &Opponents, board: &GameBoard) 
 impl Game {
     /// A board as an item, if the game has it.
     pub(crate) fn board_item(&self, desk: DeskNumber, board: BoardNumber) -> Option<Item>
-        ensures { result ≡ option_map item.Board (slice_get (views_of desk self.now) (place board)) }
+        ensures { result ≡ option_map item.Board (slice_get (views_of desk self.now) (board_place board)) }
     {
         Some(Item::Board(self.view(desk, board)?))
     }
 
     /// What is shown of a board, if the game has it.
     pub(crate) fn view(&self, desk: DeskNumber, board: BoardNumber) -> Option<BoardView>
-        ensures { result ≡ slice_get (views_of desk self.now) (place board) }
+        ensures { result ≡ slice_get (views_of desk self.now) (board_place board) }
     {
         let players = match board {
             BoardNumber::First => &self.seats.first,

@@ -4,8 +4,8 @@ use crate::stages::{Case, Stage, each_case};
 use crate::table::Given::Refused;
 use crate::table::{ANN, BEN, Does, Given, Opening, STRANGER, Step};
 use chess_model::Colour;
-use fics_words::Refusal;
-use linked_desk::{BoardNumber, Ended, Why};
+use fics_words::{BoardNumber, Refusal};
+use linked_desk::{Ended, Why};
 use std::test::Fail;
 
 const RESIGNATION: &[Step] = &[

@@ -2,7 +2,7 @@ use Rattle.std.proofs.Common.{◌≡◌, ◌++◌, true, false, take, sym, ap, s
 use Rattle.chess_model.specs.Result.{result, is_end}
 use Rattle.game_board.specs.Board.{Board, position_of}
 use Rattle.game_board.specs.Play.{move_answer}
-use Rattle.desk_boards.specs.declared.board_number.BoardNumber.TheVariants.{First}
+use Rattle.fics_words.specs.declared.board_number.BoardNumber.TheVariants.{First}
 use Rattle.examine_board.specs.Exam.{ExamState, board_on}
 use Rattle.examine_board.specs.Play.{is_pair, position}
 use Rattle.examine_board.proofs.Words.{Going, answer_over, answer_pair, first_is, going, going_answer, going_lies, going_room, position_is}

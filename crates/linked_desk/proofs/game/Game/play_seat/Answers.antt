@@ -6,8 +6,9 @@ use Rattle.fics_words.specs.Effect.{first_cause, refused_by}
 use Rattle.fics_words.specs.declared.refusal.Refusal.{Refusal}
 use Rattle.style12_writer.specs.declared.item.Item.{Item}
 use Rattle.style12_writer.specs.declared.item.Item.TheVariants as item
-use Rattle.desk_boards.specs.Boards.{boards_after, reply_at, word_at, place}
-use Rattle.desk_boards.specs.declared.board_number.BoardNumber.{BoardNumber}
+use Rattle.fics_words.specs.Boards.{board_place}
+use Rattle.desk_boards.specs.Boards.{boards_after, reply_at, word_at}
+use Rattle.fics_words.specs.declared.board_number.BoardNumber.{BoardNumber}
 use Rattle.linked_desk.specs.Desk.{GameState, moment_at}
 use Rattle.linked_desk.specs.Playing.{captured_by, seat_word, with_cleared}
 use Rattle.linked_desk.specs.Seats.{board_of}
@@ -40,9 +41,9 @@ returns c =
     let told : GameState =
     record played { feed = c.add_some-3.new.feed.items; viewers = c.add_some-3.new.feed.viewers } in
     let same : at ≡ board_of c.args.seat = c.board_of-board.ensures in
-    let answer : word_at (slice_get held.boards (place at)) c.colour_at.result c.args.word.now
+    let answer : word_at (slice_get held.boards (board_place at)) c.colour_at.result c.args.word.now
     ≡ seat_word g c.args.seat c.args.word.now =
-    λ i. word_at (slice_get (view i).boards (place (same i))) (c.colour_at.ensures i) c.args.word.now in
+    λ i. word_at (slice_get (view i).boards (board_place (same i))) (c.colour_at.ensures i) c.args.word.now in
     let last : c.max-now.result ≡ moment_at g c.args.moment = search rules in
     let boards : c.play.new.self
     ≡ boards_after g.boards (board_of c.args.seat) (moment_at g c.args.moment) c.args.stamp
@@ -52,11 +53,11 @@ returns c =
     c.moved.ensures ∙ ap (λ (s : GameState). (with_cleared c.args.seat s).offers) view in
     let captured : man
     ≡ captured_by
-    (reply_at (slice_get g.boards (place (board_of c.args.seat))) (seat_word g c.args.seat c.args.word.now)) =
+    (reply_at (slice_get g.boards (board_place (board_of c.args.seat))) (seat_word g c.args.seat c.args.word.now)) =
     ap captured_by c.in_ok-captured.ensures.reply
-    ∙ (λ i. captured_by (reply_at (slice_get (view i).boards (place (same i))) (answer i))) in
+    ∙ (λ i. captured_by (reply_at (slice_get (view i).boards (board_place (same i))) (answer i))) in
     let shown : List Item =
-    feed_with held.feed (option_map item.Board (slice_get (views_of c.args.desk played) (place at))) in
+    feed_with held.feed (option_map item.Board (slice_get (views_of c.args.desk played) (board_place at))) in
     let one : c.add_some.new.feed.items ≡ shown =
     c.add_some.ensures.items ∙ (λ i. feed_with (c.in_ok-reserve.ensures.ok i).items (c.board_item-item.ensures i)) in
     let two : c.add_some-2.new.feed.items ≡ feed_with shown (hands_at c.args.desk played at man) =

@@ -1,6 +1,6 @@
 //! The boards of a game, by number.
 ghost use Rattle.std.specs.Prelude.{◌≡◌};
-ghost use Rattle.desk_boards.specs.Boards.{number_of, numbered, other_number};
+ghost use Rattle.fics_words.specs.Boards.{board_number, numbered_board, other_number};
 
 /// A board of a game: the first one, or the second one of bughouse.
 #[derive(Clone, Copy, PartialEq, Eq)]
@@ -12,7 +12,7 @@ pub enum BoardNumber {
 impl BoardNumber {
     /// The board that has this number in a record, 1 or 2; None for any other number.
     pub fn of(number: u8) -> Option<BoardNumber>
-        ensures { result ≡ numbered number }
+        ensures { result ≡ numbered_board number }
     {
         match number {
             1 => Some(BoardNumber::First),
@@ -23,7 +23,7 @@ impl BoardNumber {
 
     /// Its number, 1 or 2.
     pub fn number(self) -> u8
-        ensures { result ≡ number_of self }
+        ensures { result ≡ board_number self }
     {
         match self {
             BoardNumber::First => 1,
