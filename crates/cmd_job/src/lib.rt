@@ -1,8 +1,7 @@
 //! The words behind the program's name, and the job that they name.
 //!
 //! The contract: `read_job` gives a job exactly where the words name it, by the grammar of `specs/Jobs.antt` and
-//! `specs/Options.antt`, and
-//! nothing but running out of memory stands in its place.
+//! `specs/Options.antt`, and nothing but running out of memory stands in its place.
 #![tactic(auto)]
 
 mod chosen;

@@ -48,8 +48,7 @@ pub record AreReplayed : Type 0 where
   pub boards : (t : Terms) (halves : List Half) (moment : ℕ) → AllByRecursion (IsHalf t.variant) halves →
       IfSome (replayed t halves moment) (AreOf t halves moment)
   -- so the boards of a game that is resumed are those with which it was left, but for the time since which their
-  -- players
-  -- think
+  -- players think
   pub restores : (t : Terms) (boards : List Board) (moment : ℕ) → AreSoundBoards t boards →
       replayed t (halves_of boards) moment ≡ Some (map (resumed_at moment) boards)
 
@@ -67,8 +66,7 @@ pub record BoardsStaySound : Type 0 where
       AreSoundBoards t (boards_taken_back boards n moment)
 
 -- new boards go on, and so do those from which half-moves were taken back; a word ends at most the board at which it
--- was
--- said, since what comes into a hand mates nobody; and what clients acknowledge ends nothing
+-- was said, since what comes into a hand mates nobody; and what clients acknowledge ends nothing
 pub record EndsComeByMoves : Type 0 where
   pub start : (t : Terms) (moment : ℕ) → GoOn (new_boards t moment)
   pub play : (t : Terms) (boards : List Board) (board : BoardNumber) (moment : ℕ) (c : Colour) (word : MoveWord)

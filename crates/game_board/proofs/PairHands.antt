@@ -1,6 +1,5 @@
 -- A hand of a pair has room for a man that is captured on the other board: the men of a colour and kind on both boards
--- and
--- in their hands are those of two sets.
+-- and in their hands are those of two sets.
 use Rattle.std.proofs.Common.{◌≡◌, ◌≢◌, ℕ, ◌+◌, ◌*◌, ◌≤◌, ◌<◌, Bool, true, false, ◌&&◌, if◌then◌else◌, cond, List, ◌++◌, Option, Some, None, IfSome, inl, inr, refl, sym, ap, subst, ◌∙◌, arith}
 use Rattle.std.proofs.lemmas.Bool.{cases_eq}
 use Rattle.chess_model.specs.declared.hand.Hand.{Hand}

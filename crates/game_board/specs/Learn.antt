@@ -1,6 +1,5 @@
 -- A half-move on the other board of a pair, as a board learns of it: the man that it captures there comes into the hand
--- of
--- its own colour here (FICS help page `bughouse`).
+-- of its own colour here (FICS help page `bughouse`).
 use Rattle.std.specs.Prelude.{◌+◌, cond, ◌∷◌, [], ◌++◌, Option, Some, None}
 use Rattle.chess_model.specs.declared.man.Man.{Man}
 use Rattle.chess_model.specs.declared.moves.Move.{Move}

@@ -15,8 +15,7 @@ is_next_charged b = is_timed b.terms && has_moved (to_move b) b.list
 
 -- whether a board takes a half-move with the charge that it has, if it has one: the game hasn't ended by mate or
 -- stalemate (it ends by the last half-move, if at all), there is room, the half-move is allowed, and the charge is
--- there
--- exactly where one belongs
+-- there exactly where one belongs
 unfoldable pub takes_played : Board → Played → Bool
 takes_played b p =
     not (is_end (state_in (position_of b))) && nat_lt b.played most_halves && is_allowed (position_of b) p.what

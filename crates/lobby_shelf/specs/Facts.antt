@@ -19,9 +19,8 @@ AreOnce (request ∷ requests) =
     (list_any (is_request request.by request.game) requests ≡ false) × AreOnce requests
 
 -- there are at most 10,000 games, in the order of their numbers, which are from 1 on; each of them replays; the numbers
--- of
--- the orders rise up to the last one that was made; each request is for a game that lies on the shelf, and none stands
--- twice
+-- of the orders rise up to the last one that was made; each request is for a game that lies on the shelf, and none
+-- stands twice
 pub record IsShelf (shelf : ShelfState) : Type 0 where
   pub room : length shelf.games ≤ most_stored
   pub numbers : AreInOrder shelf.games

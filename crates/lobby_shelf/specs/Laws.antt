@@ -7,8 +7,7 @@ use Rattle.lobby_shelf.specs.Shelf.{ShelfState, asked, asks, saved, taken_off, w
 use Rattle.lobby_shelf.specs.Wanted.{told_up_to}
 
 -- a game that comes is found under its number, a game that goes is found no more, and every other one is found as
--- before;
--- and a game that is adjourned gets the least positive number that no stored game has
+-- before; and a game that is adjourned gets the least positive number that no stored game has
 pub record GamesAreFound (shelf : ShelfState) : Type 0 where
   pub put : (number : ℕ) (game : StoredGame) → is_used shelf.games number ≡ false
       → stored_game (with_stored shelf number game).games number ≡ Some game

@@ -54,8 +54,7 @@ table_with table [] = table
 table_with table (order ∷ orders) = table_with (with_order table order) orders
 
 -- the table agrees with these accounts and this shelf: once the orders that stand are carried out it holds what it is
--- to
--- hold
+-- to hold
 abbrev pub Agrees : StoreMap → List Account → ShelfState → Type 0
 Agrees table accounts shelf = (key : List ℕ) → table_with table shelf.orders key ≡ wanted accounts shelf.games key
 
@@ -64,11 +63,9 @@ abbrev pub told_up_to : ShelfState → ℕ → List Order
 told_up_to shelf upto = filter (λ order. nat_le order.number upto) shelf.orders
 
 -- each change makes the order that leads the store along. A table that agrees with the accounts and the shelf agrees
--- with
--- them after a new account and its order, after a game that goes on the shelf, and after one that is taken off. Once a
--- store has carried out the orders up to a number, and they are told as saved, it still agrees; and to carry some of
--- the
--- first orders out twice, as after a failure, leads to the same
+-- with them after a new account and its order, after a game that goes on the shelf, and after one that is taken off.
+-- Once a store has carried out the orders up to a number, and they are told as saved, it still agrees; and to carry
+-- some of the first orders out twice, as after a failure, leads to the same
 pub record OrdersLead : Type 0 where
   pub account : (table : StoreMap) (accounts : List Account) (shelf : ShelfState) (account : Account)
       → find (is_account_at (account_key (key_of account.name))) accounts ≡ None → Agrees table accounts shelf

@@ -29,9 +29,8 @@ abbrev pub for_store : LobbyState → ForStore
 for_store lobby = (lobby.accounts, lobby.shelf.games, lobby.shelf.orders)
 
 -- under these conditions the new lobby is well-formed where the old one is; each desk is in use for the game for which
--- it
--- was; the lines that waited for a member are the first that do; and where nothing is said to a store it is to hold the
--- same
+-- it was; the lines that waited for a member are the first that do; and where nothing is said to a store it is to hold
+-- the same
 pub record Follows (conditions silent : Type 0) (old new : LobbyState) : Type 0 where
   pub formed : conditions → IsWellFormed old → IsWellFormed new
   pub games : new.games ≡ old.games

@@ -56,8 +56,7 @@ LeavesStore (Saved upto) = ⊥
 LeavesStore _ = Unit {0}
 
 -- what an act of a session keeps: what holds of every act; the lines that wait for a member, but for its own Fetch and
--- Bye;
--- and what a store is to hold
+-- Bye; and what a store is to hold
 pub record ActKeeps (lobby : LobbyState) (by : ℕ) (act : LobbyAct) : Type 0 where
   pub kept : KeepsWhere (FitsLobby act) lobby (lobby_effect lobby by act)
   pub lines : (session : ℕ) → (act ≡ Fetch → by ≢ session) → (act ≡ Bye → by ≢ session)

@@ -53,8 +53,7 @@ pub record IsUnguarded (p : Position) (a : ℕ) : Type 0 where
       → IsSafeAfter p (Plain a b promo)
 
 -- which half-moves have to be tried for the safety of the own king: those from a set of squares and, in check, drops;
--- and
--- which can't leave it safe: those of other men, and drops, outside a set of squares
+-- and which can't leave it safe: those of other men, and drops, outside a set of squares
 pub record IsGuard (p : Position) (guard : Guard) : Type 0 where
   pub safe : guard.in_check ≡ false → IsKingSafe p.men p.to_move
   pub check : guard.in_check ≡ true → ¬ IsKingSafe p.men p.to_move
