@@ -29,7 +29,8 @@ impl Boards {
     /// isn't asked. The other board of a pair learns of it. Takes no memory.
     pub fn lay(&mut self, board: BoardNumber, half: &Played)
         requires there { IsSome (slice_get self.old (board_place board)) }
-        requires allowed { IfSome (slice_get self.old (board_place board)) (λ b. Allowed (position_of b) half.now.what) }
+        requires allowed { IfSome (slice_get self.old (board_place board))
+            (λ b. Allowed (position_of b) half.now.what) }
         requires room { IfSome (slice_get self.old (board_place board)) (λ b. b.played < most_halves) }
         requires short { IfSome (slice_get self.old (board_place board)) (λ b. length b.list < most_halves) }
         requires sound { IfSome half.now.charge IsChargeable }

@@ -48,7 +48,8 @@ impl Boards {
     /// Whether the boards take a half-move at this one, with the charge that it has.
     fn takes(&self, board: BoardNumber, half: &Played) -> bool
         ensures value { result ≡ takes_half self.now board half.now }
-        ensures short { IsTrue result → IfSome (slice_get self.now (board_place board)) (λ b. length b.list < most_halves) }
+        ensures short { IsTrue result → IfSome (slice_get self.now (board_place board))
+            (λ b. length b.list < most_halves) }
     {
         let Some(own) = self.at(board) else {
             return false;
