@@ -30,7 +30,7 @@ impl Model for UntimedGame {
     ghost use Rattle.cmd_board.specs.Game.{BoardGame};
     ghost use Rattle.cmd_board.specs.GameFields.{HoldsGame};
 
-    ghost Value = { GameState };
+    ghost Value = { BoardGame };
 
     ghost view = { λ game. game.board };
 

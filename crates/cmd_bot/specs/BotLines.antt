@@ -1,6 +1,6 @@
 -- What `bot` writes for an input: what its lines make of the game, and the line at the input's end.
 use Rattle.std.specs.Prelude.{ℕ, List, [], ◌++◌, Option, Some, None, codes, option_map}
-use Rattle.house_bot.specs.AnswerText.{answer_of}
+use Rattle.house_bot.specs.AnswerText.{best_line}
 use Rattle.cmd_lines.specs.LineCommand.{LineCommand}
 use Rattle.cmd_bot.specs.Game.{BotGame, move_named, new_game, bot_position, variant_named, with_move}
 
@@ -25,4 +25,4 @@ bot_lines depth = record { start = None; answer = answer_line depth; ending = co
 -- the line at the input's end: the best move of the position, a blank and its value; none where no game was named
 abbrev pub bot_answer : ℕ → BotState → List ℕ
 bot_answer depth None = []
-bot_answer depth (Some game) = answer_of depth (bot_position game) ++ codes "\n"
+bot_answer depth (Some game) = best_line depth (bot_position game) ++ codes "\n"

@@ -2,7 +2,7 @@
 
 ghost use Rattle.std.specs.Prelude.{◌≡◌, ◌≢◌, ◌++◌, IfOk, IfSome, OnOk, MatchOption, true, false};
 ghost use Rattle.chess_model.specs.Allowed.{Allowed};
-ghost use Rattle.house_bot.specs.AnswerText.{answer_of};
+ghost use Rattle.house_bot.specs.AnswerText.{best_line};
 ghost use Rattle.cmd_bot.specs.Game.{is_over, move_named, new_game, bot_position, with_move};
 
 use chess_model::{MOST_HALVES, Move, Variant};
@@ -104,7 +104,7 @@ impl Game {
         depth: u8,
         out: &mut Vec<u8>,
     ) -> Result<(), NoMemory>
-        ensures { OnOk result (out.new.items ≡ out.old.items ++ answer_of depth (bot_position self.old)) }
+        ensures { OnOk result (out.new.items ≡ out.old.items ++ best_line depth (bot_position self.old)) }
     {
         let text = answer_text(alloc, &mut self.position, depth)?;
         out.extend_from_slice(text.as_slice())?;

@@ -33,5 +33,5 @@ pub trait LineHandler: Drop {
     fn ending(&self) -> &'static [u8]
         ensures { result.now ≡ ending };
 
-    ghost lines: { (start : Self) → AreLines (reached start) };
+    ghost lines: { (start : Self) → AreLinesOfRun (reached start) };
 }

@@ -19,7 +19,7 @@ use Rattle.one_server.specs.declared.reply.Reply.{Reply}
 use Rattle.one_server.specs.House.{house}
 use Rattle.one_server.specs.Running.{Log}
 use Rattle.one_server.specs.Server.{ServerState, parts_in}
-use Rattle.one_server.specs.Whole.{opened}
+use Rattle.one_server.specs.Whole.{opened_server}
 use Rattle.replay_core.specs.declared.order.Attendance.{Attendance}
 use Rattle.replay_core.specs.declared.script.ScriptEvent.{ScriptEvent}
 use Rattle.replay_core.specs.declared.script.ScriptEvent.TheVariants as event
@@ -137,7 +137,7 @@ remembered rows session = fold (remembered_after session) newcomer rows
 
 -- a server with an empty lobby and vacant desks
 abbrev pub opening_parts : List Part
-opening_parts = opened opening
+opening_parts = opened_server opening
 
 -- the state of the server after the rows
 abbrev pub parts_after : List Row → List Part

@@ -13,7 +13,7 @@ use Rattle.pgn_book.specs.declared.game.PgnGame.{PgnGame}
 use Rattle.pgn_book.specs.declared.reader.PgnStep.{PgnStep}
 use Rattle.pgn_book.specs.declared.reader.PgnStep.TheVariants.{Game, More, Bad}
 use Rattle.pgn_book.specs.Export.{export_text}
-use Rattle.pgn_book.specs.Reader.{Reader, fresh_reader, IsNext, IsLast}
+use Rattle.pgn_book.specs.Reader.{Reader, fresh_reader, IsNextGame, IsLast}
 use Rattle.pgn_book.specs.BadLines.{IsLeftOn}
 use Rattle.pgn_book.specs.Runs.{AreWhole, EndsSo, HasGiven, outcome_of}
 use Rattle.pgn_book.proofs.WholeGames.{whole_told}
@@ -60,7 +60,8 @@ tidied taken due games r h empty on e =
 pub next_put : (taken base : List ℕ) (games : List PgnGame) (step : PgnStep) (old new : Reader) (out out' : List ℕ)
     (r : Result Bool Stop)
     → HasGiven taken games old →
-    base ++ out ≡ exports games → IsNext old step new → PutsStep step out out' r → AfterPut taken (base ++ out') new r
+    base ++ out ≡ exports games → IsNextGame old step new → PutsStep step out out' r
+    → AfterPut taken (base ++ out') new r
 next_put taken base games (Game g) old new out out' (Ok more) h e is put =
     put_as taken (base ++ out') new more true put.0
     (record {

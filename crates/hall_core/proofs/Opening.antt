@@ -8,7 +8,7 @@ use Rattle.lobby_state.specs.WellFormed.{IsWellFormed}
 use Rattle.one_server.specs.declared.part.Part.{Part}
 use Rattle.one_server.specs.declared.part.Part.TheVariants.{Lobby as TheLobby, Desk as ADesk}
 use Rattle.one_server.specs.Desks.{vacant}
-use Rattle.one_server.specs.Whole.{IsOpening, IsWhole, opened, parts_with, vacant_from}
+use Rattle.one_server.specs.Whole.{IsOpening, IsWhole, opened_server, parts_with, vacant_from}
 use Rattle.histories.specs.History.{calls_of, Legal}
 use Rattle.one_server.specs.declared.act.Timed.{Timed}
 use Rattle.one_server.specs.declared.reply.Reply.{Reply}
@@ -31,18 +31,19 @@ parts_push lobby slot parts new desk e d n =
     ∙ ap (λ ps. TheLobby lobby ∷ ps) (sym (map-append ADesk (vacant_from 1 slot) (desk ∷ [])))
     ∙ ap (parts_with lobby) more
 
-pub is_opened : (lobby : LobbyState) → parts_with lobby (vacant_from 1 desk_count) ≡ opened lobby
-unfolding opened
+pub is_opened : (lobby : LobbyState) → parts_with lobby (vacant_from 1 desk_count) ≡ opened_server lobby
+unfolding opened_server
 is_opened lobby = refl
 
 -- a hall opens in a whole state
-pub whole_parts : (lobby : LobbyState) (parts : List Part) → IsWellFormed lobby → IsOpening lobby → parts ≡ opened lobby
+pub whole_parts : (lobby : LobbyState) (parts : List Part) → IsWellFormed lobby → IsOpening lobby
+    → parts ≡ opened_server lobby
     → IsWhole parts
 whole_parts lobby parts formed opening e = subst IsWhole (is_opened lobby ∙ sym e) (whole_opening lobby formed opening)
 
 -- its first pass
 pub opens_hall : (lobby : LobbyState) (parts : List Part) (p : PassStanding Part Timed Reply) → IsWellFormed lobby
-    → IsOpening lobby → parts ≡ opened lobby → p.view ≡ new_view parts → IsHallPass p
+    → IsOpening lobby → parts ≡ opened_server lobby → p.view ≡ new_view parts → IsHallPass p
 opens_hall lobby parts p formed opening e view =
     let opens : p.view.opening ≡ parts = ap (λ (x : View Part Timed Reply). x.opening) view in
     let seen : p.view.seen ≡ [] = ap (λ (x : View Part Timed Reply). x.seen) view in

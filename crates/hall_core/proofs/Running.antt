@@ -11,7 +11,7 @@ use Rattle.one_server.specs.declared.act.Timed.{Timed}
 use Rattle.one_server.specs.declared.part.Part.{Part}
 use Rattle.one_server.specs.declared.reply.Reply.{Reply}
 use Rattle.one_server.specs.House.{house}
-use Rattle.one_server.specs.Running.{IsKnown, Log, Made, Runs, Ran as IsAnswered, in_its_place}
+use Rattle.one_server.specs.Running.{IsKnown, Log, Made, Runs, ServerRan as IsAnswered, in_its_place}
 use Rattle.one_server.specs.Whole.{IsWhole}
 use Rattle.one_server.proofs.Replies.{last_reply}
 use Rattle.turn_table.specs.declared.view.View.{View}

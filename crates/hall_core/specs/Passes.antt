@@ -7,7 +7,7 @@ use Rattle.one_server.specs.declared.act.Timed.{Timed}
 use Rattle.one_server.specs.declared.part.Part.{Part}
 use Rattle.one_server.specs.declared.reply.Reply.{Reply}
 use Rattle.one_server.specs.Running.{IsKnown, RunnerState}
-use Rattle.one_server.specs.Whole.{IsOpening, IsWhole, opened}
+use Rattle.one_server.specs.Whole.{IsOpening, IsWhole, opened_server}
 use Rattle.turn_table.specs.declared.view.Joined.{Joined}
 use Rattle.turn_table.specs.Passes.{PassStanding}
 use Rattle.turn_table.specs.Views.{In}
@@ -40,7 +40,7 @@ runs_of pass = record {
 
 -- the opening state of a lobby without a member and without a desk in use
 abbrev pub IsOpened : List Part → Type 0
-IsOpened parts = (lobby : LobbyState) × IsOpening lobby × (parts ≡ opened lobby)
+IsOpened parts = (lobby : LobbyState) × IsOpening lobby × (parts ≡ opened_server lobby)
 
 -- the pass holds no part; its hall opened with such a lobby, in a whole state; what it has seen is legal, and what it
 -- made are its own entries there

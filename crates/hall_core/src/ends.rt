@@ -5,7 +5,7 @@ ghost use Rattle.linked_desk.specs.Desk.{DeskState};
 ghost use Rattle.lobby_state.specs.Desks.{desks as desk_count};
 ghost use Rattle.lobby_state.specs.Lobby.{LobbyState};
 ghost use Rattle.one_server.specs.declared.part.Part.TheVariants.{Lobby as TheLobby, Desk as ADesk};
-ghost use Rattle.one_server.specs.Whole.{IsWhole, opened, parts_with};
+ghost use Rattle.one_server.specs.Whole.{IsWhole, opened_server, parts_with};
 
 use crate::boxed_part::BoxedPart;
 use fics_words::DeskNumber;
@@ -24,7 +24,7 @@ pub struct HallParts {
 
 /// The parts with which a hall opens: this lobby, and the desks 1 to 128, all of them vacant.
 pub fn opening_parts(alloc: Global, lobby: Lobby) -> Result<Vec<BoxedPart>, NoMemory>
-    ensures items { IfOk result (λ parts. parts.items ≡ opened lobby) }
+    ensures items { IfOk result (λ parts. parts.items ≡ opened_server lobby) }
     ensures count { IfOk result (λ parts. vec_len parts ≡ desk_count + 1) }
 {
     let mut parts = Vec::new(alloc);

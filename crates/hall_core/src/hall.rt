@@ -9,7 +9,7 @@ ghost use Rattle.one_server.specs.declared.reply.Reply.{Reply};
 ghost use Rattle.one_server.specs.Acts.{IsEvent, NeedsNoMemory};
 ghost use Rattle.one_server.specs.House.{house};
 ghost use Rattle.one_server.specs.Running.{Made, Runs, in_its_place};
-ghost use Rattle.one_server.specs.Whole.{IsOpening, opened, parts_with};
+ghost use Rattle.one_server.specs.Whole.{IsOpening, opened_server, parts_with};
 ghost use Rattle.hall_core.specs.Passes.{EveryoneJoined, first_pass, HasLooked, IsPassJoined, new_pass, pass_divided, runs_of};
 ghost use Rattle.hall_core.specs.Acts.{ActCameTo, OnlyRan};
 
@@ -51,7 +51,7 @@ impl Hall {
     /// pass. Answers `NoMemory` only when out of memory. The memory that `close` needs is taken here.
     pub fn open(alloc: Global, lobby: Lobby) -> Result<(Hall, HallPass), NoMemory>
         requires { IsOpening lobby }
-        ensures { IfOk result (λ t. t.1 ≡ first_pass t.0 (opened lobby)) }
+        ensures { IfOk result (λ t. t.1 ≡ first_pass t.0 (opened_server lobby)) }
     {
         lobbies_are_well_formed(&lobby);
         let parts = opening_parts(alloc, lobby)?;

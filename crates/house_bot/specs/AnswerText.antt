@@ -13,8 +13,8 @@ found_text None = codes "none"
 found_text (Some m) = spelling_of m
 
 -- the best move, a blank and the value
-abbrev pub answer_of : ℕ → Position → List ℕ
-answer_of d p = found_text (best_move d p) ++ 32 ∷ signed_decimal (value d p)
+abbrev pub best_line : ℕ → Position → List ℕ
+best_line d p = found_text (best_move d p) ++ 32 ∷ signed_decimal (value d p)
 
 example_mate : found_text (Some (Plain 59 31 None)) ≡ codes "d8h4"
 example_mate = refl

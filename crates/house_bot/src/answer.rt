@@ -1,7 +1,7 @@
 //! What the bot answers, as a text.
 ghost use Rattle.std.specs.Prelude.{◌≡◌, ◌≢◌, ◌∷◌, ◌++◌, IfOk};
 ghost use Rattle.std.specs.Fmt.{signed_decimal};
-ghost use Rattle.house_bot.specs.AnswerText.{found_text, answer_of};
+ghost use Rattle.house_bot.specs.AnswerText.{found_text, best_line};
 
 use crate::chosen::best;
 use chess_model::{Move, Variant};
@@ -16,7 +16,7 @@ use variant_rules::Position;
 pub fn answer_text(alloc: Global, p: &mut Position, depth: u8) -> Result<Vec<u8>, NoMemory>
     requires { p.old.variant ≢ Variant.Bughouse }
     ensures same { p.new ≡ p.old }
-    ensures text { IfOk result (λ text. text.items ≡ answer_of depth p.old) }
+    ensures text { IfOk result (λ text. text.items ≡ best_line depth p.old) }
 {
     let (value, found) = best(alloc, p, depth)?;
     let text = written(alloc, found, value)?;

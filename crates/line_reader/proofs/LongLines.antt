@@ -6,7 +6,7 @@ use Rattle.std.proofs.lemmas.Bool.Decides.{nat_tests}
 use Rattle.line_reader.specs.declared.incoming.Incoming.{Incoming}
 use Rattle.line_reader.specs.declared.incoming.Incoming.TheVariants.{TooLong}
 use Rattle.fics_words.specs.Pieces.{pieces, IsUnbroken}
-use Rattle.line_reader.specs.Reading.{is_stamped, stamped_reading, plain_reading, reading, rest_reading}
+use Rattle.line_reader.specs.Reading.{is_stamped, stamped_reading, plain_reading, incoming_of, rest_reading}
 pub use Rattle.fics_words.proofs.Pieces.{Begins, Begins-pieces}
 
 -- an unbroken line in front belongs to the first piece
@@ -18,7 +18,7 @@ pieces_front (b ∷ line) text first others all e =
     ∙ ap (onto_first b) (pieces_front line text first others all.1 e)
 
 -- a long line is too long
-pub too_long : (line : List ℕ) → 1034 ≤ length line → reading line ≡ TooLong
+pub too_long : (line : List ℕ) → 1034 ≤ length line → incoming_of line ≡ TooLong
 too_long line long =
     let plain : nat_lt 1023 (length line) ≡ true = grind (arith, nat_tests) in
     let stamped : nat_lt 1033 (length line) ≡ true = grind (arith, nat_tests) in

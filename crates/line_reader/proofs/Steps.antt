@@ -14,8 +14,8 @@ use Rattle.line_reader.specs.declared.incoming.Incoming.{Incoming}
 use Rattle.fics_words.specs.Pieces.{is_kept, pieces, but_last, last_of, IsUnbroken}
 use Rattle.line_reader.specs.Telnet.{after, is_data, data_from}
 use Rattle.line_reader.specs.Cutting.{Cutting, ends_line, grown, passed}
-use Rattle.line_reader.specs.Reading.{reading, rest_reading}
-use Rattle.line_reader.specs.Reader.{Reader, reading_on, kept_from, lines_of, rest_of, GiveSame, GivesLine, IsKept}
+use Rattle.line_reader.specs.Reading.{incoming_of, rest_reading}
+use Rattle.line_reader.specs.Reader.{LineReading, reading_on, kept_from, lines_to_come, rest_to_come, GiveSame, GivesLine, IsKept}
 use Rattle.line_reader.proofs.LongLines.{pieces_front, too_long, rest_too_long}
 use Rattle.line_reader.proofs.OpenLines.{take_short, full_stays}
 use Rattle.fics_words.proofs.Pieces.{Begins-pieces, but_last-cons, last_of-cons}
@@ -23,19 +23,21 @@ use Rattle.fics_words.proofs.Pieces.{Begins-pieces, but_last-cons, last_of-cons}
 -- two texts with the same lines and the same rest
 abbrev SameText : List ℕ → List ℕ → Type 0
 SameText one other =
-    (map reading (but_last (pieces one)) ≡ map reading (but_last (pieces other)))
+    (map incoming_of (but_last (pieces one)) ≡ map incoming_of (but_last (pieces other)))
     × (rest_reading (last_of (pieces one)) ≡ rest_reading (last_of (pieces other)))
 
 same_text : (one other : List ℕ) → one ≡ other → SameText one other
-same_text one other e =
-    (ap (λ (l : List ℕ). map reading (but_last (pieces l))) e, ap (λ (l : List ℕ). rest_reading (last_of (pieces l))) e)
+same_text one other e = (
+  ap (λ (l : List ℕ). map incoming_of (but_last (pieces l))) e,
+  ap (λ (l : List ℕ). rest_reading (last_of (pieces l))) e,
+)
 
 -- only the first line differs, and both are read alike
-heads : (x y : List ℕ) (others : List (List ℕ)) → reading x ≡ reading y → rest_reading x ≡ rest_reading y
-    → (map reading (but_last (x ∷ others)) ≡ map reading (but_last (y ∷ others)))
+heads : (x y : List ℕ) (others : List (List ℕ)) → incoming_of x ≡ incoming_of y → rest_reading x ≡ rest_reading y
+    → (map incoming_of (but_last (x ∷ others)) ≡ map incoming_of (but_last (y ∷ others)))
     × (rest_reading (last_of (x ∷ others)) ≡ rest_reading (last_of (y ∷ others)))
 heads x y [] e f = (refl, f)
-heads x y (z ∷ zs) e f = (ap (λ (i : Incoming). i ∷ map reading (but_last (z ∷ zs))) e, refl)
+heads x y (z ∷ zs) e f = (ap (λ (i : Incoming). i ∷ map incoming_of (but_last (z ∷ zs))) e, refl)
 
 -- a byte more in a line that is too long
 over_long : (line : List ℕ) (b : ℕ) (text : List ℕ) → IsUnbroken line → 1034 ≤ length line → (b == 10) ≡ false
@@ -52,8 +54,8 @@ over_long line b text all long e =
     let both = heads (line ++ b ∷ begins.first) (line ++ begins.first) begins.others
     (too_long (line ++ b ∷ begins.first) p ∙ sym (too_long (line ++ begins.first) q))
     (rest_too_long (line ++ b ∷ begins.first) p ∙ sym (rest_too_long (line ++ begins.first) q)) in (
-      ap (λ (l : List (List ℕ)). map reading (but_last l)) one ∙ both.0
-          ∙ sym (ap (λ (l : List (List ℕ)). map reading (but_last l)) other),
+      ap (λ (l : List (List ℕ)). map incoming_of (but_last l)) one ∙ both.0
+          ∙ sym (ap (λ (l : List (List ℕ)). map incoming_of (but_last l)) other),
       ap (λ (l : List (List ℕ)). rest_reading (last_of l)) one ∙ both.1
           ∙ sym (ap (λ (l : List (List ℕ)). rest_reading (last_of l)) other),
     )
@@ -114,7 +116,7 @@ pub end_gives : (telnet : Telnet) (line : List ℕ) (b : ℕ) (fed : List ℕ) �
       telnet = telnet;
       line = line;
       fed = b ∷ fed;
-    }) (reading line) (record { telnet = telnet; line = []; fed = fed })
+    }) (incoming_of line) (record { telnet = telnet; line = []; fed = fed })
 end_gives telnet line b fed kept e more =
     let text = kept_from telnet (fed ++ more) in
     let begins = Begins-pieces text in
@@ -122,8 +124,8 @@ end_gives telnet line b fed kept e more =
     ap (λ (l : List ℕ). pieces (line ++ l)) (feed_data telnet b (fed ++ more) e)
     ∙ pieces_front line (10 ∷ text) [] (pieces text) kept.unbroken refl
     ∙ ap (λ (l : List ℕ). l ∷ pieces text) (append-nil line) in (
-      ap (λ (l : List (List ℕ)). map reading (but_last l)) whole
-          ∙ ap (map reading) (but_last-cons line (pieces text) begins),
+      ap (λ (l : List (List ℕ)). map incoming_of (but_last l)) whole
+          ∙ ap (map incoming_of) (but_last-cons line (pieces text) begins),
       ap (λ (l : List (List ℕ)). rest_reading (last_of l)) whole
           ∙ ap rest_reading (last_of-cons line (pieces text) begins),
     )
@@ -135,17 +137,17 @@ whole_line telnet line kept =
     pieces_front line [] [] [] kept.unbroken refl ∙ ap (λ (l : List ℕ). l ∷ []) (append-nil line)
 
 pub no_lines : (telnet : Telnet) (line : List ℕ) → IsKept line
-    → lines_of (record { telnet = telnet; line = line; fed = [] }) [] ≡ []
-no_lines telnet line kept = ap (λ (l : List (List ℕ)). map reading (but_last l)) (whole_line telnet line kept)
+    → lines_to_come (record { telnet = telnet; line = line; fed = [] }) [] ≡ []
+no_lines telnet line kept = ap (λ (l : List (List ℕ)). map incoming_of (but_last l)) (whole_line telnet line kept)
 
 pub rest_is : (telnet : Telnet) (line : List ℕ) → IsKept line
-    → rest_of (record { telnet = telnet; line = line; fed = [] }) [] ≡ rest_reading line
+    → rest_to_come (record { telnet = telnet; line = line; fed = [] }) [] ≡ rest_reading line
 rest_is telnet line kept = ap (λ (l : List (List ℕ)). rest_reading (last_of l)) (whole_line telnet line kept)
 
 -- ---- what the code has done
 
 -- the reader after a byte that doesn't end the line
-pub view_passed : (cutting new : Cutting) (looked_at : ℕ) (items : List ℕ) (byte : ℕ) (now : Reader)
+pub view_passed : (cutting new : Cutting) (looked_at : ℕ) (items : List ℕ) (byte : ℕ) (now : LineReading)
     → reading_on cutting (drop looked_at items) ≡ now → new ≡ passed cutting byte
     → reading_on new (drop (looked_at + 1) items)
     ≡ record { telnet = after now.telnet byte; line = grown now.telnet now.line byte; fed = drop 1 now.fed }
@@ -153,31 +155,32 @@ view_passed cutting new looked_at items byte now view e =
     ap (λ (c : Cutting). reading_on c (drop (looked_at + 1) items)) e
     ∙ ap (λ (l : List ℕ). reading_on (passed cutting byte) l) (sym (drop-drop 1 looked_at items))
     ∙ ap
-    (λ (r : Reader).
-    let s : Reader = record { telnet = after r.telnet byte; line = grown r.telnet r.line byte; fed = drop 1 r.fed } in
+    (λ (r : LineReading).
+    let s : LineReading =
+    record { telnet = after r.telnet byte; line = grown r.telnet r.line byte; fed = drop 1 r.fed } in
     s)
     view
 
-with_fed : (self : Reader) (fed : List ℕ) → self.fed ≡ fed
+with_fed : (self : LineReading) (fed : List ℕ) → self.fed ≡ fed
     → self ≡ record { telnet = self.telnet; line = self.line; fed = fed }
 with_fed self fed e =
-    ap (λ (l : List ℕ). let r : Reader = record { telnet = self.telnet; line = self.line; fed = l } in r) e
+    ap (λ (l : List ℕ). let r : LineReading = record { telnet = self.telnet; line = self.line; fed = l } in r) e
 
-pub next_gives : (now self new : Reader) (byte : ℕ) (incoming : Incoming) → GiveSame now self
+pub next_gives : (now self new : LineReading) (byte : ℕ) (incoming : Incoming) → GiveSame now self
     → self.fed ≡ byte ∷ drop 1 self.fed → IsKept self.line
-    → ends_line self.telnet byte ≡ true → incoming ≡ reading self.line
+    → ends_line self.telnet byte ≡ true → incoming ≡ incoming_of self.line
     → new ≡ record { telnet = self.telnet; line = []; fed = drop 1 self.fed } → GivesLine now incoming new
 next_gives now self new byte incoming same fed kept ends read is more =
     let whole = with_fed self (byte ∷ drop 1 self.fed) fed in
     let given = end_gives self.telnet self.line byte (drop 1 self.fed) kept ends more in (
-      (same more).0 ∙ ap (λ (r : Reader). lines_of r more) whole ∙ given.0
-          ∙ ap (λ (r : Reader). reading self.line ∷ lines_of r more) (sym is)
-          ∙ ap (λ (i : Incoming). i ∷ lines_of new more) (sym read),
-      (same more).1 ∙ ap (λ (r : Reader). rest_of r more) whole ∙ given.1
-          ∙ ap (λ (r : Reader). rest_of r more) (sym is),
+      (same more).0 ∙ ap (λ (r : LineReading). lines_to_come r more) whole ∙ given.0
+          ∙ ap (λ (r : LineReading). incoming_of self.line ∷ lines_to_come r more) (sym is)
+          ∙ ap (λ (i : Incoming). i ∷ lines_to_come new more) (sym read),
+      (same more).1 ∙ ap (λ (r : LineReading). rest_to_come r more) whole ∙ given.1
+          ∙ ap (λ (r : LineReading). rest_to_come r more) (sym is),
     )
 
-pub next_same : (now self new : Reader) (byte : ℕ) → GiveSame now self → self.fed ≡ byte ∷ drop 1 self.fed
+pub next_same : (now self new : LineReading) (byte : ℕ) → GiveSame now self → self.fed ≡ byte ∷ drop 1 self.fed
     → IsKept self.line
     → ends_line self.telnet byte ≡ false
     → new ≡ record { telnet = after self.telnet byte; line = grown self.telnet self.line byte; fed = drop 1 self.fed }
@@ -185,15 +188,17 @@ pub next_same : (now self new : Reader) (byte : ℕ) → GiveSame now self → s
 next_same now self new byte same fed kept ends is more =
     let whole = with_fed self (byte ∷ drop 1 self.fed) fed in
     let given = pass_same self.telnet self.line byte (drop 1 self.fed) kept ends more in (
-      (same more).0 ∙ ap (λ (r : Reader). lines_of r more) whole ∙ given.0
-          ∙ ap (λ (r : Reader). lines_of r more) (sym is),
-      (same more).1 ∙ ap (λ (r : Reader). rest_of r more) whole ∙ given.1
-          ∙ ap (λ (r : Reader). rest_of r more) (sym is),
+      (same more).0 ∙ ap (λ (r : LineReading). lines_to_come r more) whole ∙ given.0
+          ∙ ap (λ (r : LineReading). lines_to_come r more) (sym is),
+      (same more).1 ∙ ap (λ (r : LineReading). rest_to_come r more) whole ∙ given.1
+          ∙ ap (λ (r : LineReading). rest_to_come r more) (sym is),
     )
 
-pub next_none : (now self : Reader) → GiveSame now self → self.fed ≡ [] → IsKept self.line → lines_of now [] ≡ []
+pub next_none : (now self : LineReading) → GiveSame now self → self.fed ≡ [] → IsKept self.line
+    → lines_to_come now [] ≡ []
 next_none now self same fed kept =
-    (same []).0 ∙ ap (λ (r : Reader). lines_of r []) (with_fed self [] fed) ∙ no_lines self.telnet self.line kept
+    (same []).0 ∙ ap (λ (r : LineReading). lines_to_come r []) (with_fed self [] fed)
+    ∙ no_lines self.telnet self.line kept
 
 -- a byte more of a slice
 dropped : (bytes : List ℕ) (i : ℕ) → i < length bytes → drop i bytes ≡ get_or bytes i 0 ∷ drop (i + 1) bytes
@@ -202,45 +207,46 @@ dropped bytes i within = drop-cons bytes i 0 within ∙ ap (λ (m : ℕ). get_or
 pub all_ends : (cutting new : Cutting) (bytes : List ℕ) (i : ℕ) (whole : Option Incoming) → i < length bytes
     → IsKept cutting.line
     → ends_line cutting.telnet (get_or bytes i 0) ≡ true → new ≡ record { telnet = cutting.telnet; line = [] }
-    → rest_of (reading_on cutting (drop i bytes)) [] ≡ whole
-    → rest_of (reading_on new (drop (i + 1) bytes)) [] ≡ whole
+    → rest_to_come (reading_on cutting (drop i bytes)) [] ≡ whole
+    → rest_to_come (reading_on new (drop (i + 1) bytes)) [] ≡ whole
 all_ends cutting new bytes i whole within kept ends is so_far =
-    ap (λ (c : Cutting). rest_of (reading_on c (drop (i + 1) bytes)) []) is
+    ap (λ (c : Cutting). rest_to_come (reading_on c (drop (i + 1) bytes)) []) is
     ∙ sym ((end_gives cutting.telnet cutting.line (get_or bytes i 0) (drop (i + 1) bytes) kept ends []).1)
-    ∙ ap (λ (l : List ℕ). rest_of (reading_on cutting l) []) (sym (dropped bytes i within))
+    ∙ ap (λ (l : List ℕ). rest_to_come (reading_on cutting l) []) (sym (dropped bytes i within))
     ∙ so_far
 
 pub all_pass : (cutting new : Cutting) (bytes : List ℕ) (i : ℕ) (whole : Option Incoming) → i < length bytes
     → IsKept cutting.line
     → ends_line cutting.telnet (get_or bytes i 0) ≡ false → new ≡ passed cutting (get_or bytes i 0)
-    → rest_of (reading_on cutting (drop i bytes)) [] ≡ whole
-    → rest_of (reading_on new (drop (i + 1) bytes)) [] ≡ whole
+    → rest_to_come (reading_on cutting (drop i bytes)) [] ≡ whole
+    → rest_to_come (reading_on new (drop (i + 1) bytes)) [] ≡ whole
 all_pass cutting new bytes i whole within kept ends is so_far =
-    ap (λ (c : Cutting). rest_of (reading_on c (drop (i + 1) bytes)) []) is
+    ap (λ (c : Cutting). rest_to_come (reading_on c (drop (i + 1) bytes)) []) is
     ∙ sym ((pass_same cutting.telnet cutting.line (get_or bytes i 0) (drop (i + 1) bytes) kept ends []).1)
-    ∙ ap (λ (l : List ℕ). rest_of (reading_on cutting l) []) (sym (dropped bytes i within))
+    ∙ ap (λ (l : List ℕ). rest_to_come (reading_on cutting l) []) (sym (dropped bytes i within))
     ∙ so_far
 
-pub rest_all : (cutting dup new : Cutting) (looked_at : ℕ) (items slice line : List ℕ) (now : Reader)
+pub rest_all : (cutting dup new : Cutting) (looked_at : ℕ) (items slice line : List ℕ) (now : LineReading)
     → reading_on cutting (drop looked_at items) ≡ now → dup ≡ cutting → slice ≡ items
-    → rest_of (reading_on new []) []
-    ≡ rest_of (reading_on dup (take (length slice - looked_at) (drop looked_at slice))) []
-    → IsKept new.line → line ≡ new.line → rest_reading line ≡ rest_of now []
+    → rest_to_come (reading_on new []) []
+    ≡ rest_to_come (reading_on dup (take (length slice - looked_at) (drop looked_at slice))) []
+    → IsKept new.line → line ≡ new.line → rest_reading line ≡ rest_to_come now []
 rest_all cutting dup new looked_at items slice line now view same bytes passed_all kept is =
     let all : take (length slice - looked_at) (drop looked_at slice) ≡ drop looked_at items =
     take_all (length slice - looked_at) (drop looked_at slice) (omega (arith, length-drop looked_at slice))
     ∙ ap (λ (l : List ℕ). drop looked_at l) bytes in
     ap rest_reading is ∙ sym (rest_is new.telnet new.line kept) ∙ passed_all
-    ∙ ap (λ (l : List ℕ). rest_of (reading_on dup l) []) all
-    ∙ ap (λ (c : Cutting). rest_of (reading_on c (drop looked_at items)) []) same
-    ∙ ap (λ (r : Reader). rest_of r []) view
+    ∙ ap (λ (l : List ℕ). rest_to_come (reading_on dup l) []) all
+    ∙ ap (λ (c : Cutting). rest_to_come (reading_on c (drop looked_at items)) []) same
+    ∙ ap (λ (r : LineReading). rest_to_come r []) view
 
 -- the reader behind an LF that ended the line
-pub view_ended : (cutting new : Cutting) (looked_at : ℕ) (items : List ℕ) (now : Reader)
+pub view_ended : (cutting new : Cutting) (looked_at : ℕ) (items : List ℕ) (now : LineReading)
     → reading_on cutting (drop looked_at items) ≡ now → new ≡ record { telnet = cutting.telnet; line = [] }
     → reading_on new (drop (looked_at + 1) items) ≡ record { telnet = now.telnet; line = []; fed = drop 1 now.fed }
 view_ended cutting new looked_at items now view e =
     ap (λ (c : Cutting). reading_on c (drop (looked_at + 1) items)) e
-    ∙ ap (λ (l : List ℕ). let s : Reader = record { telnet = cutting.telnet; line = []; fed = l } in s)
+    ∙ ap (λ (l : List ℕ). let s : LineReading = record { telnet = cutting.telnet; line = []; fed = l } in s)
     (sym (drop-drop 1 looked_at items))
-    ∙ ap (λ (r : Reader). let s : Reader = record { telnet = r.telnet; line = []; fed = drop 1 r.fed } in s) view
+    ∙ ap (λ (r : LineReading). let s : LineReading = record { telnet = r.telnet; line = []; fed = drop 1 r.fed } in s)
+    view

@@ -7,8 +7,8 @@ use Rattle.line_reader.specs.declared.incoming.Incoming.{Incoming}
 use Rattle.line_reader.specs.declared.telnet.Telnet.TheVariants.{Data}
 use Rattle.fics_words.specs.Pieces.{is_kept, pieces, but_last, last_of, IsUnbroken}
 use Rattle.line_reader.specs.Telnet.{data_from}
-use Rattle.line_reader.specs.Reading.{reading, rest_reading}
-use Rattle.line_reader.specs.Reader.{fresh, lines_of, rest_of}
+use Rattle.line_reader.specs.Reading.{incoming_of, rest_reading}
+use Rattle.line_reader.specs.Reader.{fresh, lines_to_come, rest_to_come}
 use Rattle.line_reader.specs.Grammar.{AreLines}
 use Rattle.line_reader.proofs.LongLines.{pieces_front}
 use Rattle.line_reader.proofs.Units.{units_data, units_of}
@@ -41,13 +41,13 @@ last_of-end (x ∷ []) left = refl
 last_of-end (x ∷ y ∷ ys) left = last_of-end (y ∷ ys) left
 
 pub only_lines : (text : List ℕ) (lines : List Incoming) (rest : Option Incoming) → AreLines text lines rest
-    → (lines ≡ lines_of fresh text) × (rest ≡ rest_of fresh text)
+    → (lines ≡ lines_to_come fresh text) × (rest ≡ rest_to_come fresh text)
 only_lines text lines rest h =
     let same : pieces (filter is_kept (data_from Data text)) ≡ h.whole ++ h.left ∷ [] =
     ap (λ (l : List ℕ). pieces (filter is_kept l)) (units_data text h.units h.begun h.parsed) ∙ ap pieces (sym h.joined)
     ∙ parts_only h.whole h.left h.unbroken in (
-      h.lines_are ∙ ap (map reading) (sym (but_last-end h.whole h.left))
-          ∙ sym (ap (λ (l : List (List ℕ)). map reading (but_last l)) same),
+      h.lines_are ∙ ap (map incoming_of) (sym (but_last-end h.whole h.left))
+          ∙ sym (ap (λ (l : List (List ℕ)). map incoming_of (but_last l)) same),
       h.rest_is ∙ ap rest_reading (sym (last_of-end h.whole h.left))
           ∙ sym (ap (λ (l : List (List ℕ)). rest_reading (last_of l)) same),
     )
@@ -66,7 +66,7 @@ unbroken_pieces (b ∷ text) =
       | false ↦ λ e. onto_unbroken b (pieces text) e (Begins-pieces text) (unbroken_pieces text)
     ] refl
 
-pub are_lines : (text : List ℕ) → AreLines text (lines_of fresh text) (rest_of fresh text)
+pub are_lines : (text : List ℕ) → AreLines text (lines_to_come fresh text) (rest_to_come fresh text)
 are_lines text =
     let found = units_of text in
     let kept = filter is_kept (data_from Data text) in

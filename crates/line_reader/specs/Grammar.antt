@@ -4,7 +4,7 @@ use Rattle.std.specs.List.{AllByRecursion, join_with_byte}
 use Rattle.line_reader.specs.declared.incoming.Incoming.{Incoming}
 use Rattle.fics_words.specs.Pieces.{is_kept, IsUnbroken}
 use Rattle.line_reader.specs.Telnet.{is_choice}
-use Rattle.line_reader.specs.Reading.{reading, rest_reading}
+use Rattle.line_reader.specs.Reading.{incoming_of, rest_reading}
 
 -- a part of a block: a byte other than IAC, or IAC and a byte other than SE. IAC IAC is such a pair
 pub data Part : Type 0 where
@@ -94,5 +94,5 @@ pub record AreLines (text : List ℕ) (lines : List Incoming) (rest : Option Inc
   pub parsed : AreUnits text units begun
   pub joined : join_with_byte 10 (whole ++ left ∷ []) ≡ filter is_kept (all_data units)
   pub unbroken : AllByRecursion IsUnbroken (whole ++ left ∷ [])
-  pub lines_are : lines ≡ map reading whole
+  pub lines_are : lines ≡ map incoming_of whole
   pub rest_is : rest ≡ rest_reading left

@@ -6,17 +6,17 @@ use Rattle.line_reader.specs.declared.incoming.Incoming.{Incoming}
 use Rattle.fics_words.specs.Pieces.{is_kept, pieces, but_last, last_of, IsUnbroken}
 use Rattle.line_reader.specs.Cutting.{Cutting}
 use Rattle.line_reader.specs.Telnet.{data_from}
-use Rattle.line_reader.specs.Reading.{reading, rest_reading}
+use Rattle.line_reader.specs.Reading.{incoming_of, rest_reading}
 
 -- the place in the telnet text, what has come of the line (no more of it than tells that it is too long), and the
 -- bytes that were fed and not looked at
-pub record Reader : Type 0 where
+pub record LineReading : Type 0 where
   pub telnet : Telnet
   pub line : List ℕ
   pub fed : List ℕ
 
 -- before the first byte
-abbrev pub fresh : Reader
+abbrev pub fresh : LineReading
 fresh = record { telnet = Data; line = []; fed = [] }
 
 -- the bytes of lines in what comes from a place on
@@ -24,26 +24,28 @@ abbrev pub kept_from : Telnet → List ℕ → List ℕ
 kept_from telnet bytes = filter is_kept (data_from telnet bytes)
 
 -- the lines to come and the rest, when `more` follows
-abbrev pub parts_of : Reader → List ℕ → List (List ℕ)
-parts_of reader more = pieces (reader.line ++ kept_from reader.telnet (reader.fed ++ more))
+abbrev pub parts_to_come : LineReading → List ℕ → List (List ℕ)
+parts_to_come reader more = pieces (reader.line ++ kept_from reader.telnet (reader.fed ++ more))
 
 -- the lines to come, when `more` follows
-abbrev pub lines_of : Reader → List ℕ → List Incoming
-lines_of reader more = map reading (but_last (parts_of reader more))
+abbrev pub lines_to_come : LineReading → List ℕ → List Incoming
+lines_to_come reader more = map incoming_of (but_last (parts_to_come reader more))
 
 -- the rest, when `more` follows and then nothing
-abbrev pub rest_of : Reader → List ℕ → Option Incoming
-rest_of reader more = rest_reading (last_of (parts_of reader more))
+abbrev pub rest_to_come : LineReading → List ℕ → Option Incoming
+rest_to_come reader more = rest_reading (last_of (parts_to_come reader more))
 
 -- both give the same, whatever follows
-abbrev pub GiveSame : Reader → Reader → Type 0
+abbrev pub GiveSame : LineReading → LineReading → Type 0
 GiveSame one other =
-    (more : List ℕ) → (lines_of one more ≡ lines_of other more) × (rest_of one more ≡ rest_of other more)
+    (more : List ℕ)
+    → (lines_to_come one more ≡ lines_to_come other more) × (rest_to_come one more ≡ rest_to_come other more)
 
 -- the one gives this line and then what the other gives, whatever follows
-abbrev pub GivesLine : Reader → Incoming → Reader → Type 0
+abbrev pub GivesLine : LineReading → Incoming → LineReading → Type 0
 GivesLine one incoming other =
-    (more : List ℕ) → (lines_of one more ≡ incoming ∷ lines_of other more) × (rest_of one more ≡ rest_of other more)
+    (more : List ℕ)
+    → (lines_to_come one more ≡ incoming ∷ lines_to_come other more) × (rest_to_come one more ≡ rest_to_come other more)
 
 -- no more than a line is kept of a line that isn't whole
 pub record IsKept (line : List ℕ) : Type 0 where
@@ -51,5 +53,5 @@ pub record IsKept (line : List ℕ) : Type 0 where
   pub unbroken : IsUnbroken line
 
 -- a reader that has come so far, with bytes to be looked at
-abbrev pub reading_on : Cutting → List ℕ → Reader
+abbrev pub reading_on : Cutting → List ℕ → LineReading
 reading_on cutting bytes = record { telnet = cutting.telnet; line = cutting.line; fed = bytes }

@@ -28,10 +28,10 @@ plain_reading line =
     else (if list_all is_printable line then Plain line else BadByte)
 
 -- what a line is
-abbrev pub reading : List ℕ → Incoming
-reading line = if is_stamped line then stamped_reading line else plain_reading line
+abbrev pub incoming_of : List ℕ → Incoming
+incoming_of line = if is_stamped line then stamped_reading line else plain_reading line
 
 -- a rest that isn't empty counts as a line
 abbrev pub rest_reading : List ℕ → Option Incoming
 rest_reading [] = None
-rest_reading (byte ∷ bytes) = Some (reading (byte ∷ bytes))
+rest_reading (byte ∷ bytes) = Some (incoming_of (byte ∷ bytes))

@@ -1,6 +1,6 @@
 //! One line as it is read.
 ghost use Rattle.std.specs.Prelude.{◌≡◌, IfOk};
-ghost use Rattle.line_reader.specs.Reading.{is_stamped, plain_reading, reading, rest_reading, said, stamped_reading};
+ghost use Rattle.line_reader.specs.Reading.{is_stamped, plain_reading, incoming_of, rest_reading, said, stamped_reading};
 ghost use Rattle.stamp_codec.specs.Opening.{opened};
 
 use fics_words::{Line, MOST_LINE_BYTES};
@@ -31,7 +31,7 @@ pub enum Incoming {
 
 /// Reads a line, which is handed in without its LF.
 pub(crate) fn read_line(alloc: Global, line: &[u8]) -> Result<Incoming, NoMemory>
-    ensures { IfOk result (λ incoming. incoming ≡ reading line.now) }
+    ensures { IfOk result (λ incoming. incoming ≡ incoming_of line.now) }
 {
     if is_stamped(line) {
         return read_stamped(alloc, line);

@@ -1,6 +1,6 @@
 //! The reader of a link's lines.
 ghost use Rattle.std.specs.Prelude.{◌≡◌, [], ◌∷◌, ◌++◌, drop, IfOk, OnOk, OnErr, IfSome, IfNone};
-ghost use Rattle.line_reader.specs.Reader.{rest_of, reading_on};
+ghost use Rattle.line_reader.specs.Reader.{rest_to_come, reading_on};
 
 use crate::cutter::Cutter;
 use crate::incoming::{Incoming, read_line, read_rest};
@@ -22,9 +22,9 @@ pub struct LineReader {
 
 impl Model for LineReader {
     ghost use Rattle.std.specs.Prelude.{◌≤◌, drop, vec_len};
-    ghost use Rattle.line_reader.specs.Reader.{Reader};
+    ghost use Rattle.line_reader.specs.Reader.{LineReading};
 
-    ghost Value = { Reader };
+    ghost Value = { LineReading };
 
     ghost view = { λ reader. record {
       telnet = reader.cutter.telnet;
@@ -39,8 +39,8 @@ impl LineReader {
     ghost use Rattle.std.specs.Prelude.{false, ◌<◌, length};
     ghost use Rattle.line_reader.specs.Telnet.{after};
     ghost use Rattle.line_reader.specs.Cutting.{ends_line, grown};
-    ghost use Rattle.line_reader.specs.Reading.{reading};
-    ghost use Rattle.line_reader.specs.Reader.{Reader, fresh, lines_of, rest_of, GiveSame, GivesLine, IsKept};
+    ghost use Rattle.line_reader.specs.Reading.{incoming_of};
+    ghost use Rattle.line_reader.specs.Reader.{LineReading, fresh, lines_to_come, rest_to_come, GiveSame, GivesLine, IsKept};
 
     /// A reader before the first byte.
     pub fn new(alloc: Global) -> Result<LineReader, NoMemory>
@@ -66,7 +66,7 @@ impl LineReader {
     /// Takes off the first whole line of what was fed, or answers `None` where there is none.
     pub fn next(&mut self) -> Result<Option<Incoming>, NoMemory>
         ensures line { IfOk result (λ found. IfSome found (λ incoming. GivesLine self.old incoming self.new)) }
-        ensures none { IfOk result (λ found. IfNone found (lines_of self.old [] ≡ [])) }
+        ensures none { IfOk result (λ found. IfNone found (lines_to_come self.old [] ≡ [])) }
         ensures kept { IfOk result (λ found. IfNone found (GiveSame self.old self.new)) }
         ensures emptied { IfOk result (λ found. IfNone found (self.new.fed ≡ [])) }
         ensures unchanged { OnErr result (GiveSame self.old self.new) }
@@ -86,7 +86,7 @@ impl LineReader {
     /// The unfinished last line at the end of the input, or `None` where nothing of a line is left. Whole lines that
     /// weren't taken are passed over, and the reader stays as it is.
     pub fn rest(&self) -> Result<Option<Incoming>, NoMemory>
-        ensures { IfOk result (λ rest. rest ≡ rest_of self.now []) }
+        ensures { IfOk result (λ rest. rest ≡ rest_to_come self.now []) }
     {
         let mut cutter = self.cutter.duplicate();
         pass_all(&mut cutter, &self.fed.as_slice()[self.looked_at..]);
@@ -111,7 +111,7 @@ impl LineReader {
 
     /// Reads the line.
     fn read(&self) -> Result<Incoming, NoMemory>
-        ensures { IfOk result (λ incoming. incoming ≡ reading self.now.line) }
+        ensures { IfOk result (λ incoming. incoming ≡ incoming_of self.now.line) }
     {
         read_line(self.alloc, self.cutter.bytes())
     }
@@ -154,7 +154,7 @@ impl LineReader {
 
 /// Takes all bytes, of which the whole lines are passed over.
 fn pass_all(cutter: &mut Cutter, bytes: &[u8])
-    ensures { rest_of (reading_on cutter.new []) [] ≡ rest_of (reading_on cutter.old bytes.now) [] }
+    ensures { rest_to_come (reading_on cutter.new []) [] ≡ rest_to_come (reading_on cutter.old bytes.now) [] }
 {
     for byte in bytes {
         if cutter.ends_line(*byte) {

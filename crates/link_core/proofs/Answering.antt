@@ -3,7 +3,7 @@ use Rattle.std.proofs.Common.{◌≡◌, ℕ, ◌+◌, ◌^◌, ◌<◌, ◌≤�
 use Rattle.edge_traits.specs.Link.{Sign, Tale}
 use Rattle.histories.specs.History.{IsPrefix}
 use Rattle.histories.proofs.Histories.{prefix_trans}
-use Rattle.line_reader.specs.Reader.{fresh, rest_of}
+use Rattle.line_reader.specs.Reader.{fresh, rest_to_come}
 use Rattle.one_server.specs.Running.{Log}
 use Rattle.session_core.specs.declared.input.Input.{Input}
 use Rattle.session_core.specs.declared.input.Input.TheVariants.{Line}
@@ -17,7 +17,7 @@ use Rattle.link_core.proofs.Arriving.{come_end, more_open}
 first_inputs : (taken left all : List Sign) → all ≡ taken ++ left
     → IsPrefix (inputs_of taken false) (inputs_of all true)
 first_inputs taken left all is =
-    let rest = map Line (option_to_list (rest_of fresh (bytes_of all))) in
+    let rest = map Line (option_to_list (rest_to_come fresh (bytes_of all))) in
     let more = inputs_behind (bytes_of taken) left in (
       more ++ rest,
       sym (append_assoc (inputs_of taken false) more rest)

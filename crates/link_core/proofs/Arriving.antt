@@ -10,8 +10,8 @@ use Rattle.histories.specs.History.{IsPrefix}
 use Rattle.line_reader.specs.declared.incoming.Incoming.{Incoming}
 use Rattle.line_reader.specs.declared.telnet.Telnet.{Telnet}
 use Rattle.fics_words.specs.Pieces.{but_last, is_kept, last_of, pieces}
-use Rattle.line_reader.specs.Reader.{Reader, fresh, kept_from, lines_of, rest_of}
-use Rattle.line_reader.specs.Reading.{reading, rest_reading}
+use Rattle.line_reader.specs.Reader.{LineReading, fresh, kept_from, lines_to_come, rest_to_come}
+use Rattle.line_reader.specs.Reading.{incoming_of, rest_reading}
 use Rattle.line_reader.specs.Telnet.{after, data_from, is_data}
 use Rattle.line_reader.proofs.LongLines.{Begins, Begins-pieces}
 use Rattle.session_core.specs.declared.input.Input.{Input}
@@ -53,9 +53,9 @@ front_lines : (a b : List ℕ) → IsPrefix (lines_in a) (lines_in (a ++ b))
 front_lines a b =
     let k = front_kept fresh.telnet a b in
     let f = front_pieces (kept_from fresh.telnet a) k.0 in (
-      map reading f.0,
-      sym (map-append reading (but_last (pieces (kept_from fresh.telnet a))) f.0)
-          ∙ ap (map reading) (f.1 ∙ ap (λ (l : List ℕ). but_last (pieces l)) k.1),
+      map incoming_of f.0,
+      sym (map-append incoming_of (but_last (pieces (kept_from fresh.telnet a))) f.0)
+          ∙ ap (map incoming_of) (f.1 ∙ ap (λ (l : List ℕ). but_last (pieces l)) k.1),
     )
 
 -- and behind them stand those behind it
@@ -136,36 +136,37 @@ come_pause signs = more_open signs (Pause ∷ [])
 
 -- the end came
 pub come_end : (signs : List Sign)
-    → inputs_of signs true ≡ inputs_of signs false ++ map Line (option_to_list (rest_of fresh (bytes_of signs)))
+    → inputs_of signs true ≡ inputs_of signs false ++ map Line (option_to_list (rest_to_come fresh (bytes_of signs)))
 come_end signs =
-    ap (λ (l : List Input). l ++ map Line (option_to_list (rest_of fresh (bytes_of signs)))) (sym (inputs_open signs))
+    ap (λ (l : List Input). l ++ map Line (option_to_list (rest_to_come fresh (bytes_of signs))))
+    (sym (inputs_open signs))
 
 -- ---- a reader that is fed
 
 -- what a reader gives that is fed more
-pub fed_lines : (reader : Reader) (bytes more : List ℕ)
-    → lines_of (record reader { fed = reader.fed ++ bytes }) more ≡ lines_of reader (bytes ++ more)
+pub fed_lines : (reader : LineReading) (bytes more : List ℕ)
+    → lines_to_come (record reader { fed = reader.fed ++ bytes }) more ≡ lines_to_come reader (bytes ++ more)
 fed_lines reader bytes more =
-    ap (λ (l : List ℕ). map reading (but_last (pieces (reader.line ++ kept_from reader.telnet l))))
+    ap (λ (l : List ℕ). map incoming_of (but_last (pieces (reader.line ++ kept_from reader.telnet l))))
     (append_assoc reader.fed bytes more)
 
-pub fed_rest : (reader : Reader) (bytes more : List ℕ)
-    → rest_of (record reader { fed = reader.fed ++ bytes }) more ≡ rest_of reader (bytes ++ more)
+pub fed_rest : (reader : LineReading) (bytes more : List ℕ)
+    → rest_to_come (record reader { fed = reader.fed ++ bytes }) more ≡ rest_to_come reader (bytes ++ more)
 fed_rest reader bytes more =
     ap (λ (l : List ℕ). rest_reading (last_of (pieces (reader.line ++ kept_from reader.telnet l))))
     (append_assoc reader.fed bytes more)
 
 -- the lines that it then has are those that the bytes end
-pub behind_reader : (front bytes : List ℕ) (given : List Incoming) (reader : Reader)
-    → ((more : List ℕ) → lines_in (front ++ more) ≡ given ++ lines_of reader more) → lines_of reader [] ≡ []
-    → lines_behind front bytes ≡ lines_of (record reader { fed = reader.fed ++ bytes }) []
+pub behind_reader : (front bytes : List ℕ) (given : List Incoming) (reader : LineReading)
+    → ((more : List ℕ) → lines_in (front ++ more) ≡ given ++ lines_to_come reader more) → lines_to_come reader [] ≡ []
+    → lines_behind front bytes ≡ lines_to_come (record reader { fed = reader.fed ++ bytes }) []
 behind_reader front bytes given reader along drained =
     let before : lines_in front ≡ given =
     ap lines_in (sym (append-nil front)) ∙ along [] ∙ ap (λ (l : List Incoming). given ++ l) drained
     ∙ append-nil given in
-    append_cancel_left given (lines_behind front bytes) (lines_of (record reader { fed = reader.fed ++ bytes }) [])
+    append_cancel_left given (lines_behind front bytes) (lines_to_come (record reader { fed = reader.fed ++ bytes }) [])
     (ap (λ (l : List Incoming). l ++ lines_behind front bytes) (sym before)
     ∙ sym (behind_is front bytes)
     ∙ along bytes
     ∙ ap (λ (l : List Incoming). given ++ l)
-    (ap (lines_of reader) (sym (append-nil bytes)) ∙ sym (fed_lines reader bytes [])))
+    (ap (lines_to_come reader) (sym (append-nil bytes)) ∙ sym (fed_lines reader bytes [])))

@@ -10,8 +10,8 @@ use Rattle.clock_ledger.specs.Span.{IsStamp, stamp_cycle}
 use Rattle.line_reader.specs.declared.incoming.Incoming.{Incoming}
 use Rattle.line_reader.specs.declared.incoming.Incoming.TheVariants.{Plain, TooLong, BadByte}
 use Rattle.fics_words.specs.Pieces.{but_last, last_of}
-use Rattle.line_reader.specs.Reader.{GivesLine, Reader, lines_of, parts_of, rest_of}
-use Rattle.line_reader.specs.Reading.{is_stamped, plain_reading, reading, rest_reading, said, stamped_reading}
+use Rattle.line_reader.specs.Reader.{GivesLine, LineReading, lines_to_come, parts_to_come, rest_to_come}
+use Rattle.line_reader.specs.Reading.{is_stamped, plain_reading, incoming_of, rest_reading, said, stamped_reading}
 use Rattle.session_core.specs.Inputs.{HasStamp}
 use Rattle.stamp_codec.specs.Message.{Message, Text, Ack as Received, is_message, is_printable, is_text}
 use Rattle.stamp_codec.specs.Opening.{candidate, opened}
@@ -33,7 +33,7 @@ spelled_fits true line (Text text stamp) e =
 spelled_fits true line (Received stamp) e =
     below stamp (and_parts (is_message (Received stamp)) (bytes_eq (spelling (Received stamp)) line) e).0
 
-reading_fits : (line : List ℕ) → HasStamp (reading line)
+reading_fits : (line : List ℕ) → HasStamp (incoming_of line)
 reading_fits line =
     either_fits (is_stamped line) (stamped_reading line) (plain_reading line)
     (either_fits (nat_lt 1033 (length line)) TooLong (said (opened line)) tt
@@ -46,15 +46,15 @@ first_or : Incoming → List Incoming → Incoming
 first_or line [] = line
 first_or line (first ∷ lines) = first
 
-head_fits : (texts : List (List ℕ)) (line : Incoming) (lines : List Incoming) → map reading texts ≡ line ∷ lines
+head_fits : (texts : List (List ℕ)) (line : Incoming) (lines : List Incoming) → map incoming_of texts ≡ line ∷ lines
     → HasStamp line
 unfolding first_or
 head_fits [] line lines e = absurd cc
 head_fits (text ∷ texts) line lines e = subst HasStamp (ap (first_or TooLong) e) (reading_fits text)
 
 -- a line that a reader gives
-pub given_fits : (one other : Reader) (line : Incoming) → GivesLine one line other → HasStamp line
-given_fits one other line gives = head_fits (but_last (parts_of one [])) line (lines_of other []) (gives []).0
+pub given_fits : (one other : LineReading) (line : Incoming) → GivesLine one line other → HasStamp line
+given_fits one other line gives = head_fits (but_last (parts_to_come one [])) line (lines_to_come other []) (gives []).0
 
 some_or : Incoming → Option Incoming → Incoming
 some_or line None = line
@@ -66,5 +66,5 @@ rest_fits [] line e = absurd cc
 rest_fits (b ∷ text) line e = subst HasStamp (sym (ap (some_or TooLong) e)) (reading_fits (b ∷ text))
 
 -- what is left of a line
-pub rest_given : (reader : Reader) (line : Incoming) → Some line ≡ rest_of reader [] → HasStamp line
-rest_given reader line e = rest_fits (last_of (parts_of reader [])) line e
+pub rest_given : (reader : LineReading) (line : Incoming) → Some line ≡ rest_to_come reader [] → HasStamp line
+rest_given reader line e = rest_fits (last_of (parts_to_come reader [])) line e

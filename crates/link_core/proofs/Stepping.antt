@@ -10,7 +10,7 @@ use Rattle.edge_traits.specs.WhereTold.{WhereTold}
 use Rattle.histories.specs.History.{IsPrefix}
 use Rattle.histories.proofs.Histories.{prefix_more, prefix_refl}
 use Rattle.line_reader.specs.declared.incoming.Incoming.{Incoming}
-use Rattle.line_reader.specs.Reader.{GiveSame, GivesLine, Reader, fresh, lines_of, rest_of}
+use Rattle.line_reader.specs.Reader.{GiveSame, GivesLine, LineReading, fresh, lines_to_come, rest_to_come}
 use Rattle.one_server.specs.Running.{IsKnown, Log, Made, RunnerState}
 use Rattle.session_core.specs.declared.input.Input.{Input}
 use Rattle.session_core.specs.declared.input.Input.TheVariants.{Line, Quiet}
@@ -349,73 +349,74 @@ module _ (shows : ℕ → Bool) (start : Stand) where
       }
 
   -- no line waits, so no input does
-  drained_half : (now : Stand) (taken : List Sign) (reader : Reader) → lines_of reader [] ≡ []
-      → Halfway shows start now taken false (map Line (lines_of reader [])) → Halfway shows start now taken false []
+  drained_half : (now : Stand) (taken : List Sign) (reader : LineReading) → lines_to_come reader [] ≡ []
+      → Halfway shows start now taken false (map Line (lines_to_come reader []))
+      → Halfway shows start now taken false []
   drained_half now taken reader drained h =
       subst (λ (l : List Incoming). Halfway shows start now taken false (map Line l)) drained h
 
   -- bytes came, and were fed to the reader
-  pub progress_bytes : (now : Stand) (reader : Reader) (turns : ℕ) (n : ℕ) (buf : List ℕ) (link : Option Tale)
+  pub progress_bytes : (now : Stand) (reader : LineReading) (turns : ℕ) (n : ℕ) (buf : List ℕ) (link : Option Tale)
       → Progress shows start now reader turns → IsDrained reader → WhereTold now.link link (Reads (heard.Bytes n) buf)
       → 0 < length (take n buf)
       → Progress shows start (record now { link = link }) (record reader { fed = reader.fed ++ take n buf }) (turns + 1)
   progress_bytes now reader turns n buf link p drained r some =
       let bytes = take n buf in
-      let fed : Reader = record reader { fed = reader.fed ++ bytes } in
-      let lines : lines_behind (bytes_of p.taken) bytes ≡ lines_of fed [] =
+      let fed : LineReading = record reader { fed = reader.fed ++ bytes } in
+      let lines : lines_behind (bytes_of p.taken) bytes ≡ lines_to_come fed [] =
       behind_reader (bytes_of p.taken) bytes p.given reader p.along drained.0 in
       let text : (more : List ℕ) → bytes_of (p.taken ++ map Byte bytes) ++ more ≡ bytes_of p.taken ++ (bytes ++ more) =
       λ more. ap (λ (l : List ℕ). l ++ more) (bytes_more p.taken bytes) ∙ append_assoc (bytes_of p.taken) bytes more in
       record {
         taken = p.taken ++ map Byte bytes;
         half =
-            read_on now p.taken (heard.Bytes n) buf link false (map Line (lines_of fed []))
+            read_on now p.taken (heard.Bytes n) buf link false (map Line (lines_to_come fed []))
             (drained_half now p.taken reader drained.0 p.half) r (λ before. refl) (λ is. absurd (not_ended is))
             (come_bytes p.taken bytes ∙ ap (λ (l : List Incoming). inputs_of p.taken false ++ map Line l) lines);
         given = p.given;
         along = λ more.
-            ap (lines_of fresh) (text more) ∙ p.along (bytes ++ more)
+            ap (lines_to_come fresh) (text more) ∙ p.along (bytes ++ more)
             ∙ ap (λ (l : List Incoming). p.given ++ l) (sym (fed_lines reader bytes more));
-        rest = λ more. ap (rest_of fresh) (text more) ∙ p.rest (bytes ++ more) ∙ sym (fed_rest reader bytes more);
+        rest = λ more. ap (rest_to_come fresh) (text more) ∙ p.rest (bytes ++ more) ∙ sym (fed_rest reader bytes more);
         many = omega (arith, p.many, some, length-append p.taken (map Byte bytes), length-map bytes Byte);
       }
 
   -- it is the next input
-  line_due : (now : Stand) (reader next : Reader) (line : Incoming) (taken : List Sign)
-      → Halfway shows start now taken false (map Line (lines_of reader [])) → GivesLine reader line next
-      → Halfway shows start now taken false (Line line ∷ map Line (lines_of next []))
+  line_due : (now : Stand) (reader next : LineReading) (line : Incoming) (taken : List Sign)
+      → Halfway shows start now taken false (map Line (lines_to_come reader [])) → GivesLine reader line next
+      → Halfway shows start now taken false (Line line ∷ map Line (lines_to_come next []))
   line_due now reader next line taken h gives =
       subst (λ (l : List Incoming). Halfway shows start now taken false (map Line l)) (gives []).0 h
 
   -- a line was handed out and answered
-  pub progress_line : (now new : Stand) (reader next : Reader) (turns : ℕ) (line : Incoming)
+  pub progress_line : (now new : Stand) (reader next : LineReading) (turns : ℕ) (line : Incoming)
       → Progress shows start now reader turns → GivesLine reader line next
       → AnsweredWhole shows (Line line) now.state now.memory now.link new.state new.memory new.link
       → Progress shows start new next turns
   progress_line now new reader next turns line p gives a = record {
     taken = p.taken;
     half =
-        answered_one now new p.taken false (Line line) (map Line (lines_of next []))
+        answered_one now new p.taken false (Line line) (map Line (lines_to_come next []))
         (line_due now reader next line p.taken p.half gives) a;
     given = p.given ++ line ∷ [];
     along = λ more.
         p.along more ∙ ap (λ (l : List Incoming). p.given ++ l) (gives more).0
-        ∙ sym (append_assoc p.given (line ∷ []) (lines_of next more));
+        ∙ sym (append_assoc p.given (line ∷ []) (lines_to_come next more));
     rest = λ more. p.rest more ∙ (gives more).1;
     many = p.many;
   }
 
   -- a line was handed out, and its answer was the last thing
-  pub stopped_line : (end : LinkEnd) (now new : Stand) (reader next : Reader) (turns : ℕ) (line : Incoming)
+  pub stopped_line : (end : LinkEnd) (now new : Stand) (reader next : LineReading) (turns : ℕ) (line : Incoming)
       → Progress shows start now reader turns → GivesLine reader line next
       → AfterAnswer shows (Line line) now.state now.memory now.link new.state new.memory new.link (Err end)
       → Stops shows end start new
   stopped_line end now new reader next turns line p gives a =
-      stopped_one end now new p.taken false (Line line) (map Line (lines_of next []))
+      stopped_one end now new p.taken false (Line line) (map Line (lines_to_come next []))
       (line_due now reader next line p.taken p.half gives) a
 
   -- the reader changed, and gives the same
-  pub progress_same : (now : Stand) (reader next : Reader) (turns : ℕ) → Progress shows start now reader turns
+  pub progress_same : (now : Stand) (reader next : LineReading) (turns : ℕ) → Progress shows start now reader turns
       → GiveSame reader next → Progress shows start now next turns
   progress_same now reader next turns p same = record {
     taken = p.taken;
@@ -427,12 +428,12 @@ module _ (shows : ℕ → Bool) (start : Stand) where
   }
 
   -- memory ran out of the reader
-  pub stopped_reader : (now : Stand) (reader : Reader) (turns : ℕ) → Progress shows start now reader turns
+  pub stopped_reader : (now : Stand) (reader : LineReading) (turns : ℕ) → Progress shows start now reader turns
       → Stops shows end.Memory start now
-  stopped_reader now reader turns p = stops_memory now p.taken false (map Line (lines_of reader [])) p.half
+  stopped_reader now reader turns p = stops_memory now p.taken false (map Line (lines_to_come reader [])) p.half
 
   -- a pause came
-  pause_due : (now : Stand) (reader : Reader) (turns : ℕ) (buf : List ℕ) (link : Option Tale)
+  pause_due : (now : Stand) (reader : LineReading) (turns : ℕ) (buf : List ℕ) (link : Option Tale)
       (p : Progress shows start now reader turns)
       → IsDrained reader → WhereTold now.link link (Reads heard.Quiet buf)
       → Halfway shows start (record now { link = link }) (p.taken ++ Pause ∷ []) false (Quiet ∷ [])
@@ -440,7 +441,7 @@ module _ (shows : ℕ → Bool) (start : Stand) where
       read_on now p.taken heard.Quiet buf link false (Quiet ∷ []) (drained_half now p.taken reader drained.0 p.half) r
       (λ before. refl) (λ is. absurd (not_ended is)) (come_pause p.taken)
 
-  pub progress_quiet : (now new : Stand) (reader : Reader) (turns : ℕ) (buf : List ℕ) (link : Option Tale)
+  pub progress_quiet : (now new : Stand) (reader : LineReading) (turns : ℕ) (buf : List ℕ) (link : Option Tale)
       → Progress shows start now reader turns → IsDrained reader → WhereTold now.link link (Reads heard.Quiet buf)
       → AnsweredWhole shows Quiet now.state now.memory link new.state new.memory new.link
       → Progress shows start new reader (turns + 1)
@@ -455,12 +456,12 @@ module _ (shows : ℕ → Bool) (start : Stand) where
             (answered_one (record now { link = link }) new (p.taken ++ Pause ∷ []) false Quiet []
             (pause_due now reader turns buf link p drained r) a);
         given = p.given;
-        along = λ more. ap (lines_of fresh) (text more) ∙ p.along more;
-        rest = λ more. ap (rest_of fresh) (text more) ∙ p.rest more;
+        along = λ more. ap (lines_to_come fresh) (text more) ∙ p.along more;
+        rest = λ more. ap (rest_to_come fresh) (text more) ∙ p.rest more;
         many = omega (arith, p.many, length-append p.taken (Pause ∷ []));
       }
 
-  pub stopped_quiet : (end : LinkEnd) (now new : Stand) (reader : Reader) (turns : ℕ) (buf : List ℕ)
+  pub stopped_quiet : (end : LinkEnd) (now new : Stand) (reader : LineReading) (turns : ℕ) (buf : List ℕ)
       (link : Option Tale)
       → Progress shows start now reader turns → IsDrained reader → WhereTold now.link link (Reads heard.Quiet buf)
       → AfterAnswer shows Quiet now.state now.memory link new.state new.memory new.link (Err end)
@@ -469,7 +470,8 @@ module _ (shows : ℕ → Bool) (start : Stand) where
       stopped_one end (record now { link = link }) new (p.taken ++ Pause ∷ []) false Quiet []
       (pause_due now reader turns buf link p drained r) a
 
-  pub quiet_step : (result : Result (Unit {0}) LinkEnd) (now new : Stand) (reader : Reader) (turns : ℕ) (buf : List ℕ)
+  pub quiet_step : (result : Result (Unit {0}) LinkEnd) (now new : Stand) (reader : LineReading) (turns : ℕ)
+      (buf : List ℕ)
       (link : Option Tale)
       → Progress shows start now reader turns → IsDrained reader
       → WhereTold now.link link (Reads heard.Quiet buf)
@@ -481,21 +483,22 @@ module _ (shows : ℕ → Bool) (start : Stand) where
       stopped_quiet end now new reader turns buf link p drained r a
 
   -- the end came
-  pub end_due : (now : Stand) (reader : Reader) (turns : ℕ) (buf : List ℕ) (link : Option Tale)
+  pub end_due : (now : Stand) (reader : LineReading) (turns : ℕ) (buf : List ℕ) (link : Option Tale)
       (p : Progress shows start now reader turns)
       → IsDrained reader → WhereTold now.link link (Reads heard.End buf)
       → Halfway shows start (record now { link = link }) (p.taken ++ []) true
-      (map Line (option_to_list (rest_of reader [])))
+      (map Line (option_to_list (rest_to_come reader [])))
   end_due now reader turns buf link p drained r =
-      let rest : rest_of fresh (bytes_of (p.taken ++ [])) ≡ rest_of reader [] =
-      ap (λ (l : List Sign). rest_of fresh (bytes_of l)) (append-nil p.taken)
-      ∙ ap (rest_of fresh) (sym (append-nil (bytes_of p.taken))) ∙ p.rest [] in
-      read_on now p.taken heard.End buf link true (map Line (option_to_list (rest_of reader [])))
+      let rest : rest_to_come fresh (bytes_of (p.taken ++ [])) ≡ rest_to_come reader [] =
+      ap (λ (l : List Sign). rest_to_come fresh (bytes_of l)) (append-nil p.taken)
+      ∙ ap (rest_to_come fresh) (sym (append-nil (bytes_of p.taken))) ∙ p.rest [] in
+      read_on now p.taken heard.End buf link true (map Line (option_to_list (rest_to_come reader [])))
       (drained_half now p.taken reader drained.0 p.half) r (λ before. sym (or-true before))
       (λ is y z q. sym q.left ∙ q.end)
       (come_end (p.taken ++ [])
       ∙ ap
-      (λ (l : List Sign). inputs_of l false ++ map Line (option_to_list (rest_of fresh (bytes_of (p.taken ++ [])))))
+      (λ (l : List Sign).
+      inputs_of l false ++ map Line (option_to_list (rest_to_come fresh (bytes_of (p.taken ++ [])))))
       (append-nil p.taken)
       ∙ ap (λ (o : Option Incoming). inputs_of p.taken false ++ map Line (option_to_list o)) rest)
 
@@ -506,7 +509,7 @@ module _ (shows : ℕ → Bool) (start : Stand) where
       stops_at end.End now taken true [] h (sym (h.come ∙ append-nil h.inputs)) (refl, refl) refl refl
 
   -- the read failed
-  pub stops_failed : (now : Stand) (reader : Reader) (turns : ℕ) (buf : List ℕ) (link : Option Tale)
+  pub stops_failed : (now : Stand) (reader : LineReading) (turns : ℕ) (buf : List ℕ) (link : Option Tale)
       → Progress shows start now reader turns → IsDrained reader → WhereTold now.link link (Reads heard.Failed buf)
       → Stops shows end.ReadFault start (record now { link = link })
   stops_failed now reader turns buf link p drained r =
@@ -518,7 +521,7 @@ module _ (shows : ℕ → Bool) (start : Stand) where
       (sym (h.come ∙ append-nil h.inputs)) (refl, refl) refl tt
 
   -- the link was read as often as it may be
-  pub stops_spent : (now : Stand) (reader : Reader) (turns : ℕ) → Progress shows start now reader turns
+  pub stops_spent : (now : Stand) (reader : LineReading) (turns : ℕ) → Progress shows start now reader turns
       → IsDrained reader → 2 ^ 40 ≤ turns → Stops shows end.Spent start now
   stops_spent now reader turns p drained most =
       let h : Halfway shows start now p.taken false [] = drained_half now p.taken reader drained.0 p.half in

@@ -3,7 +3,7 @@
 use Rattle.std.specs.Prelude.{ℕ, Bool, true, false, List, [], ◌∷◌, ◌++◌, drop, length, map, option_to_list}
 use Rattle.edge_traits.specs.Link.{Sign, Byte, Pause}
 use Rattle.line_reader.specs.declared.incoming.Incoming.{Incoming}
-use Rattle.line_reader.specs.Reader.{fresh, lines_of, rest_of}
+use Rattle.line_reader.specs.Reader.{fresh, lines_to_come, rest_to_come}
 use Rattle.session_core.specs.declared.input.Input.{Input}
 use Rattle.session_core.specs.declared.input.Input.TheVariants.{Line, Quiet}
 
@@ -15,7 +15,7 @@ bytes_of (Pause ∷ signs) = bytes_of signs
 
 -- the lines of a text: they are those of the grammar of telnet lines
 abbrev pub lines_in : List ℕ → List Incoming
-lines_in text = lines_of fresh text
+lines_in text = lines_to_come fresh text
 
 -- the lines that a text has behind those of its beginning
 abbrev pub lines_behind : List ℕ → List ℕ → List Incoming
@@ -30,7 +30,7 @@ inputs_behind front (Pause ∷ signs) = Quiet ∷ inputs_behind front signs
 
 -- what is left of a line, where the end was given
 abbrev pub rest_inputs : List ℕ → Bool → List Input
-rest_inputs text true = map Line (option_to_list (rest_of fresh text))
+rest_inputs text true = map Line (option_to_list (rest_to_come fresh text))
 rest_inputs text false = []
 
 -- the inputs of what was taken from a link, and of its end if that was given

@@ -6,7 +6,7 @@ use Rattle.edge_traits.specs.WhereTold.{WhereTold}
 use Rattle.histories.specs.History.{IsPrefix}
 use Rattle.edge_traits.specs.Source.{most_reads}
 use Rattle.line_reader.specs.declared.incoming.Incoming.{Incoming}
-use Rattle.line_reader.specs.Reader.{Reader, fresh, lines_of, rest_of}
+use Rattle.line_reader.specs.Reader.{LineReading, fresh, lines_to_come, rest_to_come}
 use Rattle.one_server.specs.Running.{Log, Made, RunnerState}
 use Rattle.session_core.specs.declared.input.Input.{Input}
 use Rattle.session_core.specs.declared.input.Input.TheVariants.{Line}
@@ -117,12 +117,12 @@ pub record Halfway (shows : ℕ → Bool) (start now : Stand) (taken : List Sign
       ⊎ LastRead shows start.state.number taken made (joined (opening_text ∷ pieces)) start.link now.link
 
 -- the reader has been fed all that was taken, and hands out what comes next
-pub record Progress (shows : ℕ → Bool) (start now : Stand) (reader : Reader) (turns : ℕ) : Type 0 where
+pub record Progress (shows : ℕ → Bool) (start now : Stand) (reader : LineReading) (turns : ℕ) : Type 0 where
   pub taken : List Sign
-  pub half : Halfway shows start now taken false (map Line (lines_of reader []))
+  pub half : Halfway shows start now taken false (map Line (lines_to_come reader []))
   pub given : List Incoming
-  pub along : (more : List ℕ) → lines_of fresh (bytes_of taken ++ more) ≡ given ++ lines_of reader more
-  pub rest : (more : List ℕ) → rest_of fresh (bytes_of taken ++ more) ≡ rest_of reader more
+  pub along : (more : List ℕ) → lines_to_come fresh (bytes_of taken ++ more) ≡ given ++ lines_to_come reader more
+  pub rest : (more : List ℕ) → rest_to_come fresh (bytes_of taken ++ more) ≡ rest_to_come reader more
   pub many : turns ≤ length taken
 
 -- what was made behind the answered inputs, as the reading ended: nothing, but where memory ran out
@@ -161,10 +161,10 @@ pub record Stops (shows : ℕ → Bool) (end : LinkEnd) (start now : Stand) : Ty
   pub ends : EndsReading end taken is_ended memory
 
 -- a step on the way: it goes on, or the reading has ended
-abbrev pub AfterStep : (ℕ → Bool) → Stand → Stand → Reader → ℕ → Result (Unit {0}) LinkEnd → Type 0
+abbrev pub AfterStep : (ℕ → Bool) → Stand → Stand → LineReading → ℕ → Result (Unit {0}) LinkEnd → Type 0
 AfterStep shows start now reader turns (Ok u) = Progress shows start now reader turns
 AfterStep shows start now reader turns (Err end) = Stops shows end start now
 
 -- no line waits in the reader
-abbrev pub IsDrained : Reader → Type 0
-IsDrained reader = (lines_of reader [] ≡ []) × (reader.fed ≡ [])
+abbrev pub IsDrained : LineReading → Type 0
+IsDrained reader = (lines_to_come reader [] ≡ []) × (reader.fed ≡ [])

@@ -2,7 +2,7 @@
 ghost use Rattle.std.specs.Prelude.{◌≡◌, ◌≤◌, ◌+◌, ◌++◌, [], ℕ, List, true, false, map, option_to_list, Err, OnOk};
 ghost use Rattle.edge_traits.specs.Faults.{Rose};
 ghost use Rattle.edge_traits.specs.Link.{IsOpen, Sign};
-ghost use Rattle.line_reader.specs.Reader.{rest_of};
+ghost use Rattle.line_reader.specs.Reader.{rest_to_come};
 ghost use Rattle.link_core.specs.Steps.{AfterStep, AfterWrite, Halfway, IsDrained, OnFault, Progress, Stand, Stops};
 ghost use Rattle.session_core.specs.Memory.{is_gone, newcomer};
 ghost use Rattle.session_core.specs.Texts.{opening_text};
@@ -176,7 +176,7 @@ fn take_rest<R: Runner, L: Link, C: Clock>(
     ensures home { R.home r.new ≡ R.home r.old }
     ensures stops { (start : Stand) (taken : List Sign) → Halfway (C.shows clock.now) start
         (record { state = R.state r.old; memory = session.old; link = L.tale link.old }) taken true
-        (map Line (option_to_list (rest_of reader.now [])))
+        (map Line (option_to_list (rest_to_come reader.now [])))
         → Stops (C.shows clock.now) result start
         (record { state = R.state r.new; memory = session.new; link = L.tale link.new }) }
     ensures cause { OnFault (Err result) (Rose (L.faults link.old) (L.faults link.new)) }

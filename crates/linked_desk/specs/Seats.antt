@@ -18,8 +18,8 @@ abbrev pub colour_at : ℕ → Colour
 colour_at seat = if seat % 2 == 0 then White else Black
 
 -- the seat of the partner
-abbrev pub partner_of : ℕ → ℕ
-partner_of seat = 3 - seat
+abbrev pub partner_seat : ℕ → ℕ
+partner_seat seat = 3 - seat
 
 -- the two players of each board, the first board first
 abbrev pub pairs_of : Seats → List Opponents
@@ -32,5 +32,5 @@ example_boards = refl
 example_colours : map colour_at (0 ∷ 1 ∷ 2 ∷ 3 ∷ []) ≡ White ∷ Black ∷ White ∷ Black ∷ []
 example_colours = refl
 
-example_partners : map partner_of (0 ∷ 1 ∷ 2 ∷ 3 ∷ []) ≡ 3 ∷ 2 ∷ 1 ∷ 0 ∷ []
+example_partners : map partner_seat (0 ∷ 1 ∷ 2 ∷ 3 ∷ []) ≡ 3 ∷ 2 ∷ 1 ∷ 0 ∷ []
 example_partners = refl

@@ -12,7 +12,7 @@ use Rattle.lobby_state.specs.declared.game.ListedGame.{ListedGame}
 use Rattle.lobby_state.specs.FindGame.{desk_of_game, first_at, first_seat, hall_desk, has_board, is_in_hall, seat_at}
 use Rattle.lobby_state.specs.Games.{board_line, game_number, games_lines, lines_at, lines_to, second_line}
 use Rattle.lobby_state.specs.GamesFound.{ListWhatIsFound}
-use Rattle.lobby_state.specs.Lobby.{LobbyState, game_at, game_in}
+use Rattle.lobby_state.specs.Lobby.{LobbyState, game_at, listed_game_in}
 use Rattle.lobby_state.specs.Pairing.{needs_partners}
 use Rattle.lobby_state.specs.TermsText.{terms_words}
 use Rattle.lobby_state.specs.WellFormed.{IsStarted, IsWellFormed}
@@ -184,7 +184,7 @@ all_there P (x ∷ xs) zero h = All-head P x xs h
 all_there P (x ∷ xs) (suc i) h = all_there P xs i (All-tail P x xs h)
 
 boards_in : (started : ℕ) (slot : Option (Option ListedGame)) → IfSome slot (IsStarted started)
-    → HasBoards (game_in slot)
+    → HasBoards (listed_game_in slot)
 boards_in started None h = tt
 boards_in started (Some None) h = tt
 boards_in started (Some (Some game)) h = h.boards

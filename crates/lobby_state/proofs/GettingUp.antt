@@ -14,7 +14,7 @@ use Rattle.simul_control.proofs.Leaving.{nothing_left}
 use Rattle.lobby_state.specs.declared.game.ListedGame.{ListedGame}
 use Rattle.lobby_state.specs.declared.member.Member.{Member}
 use Rattle.lobby_state.specs.Clear.{PlaysThere, off_desk}
-use Rattle.lobby_state.specs.Lobby.{game_in}
+use Rattle.lobby_state.specs.Lobby.{listed_game_in}
 use Rattle.lobby_state.specs.Places.{is_at, is_elsewhere}
 use Rattle.lobby_state.specs.Players.{change_players, plays_in}
 use Rattle.lobby_state.specs.WellFormed.{HasSeats, IsSeatOf}
@@ -33,30 +33,30 @@ twice desk m =
 -- the seat's player plays in the desk's game
 plays : (games : List (Option ListedGame)) (desk session : ℕ) (place : Place) → IsSeatOf games session place
     → IsTrue (is_at desk place)
-    → IsTrue (plays_in (game_in (slice_get games (desk - 1))) session)
+    → IsTrue (plays_in (listed_game_in (slice_get games (desk - 1))) session)
 plays games desk session place h at =
     let here : slice_get games (desk - 1) ≡ Some (Some h.game) =
     ap (λ n. slice_get games (n - 1)) (sym (eqb-true place.desk desk at)) ∙ h.in_use in
     let seats = seat_list h.game.seats in
     let within = slice_get_within seats place.seat h.seat h.sits in
     let is_seat = get_or_from_slice_get seats place.seat h.seat h.seat h.sits in
-    ap (λ o. plays_in (game_in o) session) here
+    ap (λ o. plays_in (listed_game_in o) session) here
     ∙ list_any_at (plays_as session) seats place.seat h.seat within
     (ap (plays_as session) is_seat ∙ eq-eqb h.seat.session session h.theirs)
 
 -- one of the places at the desk is enough
 some_plays : (games : List (Option ListedGame)) (desk session : ℕ) (places : List Place)
     → All (IsSeatOf games session) places
-    → IsTrue (list_any (is_at desk) places) → IsTrue (plays_in (game_in (slice_get games (desk - 1))) session)
+    → IsTrue (list_any (is_at desk) places) → IsTrue (plays_in (listed_game_in (slice_get games (desk - 1))) session)
 some_plays games desk session places seats there =
     let one = Any-from_list_any (is_at desk) places there in
     plays games desk session one.1 (subst (IsSeatOf games session) one.3 (seats one.0 one.1 one.2)) one.4
 
 -- so in the lobby whose members have seats in its games all who have a place at the desk play there
 pub all_play : (games : List (Option ListedGame)) (desk : ℕ) (members : List Member) → All (HasSeats games) members
-    → All (PlaysThere desk (game_in (slice_get games (desk - 1)))) members
+    → All (PlaysThere desk (listed_game_in (slice_get games (desk - 1)))) members
 all_play games desk members seats =
-    All-weaker (HasSeats games) (PlaysThere desk (game_in (slice_get games (desk - 1))))
+    All-weaker (HasSeats games) (PlaysThere desk (listed_game_in (slice_get games (desk - 1))))
     (λ m has. some_plays games desk m.session m.places.rows has) members seats
 
 stays : (desk : ℕ) (game : Option ListedGame) (m : Member) → PlaysThere desk game m → plays_in game m.session ≡ false

@@ -12,7 +12,7 @@ use Rattle.simul_control.specs.declared.place.Place.{Place}
 use Rattle.lobby_state.specs.Clear.{off_desk, freed, cleared}
 use Rattle.lobby_state.specs.Keeps.{KeepsPlan}
 use Rattle.lobby_state.specs.Desks.{IsDesk}
-use Rattle.lobby_state.specs.Lobby.{LobbyState, game_at, game_in, is_session}
+use Rattle.lobby_state.specs.Lobby.{LobbyState, game_at, listed_game_in, is_session}
 use Rattle.lobby_state.specs.Places.{is_elsewhere}
 use Rattle.lobby_state.specs.Plans.{committed, game_after, put_away}
 use Rattle.lobby_state.specs.WellFormed.{AreCounted, IsWellFormed, IsSeatOf, IsStarted, HasSeats}
@@ -70,7 +70,7 @@ formed_cleared lobby desk is_desk h =
     (record { few = h.counted.few; room = omega (arith, fewer, room); orders = omega (arith, fewer, orders) }) h
 
 -- what a desk in use holds
-used_game : (o : Option (Option ListedGame)) → IsSome (game_in o) → (game : ListedGame) × (o ≡ Some (Some game))
+used_game : (o : Option (Option ListedGame)) → IsSome (listed_game_in o) → (game : ListedGame) × (o ≡ Some (Some game))
 used_game None there = absurd (let bad : false ≡ true = there in cc)
 used_game (Some None) there = absurd (let bad : false ≡ true = there in cc)
 used_game (Some (Some game)) there = (game, refl)

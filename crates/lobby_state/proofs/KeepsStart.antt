@@ -25,7 +25,7 @@ use Rattle.lobby_state.specs.Lobby.{LobbyState}
 use Rattle.lobby_state.specs.Places.{PlaceList, is_full}
 use Rattle.lobby_state.specs.Pairing.{needs_partners}
 use Rattle.lobby_state.specs.Planned.{CanStart, FitsVariant}
-use Rattle.lobby_state.specs.Start.{in_seat, is_by_seated, is_settled, lobby_seated}
+use Rattle.lobby_state.specs.Start.{in_seat, is_seek_of_seated, is_settled, lobby_seated}
 use Rattle.lobby_state.specs.WellFormed.{AreCounted, IsShelfOf, IsWellFormed, IsSeatOf, IsStarted, HasSeats, sessions_in}
 use Rattle.lobby_state.proofs.ChallengeRows.{AreChallengesOf-filter}
 use Rattle.lobby_state.proofs.Lists.{map-map_same, All-map_each, find-passes, get-set_same, get-set_other}
@@ -154,9 +154,9 @@ formed_at lobby shelf desk serial terms seats is_desk is_free is_next are_terms 
       started = serial;
       shelf = shelf;
     } in
-    let left : LobbyState = record others { seeks = filter (λ seek. not (is_by_seated seats seek)) lobby.seeks } in
+    let left : LobbyState = record others { seeks = filter (λ seek. not (is_seek_of_seated seats seek)) lobby.seeks } in
     resumes_gone left (λ request. not (asks_seated seats request))
-    (seeks_gone others (λ seek. not (is_by_seated seats seek))
+    (seeks_gone others (λ seek. not (is_seek_of_seated seats seek))
     (kept lobby (map sit lobby.members) (filter (λ c. not (is_settled lobby.members seats c)) lobby.challenges) games
     serial shelf
     (map-map_same (λ m. m.session) sit (λ m. in_seat_session desk serial (seat_number m.session (seat_list seats)) m)

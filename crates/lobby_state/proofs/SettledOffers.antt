@@ -6,7 +6,7 @@ use Rattle.fics_words.specs.declared.seats.Seats.{Seats}
 use Rattle.seek_match.specs.declared.challenge.Challenge.{Challenge}
 use Rattle.lobby_state.specs.Lobby.{LobbyState}
 use Rattle.lobby_state.specs.SettledOffers.{IsGiversWithOthers, SettleOffers}
-use Rattle.lobby_state.specs.Start.{is_by_seated, is_giver, is_seated, is_settled, lobby_seated}
+use Rattle.lobby_state.specs.Start.{is_seek_of_seated, is_giver, is_seated, is_settled, lobby_seated}
 use Rattle.seek_match.specs.declared.seek.Seek.{Seek}
 use Rattle.lobby_state.proofs.Lists.{Contains-filter}
 use Rattle.std.proofs.lemmas.Bool.{not-true}
@@ -40,7 +40,7 @@ settle_offers lobby desk serial terms seats =
     let plays : ℕ → Bool = is_seated seats in
     let giver : ℕ → Bool = is_giver lobby.members in
     let stays : Challenge → Bool = λ c. not (is_settled lobby.members seats c) in
-    let sought : Seek → Bool = λ s. not (is_by_seated seats s) in
+    let sought : Seek → Bool = λ s. not (is_seek_of_seated seats s) in
     record {
       seeks = All-weaker (λ s. sought s ≡ true) (λ s. is_seated seats s.by ≡ false) (λ s e. not-true (plays s.by) e)
           (filter sought lobby.seeks) (filter_passes sought lobby.seeks);

@@ -127,13 +127,13 @@ abbrev pub free_slot : LobbyState → Option ℕ
 free_slot lobby = position is_none lobby.games
 
 -- what a slot that is there holds
-abbrev pub game_in : Option (Option ListedGame) → Option ListedGame
-game_in None = None
-game_in (Some game) = game
+abbrev pub listed_game_in : Option (Option ListedGame) → Option ListedGame
+listed_game_in None = None
+listed_game_in (Some game) = game
 
 -- the game for which the desk is in use, if it is
 abbrev pub game_at : LobbyState → ℕ → Option ListedGame
-game_at lobby desk = game_in (slice_get lobby.games (desk - 1))
+game_at lobby desk = listed_game_in (slice_get lobby.games (desk - 1))
 
 -- the lobby without the challenges by this session and to it
 abbrev pub without_challenges : ℕ → LobbyState → LobbyState

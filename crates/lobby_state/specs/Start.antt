@@ -50,8 +50,8 @@ abbrev pub is_settled : List Member → Seats → Challenge → Bool
 is_settled members seats challenge = is_between_seated seats challenge || concerns_bound members seats challenge
 
 -- the seek is by a player of the game
-abbrev pub is_by_seated : Seats → Seek → Bool
-is_by_seated seats seek = is_seated seats seek.by
+abbrev pub is_seek_of_seated : Seats → Seek → Bool
+is_seek_of_seated seats seek = is_seated seats seek.by
 
 -- the lobby once the game has started: the desk is in use, the players have their places, and their challenges go, but
 -- for a giver's with others, and their seeks and requests to resume
@@ -59,7 +59,7 @@ abbrev pub lobby_seated : LobbyState → ℕ → ℕ → Terms → Seats → Lob
 lobby_seated lobby desk serial terms seats = record lobby {
   members = map (λ member. in_seat desk serial (seat_number member.session (seat_list seats)) member) lobby.members;
   challenges = filter (λ challenge. not (is_settled lobby.members seats challenge)) lobby.challenges;
-  seeks = filter (λ seek. not (is_by_seated seats seek)) lobby.seeks;
+  seeks = filter (λ seek. not (is_seek_of_seated seats seek)) lobby.seeks;
   games = slice_set lobby.games (desk - 1) (Some (record { serial = serial; terms = terms; seats = seats }));
   started = serial;
   shelf = without_seated seats lobby.shelf;

@@ -1,6 +1,6 @@
 //! Whose seeks stay as a game starts.
 ghost use Rattle.std.specs.Prelude.{not};
-ghost use Rattle.lobby_state.specs.Start.{is_by_seated};
+ghost use Rattle.lobby_state.specs.Start.{is_seek_of_seated};
 
 use collections::Predicate;
 use fics_words::Seats;
@@ -11,7 +11,7 @@ use seek_match::Seek;
 pub(crate) struct ByUnseated(pub(crate) Seats);
 
 impl Predicate<Seek> for ByUnseated {
-    ghost passes = { λ test seek. not (is_by_seated test.0 seek) };
+    ghost passes = { λ test seek. not (is_seek_of_seated test.0 seek) };
 
     fn passes(&self, seek: &Seek) -> bool {
         self.0.number(seek.by).is_none()

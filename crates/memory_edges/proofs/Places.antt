@@ -8,19 +8,19 @@ use Rattle.std.specs.FinMap.Entries.{by_order}
 use Rattle.std.proofs.Math.Seq.{drop-cons, take-suc, take-suc-set}
 use Rattle.std.proofs.lemmas.List.{drop-set-lt}
 use Rattle.edge_traits.specs.Pairs.{Pairs, IsAscending, keys_order}
-use Rattle.memory_edges.specs.Shelf.{IsPlace, without}
+use Rattle.memory_edges.specs.Shelf.{IsPlace, pairs_without}
 use Rattle.memory_edges.specs.declared.mem_keeper.KeyPlace.TheVariants.{At, Gap}
 use Rattle.std.proofs.lemmas.Bool.{and_from}
 use Rattle.std.specs.Cmp.{first_so, second_so}
 use Rattle.edge_traits.proofs.Rising.{IsBelow, IsBelow-less, is_less}
 
 -- nothing goes where the key stands below all
-without-below : (key : List ℕ) (pairs : Pairs) → IsBelow key pairs → without key pairs ≡ pairs
+without-below : (key : List ℕ) (pairs : Pairs) → IsBelow key pairs → pairs_without key pairs ≡ pairs
 without-below key [] h = refl
 without-below key (e ∷ es) h =
     let less = is_less (keys_order key e.0) (first_so _ _ h) in
     let rest = without-below key es (second_so _ _ h) in
-    ap (λ o. cond (not (is_eq o)) (e ∷ without key es) (without key es)) less ∙ ap (λ l. e ∷ l) rest
+    ap (λ o. cond (not (is_eq o)) (e ∷ pairs_without key es) (pairs_without key es)) less ∙ ap (λ l. e ∷ l) rest
 
 sorted-drop : (i : ℕ) (pairs : Pairs) → IsAscending pairs → IsAscending (drop i pairs)
 sorted-drop zero pairs h = h
@@ -39,7 +39,7 @@ set_split pairs i x within =
 -- the scan passed i pairs: the place of the key is among the others
 pub record IsPassed (pairs : Pairs) (key : List ℕ) (i : ℕ) : Type 0 where
   pub puts : (bytes : List ℕ) → put keys_order key bytes pairs ≡ take i pairs ++ put keys_order key bytes (drop i pairs)
-  pub others : without key pairs ≡ take i pairs ++ without key (drop i pairs)
+  pub others : pairs_without key pairs ≡ take i pairs ++ pairs_without key (drop i pairs)
 
 -- what follows the pairs that were passed
 module _ (pairs : Pairs) (key : List ℕ) (i : ℕ) (e : List ℕ × List ℕ) (within : i < length pairs)
@@ -65,10 +65,12 @@ module _ (pairs : Pairs) (key : List ℕ) (i : ℕ) (e : List ℕ × List ℕ) (
       is
 
   others_next : (o : Ordering) → keys_order key e.0 ≡ o
-      → without key pairs ≡ take i pairs ++ cond (not (is_eq o)) (e ∷ without key rest) (without key rest)
+      → pairs_without key pairs
+      ≡ take i pairs ++ cond (not (is_eq o)) (e ∷ pairs_without key rest) (pairs_without key rest)
   others_next o is =
-      passed.others ∙ ap (λ l. take i pairs ++ without key l) next
-      ∙ ap (λ (r : Ordering). take i pairs ++ cond (not (is_eq r)) (e ∷ without key rest) (without key rest)) is
+      passed.others ∙ ap (λ l. take i pairs ++ pairs_without key l) next
+      ∙ ap
+      (λ (r : Ordering). take i pairs ++ cond (not (is_eq r)) (e ∷ pairs_without key rest) (pairs_without key rest)) is
 
   after : rest ≡ drop (i + 1) pairs
   unfolding rest
@@ -81,7 +83,7 @@ module _ (pairs : Pairs) (key : List ℕ) (i : ℕ) (e : List ℕ × List ℕ) (
   pub IsPassed-next : keys_order key e.0 ≡ Greater → IsPassed pairs key (i + 1)
   IsPassed-next greater = record {
     puts = λ bytes. puts_next bytes Greater greater ∙ joined _ _ (ap (put keys_order key bytes) after);
-    others = others_next Greater greater ∙ joined _ _ (ap (without key) after);
+    others = others_next Greater greater ∙ joined _ _ (ap (pairs_without key) after);
   }
 
   sorted_next : IsAscending pairs → IsAscending (e ∷ rest)
@@ -92,8 +94,8 @@ module _ (pairs : Pairs) (key : List ℕ) (i : ℕ) (e : List ℕ × List ℕ) (
       let h = sorted_next sorted in
       let below : IsBelow key (e ∷ rest) =
       and_from _ _ (ap is_lt less) (IsBelow-less key e.0 rest less (first_so _ _ h)) in
-      let same : without key (drop i pairs) ≡ drop i pairs =
-      ap (without key) next ∙ without-below key (e ∷ rest) below ∙ sym next in (
+      let same : pairs_without key (drop i pairs) ≡ drop i pairs =
+      ap (pairs_without key) next ∙ without-below key (e ∷ rest) below ∙ sym next in (
         omega arith,
         λ bytes. puts_next bytes Less less ∙ ap (λ l. take i pairs ++ (key, bytes) ∷ l) (sym next),
         passed.others ∙ ap (λ l. take i pairs ++ l) same ∙ take-append-drop i pairs,

@@ -4,7 +4,7 @@ use Rattle.std.proofs.Math.Seq.{take-add}
 use Rattle.std.proofs.Math.ListN.{drop_of_length-le}
 use Rattle.std.proofs.lemmas.List.{drop-drop, map-append, take_all, length-drop}
 use Rattle.edge_traits.specs.Link.{Sign, Byte, Pause}
-use Rattle.memory_edges.specs.Wire.{signs_in, front_of, rest_of, taken_at, left_at, IsSeen}
+use Rattle.memory_edges.specs.Wire.{signs_in, front_of, rest_of_wire, taken_at, left_at, IsSeen}
 use Rattle.memory_edges.specs.declared.steps.Look.TheVariants.{Gives, Pauses, Passes, Ends}
 use Rattle.memory_edges.specs.declared.steps.LinkStep.{LinkStep}
 use Rattle.memory_edges.specs.declared.steps.LinkStep.TheVariants.{Piece, Quiet}
@@ -21,7 +21,7 @@ front_of-none [] = refl
 front_of-none (Piece bytes ∷ steps) = refl
 front_of-none (Quiet ∷ steps) = refl
 
-rest_of-none : (steps : List LinkStep) → rest_of 0 steps ≡ signs_in steps
+rest_of-none : (steps : List LinkStep) → rest_of_wire 0 steps ≡ signs_in steps
 rest_of-none [] = refl
 rest_of-none (Piece bytes ∷ steps) = refl
 rest_of-none (Quiet ∷ steps) = refl
@@ -38,7 +38,7 @@ up_to_one steps more i step e = take-add i 1 steps ∙ ap (λ (x : List LinkStep
 -- the spot behind a step
 pub left_at-next : (steps more : List LinkStep) (i : ℕ) (step : LinkStep) → drop i steps ≡ step ∷ more
     → left_at steps (record { step = i + 1; offset = 0 }) ≡ signs_in more
-left_at-next steps more i step e = ap (rest_of 0) (behind_one steps more i step e) ∙ rest_of-none more
+left_at-next steps more i step e = ap (rest_of_wire 0) (behind_one steps more i step e) ∙ rest_of-none more
 
 pub taken_at-next : (steps more : List LinkStep) (i : ℕ) (step : LinkStep) → drop i steps ≡ step ∷ more
     → taken_at steps (record { step = i + 1; offset = 0 }) ≡ signs_in (take i steps) ++ signs_in (step ∷ [])
@@ -51,7 +51,7 @@ taken_at-next steps more i step e =
 pub pause-left : (steps more : List LinkStep) (i o : ℕ) → drop i steps ≡ Quiet ∷ more
     → left_at steps (record { step = i; offset = o }) ≡ Pause ∷ left_at steps (record { step = i + 1; offset = 0 })
 pause-left steps more i o e =
-    ap (rest_of o) e ∙ ap (λ (x : List Sign). Pause ∷ x) (sym (left_at-next steps more i Quiet e))
+    ap (rest_of_wire o) e ∙ ap (λ (x : List Sign). Pause ∷ x) (sym (left_at-next steps more i Quiet e))
 
 pub pause-taken : (steps more : List LinkStep) (i o : ℕ) → drop i steps ≡ Quiet ∷ more
     → taken_at steps (record { step = i + 1; offset = 0 })
@@ -69,7 +69,7 @@ pub pass-left : (steps more : List LinkStep) (i o : ℕ) (bytes : _) → drop i 
 pass-left steps more i o bytes e all =
     left_at-next steps more i (Piece bytes) e
     ∙ ap (λ (x : List ℕ). map Byte x ++ signs_in more) (sym (drop_of_length-le bytes.items all))
-    ∙ sym (ap (rest_of o) e)
+    ∙ sym (ap (rest_of_wire o) e)
 
 pub pass-taken : (steps more : List LinkStep) (i o : ℕ) (bytes : _) → drop i steps ≡ Piece bytes ∷ more
     → length bytes.items ≤ o
@@ -85,14 +85,14 @@ pub give-left : (steps more : List LinkStep) (i o n : ℕ) (bytes : _) → drop 
     → left_at steps (record { step = i; offset = o })
     ≡ map Byte (take n (drop o bytes.items)) ++ left_at steps (record { step = i; offset = o + n })
 give-left steps more i o n bytes e =
-    ap (rest_of o) e
+    ap (rest_of_wire o) e
     ∙ ap (λ (x : List ℕ). map Byte x ++ signs_in more) (sym (take-append-drop n (drop o bytes.items)))
     ∙ ap (λ (x : List Sign). x ++ signs_in more)
     (map-append Byte (take n (drop o bytes.items)) (drop n (drop o bytes.items)))
     ∙ append_assoc (map Byte (take n (drop o bytes.items))) (map Byte (drop n (drop o bytes.items))) (signs_in more)
     ∙ ap (λ (x : List ℕ). map Byte (take n (drop o bytes.items)) ++ (map Byte x ++ signs_in more))
     (drop-drop n o bytes.items)
-    ∙ ap (λ (x : List Sign). map Byte (take n (drop o bytes.items)) ++ x) (sym (ap (rest_of (o + n)) e))
+    ∙ ap (λ (x : List Sign). map Byte (take n (drop o bytes.items)) ++ x) (sym (ap (rest_of_wire (o + n)) e))
 
 pub give-taken : (steps more : List LinkStep) (i o n : ℕ) (bytes : _) → drop i steps ≡ Piece bytes ∷ more
     → taken_at steps (record { step = i; offset = o + n })
@@ -112,7 +112,7 @@ is_step steps more i step e =
 -- what each look at a spot tells: whether there is a step, what is left, and what was taken
 pub at_end : (rest steps : List LinkStep) (i o : ℕ) (buf : List ℕ) → rest ≡ drop i steps → IsSeen Ends rest o buf
     → left_at steps (record { step = i; offset = o }) ≡ []
-at_end [] steps i o buf e seen = ap (rest_of o) (sym e)
+at_end [] steps i o buf e seen = ap (rest_of_wire o) (sym e)
 at_end (Piece bytes ∷ more) steps i o buf e seen = absurd seen
 at_end (Quiet ∷ more) steps i o buf e seen = absurd seen
 

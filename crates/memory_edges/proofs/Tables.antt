@@ -9,7 +9,7 @@ use Rattle.std.specs.Cmp.{eq_by_cmp_equiv}
 use Rattle.std.specs.declared.cmp.Ordering.TheVariants.{Equal}
 use Rattle.std.proofs.Common.{None}
 use Rattle.edge_traits.specs.Pairs.{Pairs, IsAscending, keys_order}
-use Rattle.memory_edges.specs.Shelf.{without}
+use Rattle.memory_edges.specs.Shelf.{pairs_without}
 
 sorted_test : (pairs : Pairs) → IsAscending pairs → T (is_sorted keys_order pairs)
 sorted_test pairs h = subst T (sym h) tt
@@ -23,7 +23,7 @@ pub IsAscending-put : (key bytes : List ℕ) (pairs : Pairs) → IsAscending pai
 IsAscending-put key bytes pairs h =
     true_of _ (is_sorted-put keys_order nat_list_cmp_total key bytes pairs (sorted_test pairs h))
 
-pub IsAscending-without : (key : List ℕ) (pairs : Pairs) → IsAscending pairs → IsAscending (without key pairs)
+pub IsAscending-without : (key : List ℕ) (pairs : Pairs) → IsAscending pairs → IsAscending (pairs_without key pairs)
 IsAscending-without key pairs h =
     true_of _ (is_sorted-where_key keys_order (λ k. not (eq_by_cmp keys_order key k)) pairs (sorted_test pairs h))
 
@@ -52,11 +52,12 @@ passes_alike key q x tied =
 
 -- to take a key's record from sorted pairs is to remove it from their table
 pub from_sorted-without : (key : List ℕ) (pairs : Pairs) → IsAscending pairs
-    → map.from_sorted {R = keys_order} (without key pairs) ≡ map.remove (map.from_sorted pairs) key
+    → map.from_sorted {R = keys_order} (pairs_without key pairs) ≡ map.remove (map.from_sorted pairs) key
 from_sorted-without key pairs h =
     same_map nat_list_cmp_total (slice_cmp-IsAntisymmetric nat_cmp-IsAntisymmetric) _ _
     (λ q.
-    get-from_sorted keys_order (without key pairs) q (sorted_test (without key pairs) (IsAscending-without key pairs h))
+    get-from_sorted keys_order (pairs_without key pairs) q
+    (sorted_test (pairs_without key pairs) (IsAscending-without key pairs h))
     ∙ find-where_key keys_order (λ k. not (eq_by_cmp keys_order key k)) q (passes_alike key q) pairs
     ∙ swapped_cond (eq_by_cmp keys_order key q) (find keys_order q pairs) None
     ∙ ap (λ b. cond b None (find keys_order q pairs)) ((eq_by_cmp_equiv nat_list_cmp_total).symm key q)

@@ -15,14 +15,14 @@ pub record Shelf : Type 0 where
   pub calls : Calls
 
 -- the pairs with another key
-abbrev pub without : List ℕ → Pairs → Pairs
-without key = filter (λ pair. not (eq_by_cmp keys_order key pair.0))
+abbrev pub pairs_without : List ℕ → Pairs → Pairs
+pairs_without key = filter (λ pair. not (eq_by_cmp keys_order key pair.0))
 
 -- where a key stands among the pairs, or would stand
 abbrev pub IsPlace : Pairs → List ℕ → KeyPlace → Type 0
 IsPlace pairs key (At i) =
     (i < length pairs) × ((bytes : List ℕ) → put keys_order key bytes pairs ≡ slice_set pairs i (key, bytes))
-    × (without key pairs ≡ remove pairs i)
+    × (pairs_without key pairs ≡ remove pairs i)
 IsPlace pairs key (Gap i) =
     (i ≤ length pairs) × ((bytes : List ℕ) → put keys_order key bytes pairs ≡ insert pairs i (key, bytes))
-    × (without key pairs ≡ pairs)
+    × (pairs_without key pairs ≡ pairs)

@@ -21,17 +21,17 @@ front_of n (Piece bytes ∷ steps) = map Byte (take n bytes.items)
 front_of n (Quiet ∷ steps) = []
 
 -- what is left of the steps without these bytes
-abbrev pub rest_of : ℕ → List LinkStep → List Sign
-rest_of n [] = []
-rest_of n (Piece bytes ∷ steps) = map Byte (drop n bytes.items) ++ signs_in steps
-rest_of n (Quiet ∷ steps) = Pause ∷ signs_in steps
+abbrev pub rest_of_wire : ℕ → List LinkStep → List Sign
+rest_of_wire n [] = []
+rest_of_wire n (Piece bytes ∷ steps) = map Byte (drop n bytes.items) ++ signs_in steps
+rest_of_wire n (Quiet ∷ steps) = Pause ∷ signs_in steps
 
 -- what was taken up to a spot, and what is left from there
 abbrev pub taken_at : List LinkStep → Spot → List Sign
 taken_at steps spot = signs_in (take spot.step steps) ++ front_of spot.offset (drop spot.step steps)
 
 abbrev pub left_at : List LinkStep → Spot → List Sign
-left_at steps spot = rest_of spot.offset (drop spot.step steps)
+left_at steps spot = rest_of_wire spot.offset (drop spot.step steps)
 
 -- a link in memory: what it tells, its plan of faults, and the number under which a door keeps it
 pub record Wire : Type 0 where

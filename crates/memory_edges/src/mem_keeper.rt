@@ -3,7 +3,7 @@
 ghost use Rattle.std.specs.Prelude.{◌≡◌, IfOk, OnOk, OnErr};
 ghost use Rattle.std.specs.FinMap.{put};
 ghost use Rattle.edge_traits.specs.Pairs.{IsAscending, keys_order};
-ghost use Rattle.memory_edges.specs.Shelf.{IsPlace, without};
+ghost use Rattle.memory_edges.specs.Shelf.{IsPlace, pairs_without};
 
 use crate::fault_plan::FaultPlan;
 use edge_traits::{CallLog, Keeper, KeeperFail, Kept, Pair, Request};
@@ -169,7 +169,7 @@ fn put_pair(pairs: &mut Vec<Pair>, key: &[u8], bytes: &[u8]) -> Result<(), NoMem
 /// Takes away the record under the key, if there is one.
 fn remove_pair(pairs: &mut Vec<Pair>, key: &[u8])
     requires { IsAscending pairs.old.items }
-    ensures { pairs.new.items ≡ without key.now pairs.old.items }
+    ensures { pairs.new.items ≡ pairs_without key.now pairs.old.items }
 {
     if let KeyPlace::At(i) = find_place(pairs, key) {
         pairs.remove(i);

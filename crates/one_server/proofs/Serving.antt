@@ -23,7 +23,7 @@ use Rattle.one_server.specs.House.{house}
 use Rattle.one_server.specs.Server.{IsServed}
 use Rattle.one_server.specs.Desks.{vacant}
 use Rattle.one_server.specs.declared.part.Part.TheVariants.{Lobby as TheLobby, Desk as ADesk}
-use Rattle.one_server.specs.Whole.{IsInPlace, IsOpening, IsWhole, parts_with, vacant_from, opened}
+use Rattle.one_server.specs.Whole.{IsInPlace, IsOpening, IsWhole, parts_with, vacant_from, opened_server}
 use Rattle.one_server.specs.LawfulProof.{house_lawful}
 
 -- the parts of a server are whole
@@ -124,15 +124,16 @@ whole_opening lobby formed o = record {
 
 pub fresh : (opening lobby : LobbyState) (desks : List DeskState) (log : List (Entry Timed Reply)) → IsWellFormed lobby
     → IsOpening lobby → opening ≡ lobby → desks ≡ vacant_from 1 desk_count → log ≡ []
-    → IsServed (opened opening) log lobby desks
-unfolding opened
+    → IsServed (opened_server opening) log lobby desks
+unfolding opened_server
 fresh opening lobby desks log formed o same e empty =
     let whole = whole_opening lobby formed o in
-    let made : IsServed (opened lobby) [] lobby (vacant_from 1 desk_count) =
+    let made : IsServed (opened_server lobby) [] lobby (vacant_from 1 desk_count) =
     record { whole = whole; legal = tt; state = refl } in
-    subst (λ (l : LobbyState). IsServed (opened l) log lobby desks) (sym same)
-    (subst (λ (ds : List DeskState). IsServed (opened lobby) log lobby ds) (sym e)
-    (subst (λ (es : List (Entry Timed Reply)). IsServed (opened lobby) es lobby (vacant_from 1 desk_count)) (sym empty)
+    subst (λ (l : LobbyState). IsServed (opened_server l) log lobby desks) (sym same)
+    (subst (λ (ds : List DeskState). IsServed (opened_server lobby) log lobby ds) (sym e)
+    (subst (λ (es : List (Entry Timed Reply)). IsServed (opened_server lobby) es lobby (vacant_from 1 desk_count))
+    (sym empty)
     made))
 
 pub vacant_push : (slot : ℕ) (desks new : List DeskState) (desk : DeskState) → desks ≡ vacant_from 1 slot

@@ -19,7 +19,7 @@ use Rattle.linked_desk.proofs.Shelved.{shelved_replays}
 use Rattle.lobby_state.specs.declared.acts.Plan.{Plan}
 use Rattle.lobby_state.specs.declared.acts.Plan.TheVariants.{Start, Clear, Resume, Ask}
 use Rattle.lobby_state.specs.declared.game.ListedGame.{ListedGame}
-use Rattle.lobby_state.specs.Lobby.{LobbyState, game_at, game_in}
+use Rattle.lobby_state.specs.Lobby.{LobbyState, game_at, listed_game_in}
 use Rattle.lobby_state.specs.Planned.{IsPlanned}
 use Rattle.lobby_state.specs.Plans.{desk_of}
 use Rattle.lobby_state.specs.Reserve.{CanShelve}
@@ -81,7 +81,7 @@ carried_by lobby (Start own serial terms seats) number desk formed o listed plan
 carried_by lobby (Clear session own serial) number desk formed o listed planned =
     let same : own ≡ number = cc in
     shelving lobby session own serial desk.game (was_adjourned desk) listed.sound
-    (ap (λ (n : ℕ). game_at lobby n) same ∙ ap game_in listed.listed)
+    (ap (λ (n : ℕ). game_at lobby n) same ∙ ap listed_game_in listed.listed)
 carried_by lobby (Resume own serial stored terms seats) number desk formed o listed planned =
     let same : own ≡ number = cc in
     record {

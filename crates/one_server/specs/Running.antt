@@ -40,7 +40,7 @@ pub record Made (old : RunnerState) (entries : Log) (new : RunnerState) : Type 0
 
 -- the session was answered: it made this act with this reply, and that is the last that it has seen. The reply tells
 -- places at desks, and names the winner of each end
-pub record Ran (old : RunnerState) (act : Timed) (reply : Reply) (new : RunnerState) : Type 0 where
+pub record ServerRan (old : RunnerState) (act : Timed) (reply : Reply) (new : RunnerState) : Type 0 where
   pub grew : Made old (entry old.number act reply ∷ []) new
   pub others : Log
   pub ends : new.seen ≡ (old.seen ++ others) ++ entry old.number act reply ∷ []
@@ -53,5 +53,5 @@ in_its_place (Err e) reply = Err e
 
 -- a session runs an act: it is answered, or it runs out of memory and makes no entry
 abbrev pub Runs : RunnerState → Timed → Result Reply NoMemory → RunnerState → Type 0
-Runs old act (Ok reply) new = Ran old act reply new
+Runs old act (Ok reply) new = ServerRan old act reply new
 Runs old act (Err e) new = Made old [] new

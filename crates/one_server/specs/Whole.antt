@@ -45,5 +45,5 @@ pub record IsOpening (lobby : LobbyState) : Type 0 where
   pub no_game : lobby.games ≡ replicate desk_count None
 
 -- the opening state: a lobby, and 128 vacant desks
-unfoldable pub opened : LobbyState → List Part
-opened lobby = parts_with lobby (vacant_from 1 desk_count)
+unfoldable pub opened_server : LobbyState → List Part
+opened_server lobby = parts_with lobby (vacant_from 1 desk_count)

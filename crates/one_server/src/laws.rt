@@ -7,7 +7,7 @@ ghost use Rattle.one_server.specs.Laws.{GoesOnWhileItRuns, HoldsInEachState, Kee
 ghost use Rattle.one_server.specs.Laws.{LendsSecond, ListsItsDesks, NamesItsWinners, NumbersItsOrders, RepliesWell};
 ghost use Rattle.one_server.specs.Laws.{SeatsItsMembers, StoresWhatReplays};
 ghost use Rattle.one_server.specs.ResumedGames.{ResumesAsLeft};
-ghost use Rattle.one_server.specs.Whole.{IsOpening, IsWhole, opened};
+ghost use Rattle.one_server.specs.Whole.{IsOpening, IsWhole, opened_server};
 
 use crate::house::House;
 use histories::{acts_commute, acts_locally};
@@ -30,7 +30,7 @@ pub fn acts_keep_to_their_parts()
 /// under that serial.
 pub fn every_state_agrees()
     ensures empty { IsOpening opening }
-    ensures opens { (lobby : LobbyState) → IsWellFormed lobby → IsOpening lobby → IsWhole (opened lobby) }
+    ensures opens { (lobby : LobbyState) → IsWellFormed lobby → IsOpening lobby → IsWhole (opened_server lobby) }
     ensures whole { HoldsInEachState IsWhole }
     ensures desks { HoldsInEachState ListsItsDesks }
     ensures members { HoldsInEachState SeatsItsMembers }

@@ -30,13 +30,13 @@ pub struct OneServer {
 
 impl Model for OneServer {
     ghost use Rattle.one_server.specs.Server.{ServerState, IsServed};
-    ghost use Rattle.one_server.specs.Whole.{opened};
+    ghost use Rattle.one_server.specs.Whole.{opened_server};
 
     ghost Value = { ServerState };
 
-    ghost view = { λ s. record { opening = opened s.opening.value; log = s.log.items } };
+    ghost view = { λ s. record { opening = opened_server s.opening.value; log = s.log.items } };
 
-    ghost invariant = { λ s. IsServed (opened s.opening.value) s.log.items s.lobby s.desks };
+    ghost invariant = { λ s. IsServed (opened_server s.opening.value) s.log.items s.lobby s.desks };
 }
 
 impl OneServer {
@@ -46,13 +46,13 @@ impl OneServer {
     ghost use Rattle.one_server.specs.House.{house};
     ghost use Rattle.one_server.specs.Replies.{IsReply};
     ghost use Rattle.one_server.specs.Server.{parts_in};
-    ghost use Rattle.one_server.specs.Whole.{IsOpening, IsWhole, opened};
+    ghost use Rattle.one_server.specs.Whole.{IsOpening, IsWhole, opened_server};
 
     /// A server that opens with this lobby, which has no member and no desk in use, and with vacant desks. It isn't
     /// made only when out of memory.
     pub fn new(alloc: Global, lobby: Lobby) -> Result<OneServer, NoMemory>
         requires { IsOpening lobby }
-        ensures { IfOk result (λ server. server ≡ record { opening = opened lobby; log = [] }) }
+        ensures { IfOk result (λ server. server ≡ record { opening = opened_server lobby; log = [] }) }
     {
         lobbies_are_well_formed(&lobby);
         match vacant_desks(alloc) {

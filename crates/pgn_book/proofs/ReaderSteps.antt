@@ -10,7 +10,7 @@ use Rattle.pgn_book.specs.declared.reader.PgnStep.{PgnStep}
 use Rattle.pgn_book.specs.declared.reader.PgnStep.TheVariants.{Game, More, Bad}
 use Rattle.pgn_book.specs.Reading.{State, Step, step, gone, with_given, read_from, with_game_first}
 use Rattle.pgn_book.specs.Taking.{on_if, IsStepOfByte}
-use Rattle.pgn_book.specs.Reader.{Reader, Scan, reader_facing, line_if, line_from, ReaderGoesOn, GivesLast, IsRead, IsNext, IsLast, most_left, told_at_end, words_begun, words_open}
+use Rattle.pgn_book.specs.Reader.{Reader, Scan, reader_facing, line_if, line_from, ReaderGoesOn, GivesLast, IsRead, IsNextGame, IsLast, most_left, told_at_end, words_begun, words_open}
 
 some_if : (on : Bool) (s : State) → is_some (on_if on s) ≡ on
 some_if true s = refl
@@ -68,7 +68,7 @@ goes_on_both now mid new given one other = record {
 
 -- all was read and no game ended: what is told of it
 told_next : (now new : Reader) (scan : Scan) → new ≡ reader_facing scan [] → ReaderGoesOn now None new
-    → IsNext now (told_at_end scan) new
+    → IsNextGame now (told_at_end scan) new
 told_next now new scan e h = by scan.on refl
   where
     there : (on : Option State) → scan.on ≡ on → new.on ≡ on
@@ -83,12 +83,12 @@ told_next now new scan e h = by scan.on refl
         ∙ ap (λ (o : Option State). line_from new.line o (new.rest ++ [])) (there None is)
         ∙ ap (λ (r : Reader). r.line) e
 
-    by : (on : Option State) → scan.on ≡ on → IsNext now (told_at_end scan) new
+    by : (on : Option State) → scan.on ≡ on → IsNextGame now (told_at_end scan) new
     by None is =
-        subst (λ (o : Option State). IsNext now (told_at_end (record { on = o; line = scan.line })) new) (sym is)
+        subst (λ (o : Option State). IsNextGame now (told_at_end (record { on = o; line = scan.line })) new) (sym is)
         (read, there None is, sym (lost is), sym (ap (λ (r : Reader). r.line) e))
     by (Some s) is =
-        subst (λ (o : Option State). IsNext now (told_at_end (record { on = o; line = scan.line })) new) (sym is)
+        subst (λ (o : Option State). IsNextGame now (told_at_end (record { on = o; line = scan.line })) new) (sym is)
         (read, λ (none : new.on ≡ None). let f : Some s ≡ None = sym (there (Some s) is) ∙ none in cc)
 
 last_behind : (now mid new : Reader) (step : PgnStep) → ReaderGoesOn now None mid → IsLast mid step new
@@ -193,7 +193,7 @@ has_read now from to bytes read game stands are goes all =
 
 pub none_is_next : (now new : Reader) (game : Option PgnGame) (to : Scan) (rest : List ℕ) → HasRead now game to rest
     → game ≡ None
-    → new ≡ reader_facing to rest → IsNext now (told_at_end to) new
+    → new ≡ reader_facing to rest → IsNextGame now (told_at_end to) new
 none_is_next now new game to rest h none e =
     let goes : ReaderGoesOn now None new =
     subst (λ (r : Reader). ReaderGoesOn now None r) (sym e)

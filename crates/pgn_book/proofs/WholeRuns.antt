@@ -5,7 +5,7 @@ use Rattle.pgn_book.specs.declared.reader.PgnStep.{PgnStep}
 use Rattle.pgn_book.specs.declared.reader.PgnStep.TheVariants.{Game, More, Bad}
 use Rattle.pgn_book.specs.Games.{ReadsGames}
 use Rattle.pgn_book.specs.Reading.{State, Outcome, with_game_first, nothing_read, read_from, first_state, Gone, with_given, gone, adding_all}
-use Rattle.pgn_book.specs.Reader.{Reader, fresh_reader, line_from, ReaderGoesOn, IsNext, IsLast}
+use Rattle.pgn_book.specs.Reader.{Reader, fresh_reader, line_from, ReaderGoesOn, IsNextGame, IsLast}
 use Rattle.pgn_book.specs.BadLines.{IsLeftOn}
 use Rattle.pgn_book.specs.Runs.{outcome_of, begun_with, with_games, HasGiven, EndsSo, Call, Feed, Next, Halted, MakeAll, Ends, text_of_calls, game_of_step, games_of, RunsReadTheText}
 use Rattle.pgn_book.proofs.GamesFound.{reader_reads}
@@ -60,7 +60,7 @@ given_more text games given old new h g = record {
 }
 
 pub next_given : (text : List ℕ) (games : List PgnGame) (step : PgnStep) (old new : Reader) → HasGiven text games old
-    → IsNext old step new →
+    → IsNextGame old step new →
     HasGiven text (games ++ game_of_step step) new
 next_given text games (Game g) old new h is = given_more text games (Some g) old new h is
 next_given text games More old new h is = given_more text games None old new h is.0.goes_on
@@ -147,7 +147,7 @@ last_lost text games line old new h is =
     lost_on text games line (h.read ∙ ap (adding_all games) is.0) (is.2 ∙ sym h.line)
 
 pub next_lost : (text : List ℕ) (games : List PgnGame) (line : ℕ) (old new : Reader) → HasGiven text games old
-    → IsNext old (Bad line) new →
+    → IsNextGame old (Bad line) new →
     (more : List ℕ) → IsLost (text ++ more) games line
 next_lost text games line old new h is more =
     let after : HasGiven text (games ++ []) new = given_more text games None old new h is.0.goes_on in

@@ -94,7 +94,7 @@ pub record IsMoveWord (before : List Move) (word : List ℕ) (m : Move) : Type 0
   pub read : IsReadAs (position_of_moves before) (without_praise word) m
 
 -- the piece is a word that is the next move
-pub record IsNext (before : List Move) (piece : Piece) (first : List Move) : Type 0 where
+pub record IsNextMove (before : List Move) (piece : Piece) (first : List Move) : Type 0 where
   pub word : List ℕ
   pub move : Move
   pub is : piece ≡ Word word
@@ -103,7 +103,7 @@ pub record IsNext (before : List Move) (piece : Piece) (first : List Move) : Typ
 
 -- a piece of the movetext is passed over, or it tells the next move
 abbrev pub TellsMove : List Move → Piece → List Move → Type 0
-TellsMove before piece first = (IsPassed piece × (first ≡ [])) ⊎ IsNext before piece first
+TellsMove before piece first = (IsPassed piece × (first ≡ [])) ⊎ IsNextMove before piece first
 
 -- the pieces tell these moves, after those before them
 abbrev pub TellMoves : List Move → List Piece → List Move → Type 0

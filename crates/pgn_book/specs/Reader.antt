@@ -103,10 +103,10 @@ pub record IsRead (old new : Reader) : Type 0 where
   pub all : new.rest ≡ []
 
 -- the first whole game, or that there is none in what was fed; or the line on which no text goes on
-abbrev pub IsNext : Reader → PgnStep → Reader → Type 0
-IsNext old (Game g) new = ReaderGoesOn old (Some g) new
-IsNext old More new = IsRead old new × (new.on ≢ None)
-IsNext old (Bad line) new =
+abbrev pub IsNextGame : Reader → PgnStep → Reader → Type 0
+IsNextGame old (Game g) new = ReaderGoesOn old (Some g) new
+IsNextGame old More new = IsRead old new × (new.on ≢ None)
+IsNextGame old (Bad line) new =
     IsRead old new × (new.on ≡ None) × (line ≡ line_from old.line old.on old.rest) × (line ≡ new.line)
 
 -- at the end of the text, the first game, behind which the new reader goes on

@@ -7,7 +7,7 @@ use Rattle.pgn_book.specs.declared.reader.PgnStep.TheVariants.{Game, More, Bad}
 use Rattle.pgn_book.specs.Bytes.{is_space}
 use Rattle.pgn_book.specs.Games.{ReadsGames}
 use Rattle.pgn_book.specs.Reading.{Outcome, Gone, first_state, read_from, gone, adding_all}
-use Rattle.pgn_book.specs.Reader.{Reader, fresh_reader, line_from, IsNext, IsLast}
+use Rattle.pgn_book.specs.Reader.{Reader, fresh_reader, line_from, IsNextGame, IsLast}
 use Rattle.pgn_book.specs.BadLines.{IsLeftOn}
 
 -- what is read in a whole text: the games that are whole before it leaves the grammar or ends, and whether all of it is
@@ -66,7 +66,7 @@ pub data Call : Type 0 where
 -- what a call makes of a reader
 abbrev pub CallMakes : Reader → Call → Reader → Type 0
 CallMakes old (Feed piece) new = new ≡ record old { rest = old.rest ++ piece }
-CallMakes old (Next step) new = IsNext old step new
+CallMakes old (Next step) new = IsNextGame old step new
 CallMakes old Halted new = new ≡ old
 
 -- what calls make of a reader, one after another
@@ -110,8 +110,8 @@ pub record RunsReadTheText : Type 0 where
   pub bad : (calls : List Call) (fed : Reader) (games : List PgnGame) (line : ℕ) → MakeAll fresh_reader calls fed
       → Ends fed games (Bad line)
       → IsLeftOn (text_of_calls calls) line × ((outcome_of (text_of_calls calls)).games ≡ games_of calls ++ games)
-  pub no_more : (calls : List Call) (fed new : Reader) → MakeAll fresh_reader calls fed → IsNext fed More new
+  pub no_more : (calls : List Call) (fed new : Reader) → MakeAll fresh_reader calls fed → IsNextGame fed More new
       → ((begun_with (text_of_calls calls)).games ≡ games_of calls) × ((begun_with (text_of_calls calls)).on ≢ None)
   pub lost : (calls : List Call) (fed new : Reader) (line : ℕ) → MakeAll fresh_reader calls fed
-      → IsNext fed (Bad line) new → (more : List ℕ) → IsLeftOn (text_of_calls calls ++ more) line
+      → IsNextGame fed (Bad line) new → (more : List ℕ) → IsLeftOn (text_of_calls calls ++ more) line
       × ((outcome_of (text_of_calls calls ++ more)).games ≡ games_of calls)

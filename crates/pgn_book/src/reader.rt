@@ -34,7 +34,7 @@ impl Model for PgnReader {
 
     ghost Value = { Reader };
 
-    ghost view = { λ reader. facing reader.scan (drop reader.looked_at reader.fed.items) };
+    ghost view = { λ reader. reader_facing reader.scan (drop reader.looked_at reader.fed.items) };
 
     ghost invariant = { λ reader. reader.looked_at ≤ vec_len reader.fed };
 }
@@ -42,7 +42,7 @@ impl Model for PgnReader {
 impl PgnReader {
     ghost use Rattle.pgn_book.specs.Reader.{
       IsLast,
-      IsNext,
+      IsNextGame,
       LeavesFewer,
       MayBeExported,
       Reader,
@@ -75,7 +75,7 @@ impl PgnReader {
     /// The next whole game of what was fed, which may be exported; `More` exactly where there is none and nothing is
     /// outside the grammar; `Bad`, from then on, where something is.
     pub fn next(&mut self) -> Result<PgnStep, NoMemory>
-        ensures next { IfOk result (λ step. IsNext self.old step self.new) }
+        ensures next { IfOk result (λ step. IsNextGame self.old step self.new) }
         ensures exportable { IfOk result MayBeExported }
         ensures fewer { IfOk result (λ step. LeavesFewer self.old step self.new) }
         ensures unchanged { OnErr result (self.new ≡ self.old) }

@@ -22,7 +22,7 @@ use Rattle.one_server.specs.House.{house}
 use Rattle.one_server.specs.LawfulProof.{house_lawful}
 use Rattle.one_server.specs.ResumedGames.{ResumesAsLeft}
 use Rattle.one_server.specs.Running.{Log}
-use Rattle.one_server.specs.Whole.{IsWhole, opened}
+use Rattle.one_server.specs.Whole.{IsWhole, opened_server}
 use Rattle.one_server.specs.declared.part.Part.{Part}
 use Rattle.one_server.specs.declared.part.Part.TheVariants.{Lobby as TheLobby}
 use Rattle.restart_laws.proofs.GoodTable.{good_table}
@@ -49,8 +49,8 @@ formed_in : (parts : List Part) (lobby : LobbyState) → IsWhole parts → slice
 formed_in parts lobby whole there =
     subst IsWellFormed (one_lobby parts whole.lobby lobby whole.first there) whole.formed
 
-first_part : (lobby : LobbyState) → slice_get (opened lobby) 0 ≡ Some (TheLobby lobby)
-unfolding opened
+first_part : (lobby : LobbyState) → slice_get (opened_server lobby) 0 ≡ Some (TheLobby lobby)
+unfolding opened_server
 first_part lobby = refl
 
 module _ (old new : Store) (first : LobbyState) (end : ServeEnd) (pass : PassState)
@@ -60,7 +60,7 @@ module _ (old new : Store) (first : LobbyState) (end : ServeEnd) (pass : PassSta
 
   opens_formed : IsWellFormed first
   opens_formed =
-      formed_in (opened first) first (subst IsWhole evening.served.hall.opens evening.served.hall.opens_whole)
+      formed_in (opened_server first) first (subst IsWhole evening.served.hall.opens evening.served.hall.opens_whole)
       (first_part first)
 
   ends_formed : (last : LobbyState) → EndsWith pass last → IsWellFormed last

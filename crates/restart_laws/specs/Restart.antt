@@ -12,7 +12,7 @@ use Rattle.login_handles.specs.Accounts.{account_of}
 use Rattle.one_server.specs.House.{house}
 use Rattle.one_server.specs.ResumedGames.{ResumesAsLeft}
 use Rattle.one_server.specs.Running.{Log}
-use Rattle.one_server.specs.Whole.{opened}
+use Rattle.one_server.specs.Whole.{opened_server}
 use Rattle.one_server.specs.declared.part.Part.TheVariants.{Lobby as TheLobby}
 use Rattle.serve_call.specs.Opening.{IsLoaded}
 use Rattle.serve_core.specs.Outside.{Sheet}
@@ -34,7 +34,7 @@ pub record Evening (old new : Store) (first : LobbyState) (end : ServeEnd) (pass
   pub after : Sheet
   -- such that
   pub opens : IsLoaded old loaded first
-  pub served : HasServedAll shows (opened first) end door before after loaded new pass
+  pub served : HasServedAll shows (opened_server first) end door before after loaded new pass
 
 -- how the steward's last turn ended
 abbrev pub last_turn : {old new : Store} {first : LobbyState} {end : ServeEnd} {pass : PassState}

@@ -27,7 +27,7 @@ use Rattle.lobby_store.specs.Carrying.{held}
 use Rattle.one_server.specs.declared.part.Part.{Part}
 use Rattle.one_server.specs.declared.part.Part.TheVariants.{Lobby as TheLobby}
 use Rattle.one_server.specs.House.{house}
-use Rattle.one_server.specs.Whole.{opened}
+use Rattle.one_server.specs.Whole.{opened_server}
 use Rattle.hall_core.specs.Passes.{PassState}
 use Rattle.steward_core.proofs.StatesLead.{one_lobby}
 use Rattle.serve_turn.specs.declared.end.ServeEnd.{ServeEnd}
@@ -114,21 +114,21 @@ served_from shows opening end door before mid later loaded new pass none same p 
 
 -- ---- what was loaded agrees
 
-first_part : (lobby : LobbyState) → slice_get (opened lobby) 0 ≡ Some (TheLobby lobby)
-unfolding opened
+first_part : (lobby : LobbyState) → slice_get (opened_server lobby) 0 ≡ Some (TheLobby lobby)
+unfolding opened_server
 first_part lobby = refl
 
 loaded_agrees : (table : Records) (lobby : LobbyState) → IsAtOpening lobby → HasLoaded table lobby
-    → AgreesIn table (opened lobby)
+    → AgreesIn table (opened_server lobby)
 loaded_agrees table lobby at loads other there key =
-    let same : other ≡ lobby = one_lobby (opened lobby) other lobby there (first_part lobby) in
+    let same : other ≡ lobby = one_lobby (opened_server lobby) other lobby there (first_part lobby) in
     let none : other.shelf.orders ≡ [] = ap (λ (l : LobbyState). l.shelf.orders) same ∙ at.no_orders in
     ap (λ (orders : List Order). table_with (held table) orders key) none
     ∙ sym (loads key)
     ∙ ap (λ (l : LobbyState). wanted_by l key) (sym same)
 
 agreed_by : (told now : Option Records) (lobby : LobbyState) (opening parts : List Part) → IsAtOpening lobby
-    → IfSome told (λ table. HasLoaded table lobby) → opening ≡ opened lobby
+    → IfSome told (λ table. HasLoaded table lobby) → opening ≡ opened_server lobby
     → IfSome told (λ table. AgreesIn table opening → TellsAgreed now parts)
     → IfSome told (λ table. TellsAgreed now parts)
 agreed_by None now lobby opening parts at loads is p = tt
@@ -139,7 +139,7 @@ agreed_by (Some table) now lobby opening parts at loads is p =
 pub table_agrees : (shows : ℕ → Bool) (lobby : LobbyState) (end : ServeEnd) (door : Option DoorTale)
     (before later : Sheet) (old loaded new : Store) (pass : PassState)
     → IsLoaded old loaded lobby
-    → HasServedAll shows (opened lobby) end door before later loaded new pass
+    → HasServedAll shows (opened_server lobby) end door before later loaded new pass
     → IfSome old.table (λ table. TellsAgreed new.table (state house pass.opening pass.seen))
 table_agrees shows lobby end door before later old loaded new pass loads p =
     let parts = state house pass.opening pass.seen in

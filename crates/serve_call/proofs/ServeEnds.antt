@@ -26,10 +26,10 @@ use Rattle.serve_core.specs.Outside.{Sheet}
 use Rattle.edge_traits.specs.Calls.{Store}
 use Rattle.serve_turn.specs.declared.end.ServeEnd.{ServeEnd}
 use Rattle.serve_turn.specs.declared.end.ServeEnd.TheVariants.{Done, DoorFault, WriteFault, KeeperFault, Memory, Spent}
-use Rattle.serve_turn.specs.Stopping.{IsClean, status_of}
+use Rattle.serve_turn.specs.Stopping.{IsClean, serving_status}
 use Rattle.serve_core.specs.Text.{whole_text}
 
-pub is_write_fault : (end : ServeEnd) → status_of end ≡ 3 → end ≡ WriteFault
+pub is_write_fault : (end : ServeEnd) → serving_status end ≡ 3 → end ≡ WriteFault
 is_write_fault Done e = absurd (omega (arith, e))
 is_write_fault WriteFault e = refl
 is_write_fault KeeperFault e = absurd (omega (arith, e))
@@ -37,7 +37,7 @@ is_write_fault Memory e = absurd (omega (arith, e))
 is_write_fault DoorFault e = absurd (omega (arith, e))
 is_write_fault Spent e = absurd (omega (arith, e))
 
-pub is_door_fault : (end : ServeEnd) → status_of end ≡ 8 → end ≡ DoorFault
+pub is_door_fault : (end : ServeEnd) → serving_status end ≡ 8 → end ≡ DoorFault
 is_door_fault Done e = absurd (omega (arith, e))
 is_door_fault WriteFault e = absurd (omega (arith, e))
 is_door_fault KeeperFault e = absurd (omega (arith, e))
@@ -45,7 +45,7 @@ is_door_fault Memory e = absurd (omega (arith, e))
 is_door_fault DoorFault e = refl
 is_door_fault Spent e = absurd (omega (arith, e))
 
-pub is_keeper_fault : (end : ServeEnd) → status_of end ≡ 4 → end ≡ KeeperFault
+pub is_keeper_fault : (end : ServeEnd) → serving_status end ≡ 4 → end ≡ KeeperFault
 is_keeper_fault Done e = absurd (omega (arith, e))
 is_keeper_fault WriteFault e = absurd (omega (arith, e))
 is_keeper_fault KeeperFault e = refl
@@ -53,7 +53,7 @@ is_keeper_fault Memory e = absurd (omega (arith, e))
 is_keeper_fault DoorFault e = absurd (omega (arith, e))
 is_keeper_fault Spent e = absurd (omega (arith, e))
 
-pub is_no_bad_record : (end : ServeEnd) → status_of end ≡ 5 → ⊥
+pub is_no_bad_record : (end : ServeEnd) → serving_status end ≡ 5 → ⊥
 is_no_bad_record Done e = omega (arith, e)
 is_no_bad_record WriteFault e = omega (arith, e)
 is_no_bad_record KeeperFault e = omega (arith, e)
@@ -61,7 +61,7 @@ is_no_bad_record Memory e = omega (arith, e)
 is_no_bad_record DoorFault e = omega (arith, e)
 is_no_bad_record Spent e = omega (arith, e)
 
-pub is_no_usage : (end : ServeEnd) → status_of end ≡ 1 → ⊥
+pub is_no_usage : (end : ServeEnd) → serving_status end ≡ 1 → ⊥
 is_no_usage Done e = omega (arith, e)
 is_no_usage WriteFault e = omega (arith, e)
 is_no_usage KeeperFault e = omega (arith, e)
@@ -69,7 +69,7 @@ is_no_usage Memory e = omega (arith, e)
 is_no_usage DoorFault e = omega (arith, e)
 is_no_usage Spent e = omega (arith, e)
 
-pub is_whole : (end : ServeEnd) → (status_of end ≡ 0) ⊎ (status_of end ≡ 9) → IsClean end
+pub is_whole : (end : ServeEnd) → (serving_status end ≡ 0) ⊎ (serving_status end ≡ 9) → IsClean end
 is_whole Done e = tt
 is_whole Spent e = tt
 is_whole KeeperFault (inl e) = omega (arith, e)
@@ -85,7 +85,7 @@ is_whole DoorFault (inr e) = omega (arith, e)
 abbrev pub AllStatuses : ℕ → Type 0
 AllStatuses = Contains (0 ∷ 1 ∷ 3 ∷ 4 ∷ 5 ∷ 6 ∷ 8 ∷ 9 ∷ [])
 
-pub is_listed : (end : ServeEnd) → AllStatuses (status_of end)
+pub is_listed : (end : ServeEnd) → AllStatuses (serving_status end)
 is_listed Done = (0, omega arith, refl)
 is_listed WriteFault = (2, omega arith, refl)
 is_listed KeeperFault = (3, omega arith, refl)
@@ -97,7 +97,7 @@ is_listed Spent = (7, omega arith, refl)
 abbrev pub CalmStatuses : ℕ → Type 0
 CalmStatuses = Contains (0 ∷ 5 ∷ 6 ∷ 9 ∷ [])
 
-pub is_complete : (end : ServeEnd) → IsClean end ⊎ (end ≡ Memory) → CalmStatuses (status_of end)
+pub is_complete : (end : ServeEnd) → IsClean end ⊎ (end ≡ Memory) → CalmStatuses (serving_status end)
 is_complete Done p = (0, omega arith, refl)
 is_complete Memory p = (2, omega arith, refl)
 is_complete Spent p = (3, omega arith, refl)
@@ -148,9 +148,10 @@ pub told_from : (before mid after : ℕ) (end : ServeEnd) → mid ≡ before
 told_from before mid after end same (inl e) = inl (e ∙ same)
 told_from before mid after end same (inr f) = inr f
 
-status_told : (end : ServeEnd) → (end ≡ WriteFault) ⊎ (end ≡ DoorFault) → (status_of end ≡ 3) ⊎ (status_of end ≡ 8)
-status_told end (inl e) = inl (ap status_of e)
-status_told end (inr e) = inr (ap status_of e)
+status_told : (end : ServeEnd) → (end ≡ WriteFault) ⊎ (end ≡ DoorFault)
+    → (serving_status end ≡ 3) ⊎ (serving_status end ≡ 8)
+status_told end (inl e) = inl (ap serving_status e)
+status_told end (inr e) = inr (ap serving_status e)
 
 -- ---- a call that opened a hall, or none
 
@@ -256,7 +257,7 @@ module _ (old new : Store) (before after : Sheet) (door door' : ℕ) where
   unopened_told unopened.Memory p = inl p.write_calm
 
   served_told : (end : ServeEnd) → (after.faults ≡ before.faults) ⊎ ((end ≡ WriteFault) ⊎ (end ≡ DoorFault))
-      → (after.faults ≡ before.faults) ⊎ ((status_of end ≡ 3) ⊎ (status_of end ≡ 8))
+      → (after.faults ≡ before.faults) ⊎ ((serving_status end ≡ 3) ⊎ (serving_status end ≡ 8))
   served_told end (inl e) = inl e
   served_told end (inr f) = inr (status_told end f)
 

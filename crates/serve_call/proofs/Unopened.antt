@@ -19,7 +19,7 @@ use Rattle.serve_call.specs.Opening.{CallsUnopened, StaysUnopened}
 use Rattle.lobby_state.specs.Lobby.{LobbyState}
 use Rattle.serve_core.specs.Outside.{Sheet}
 use Rattle.edge_traits.specs.Calls.{Calls, Store}
-use Rattle.serve_turn.specs.Stopping.{status_of}
+use Rattle.serve_turn.specs.Stopping.{serving_status}
 use Rattle.serve_turn.specs.declared.end.ServeEnd.{ServeEnd}
 use Rattle.serve_turn.specs.declared.end.ServeEnd.TheVariants.{DoorFault, Memory, WriteFault}
 
@@ -48,7 +48,7 @@ no_failure answer done failed = (let bad : Done ≡ Failed = sym done ∙ failed
 -- what was promised of no hall is promised from before the load on
 pub none_opened : {H : Type 0} (hall : Option H) (end : ServeEnd) (status : ℕ) (old loaded new : Store)
     (before mid later : Sheet)
-    → status ≡ status_of end → Appends before.written mid.written [] → mid.faults ≡ before.faults
+    → status ≡ serving_status end → Appends before.written mid.written [] → mid.faults ≡ before.faults
     → Stays old.table loaded.table
     → LoadsOnce old.calls loaded.calls (λ answer. answer ≡ Done)
     → IfNone hall ((end ≡ Memory) × Keeps mid.written later.written) → IfNone hall (new ≡ loaded)
@@ -56,7 +56,7 @@ pub none_opened : {H : Type 0} (hall : Option H) (end : ServeEnd) (status : ℕ)
     → IfNone hall ((fault : StoreFault) × (status ≡ unopened_status fault) × StaysUnopened fault old new before later)
 none_opened None end status old loaded new before mid later ends none same stays called p kept told = (
   unopened.Memory,
-  ends ∙ ap status_of p.0,
+  ends ∙ ap serving_status p.0,
   record {
     wrote = inl (nothing_written before.written mid.written later.written none p.1);
     keeper_fault = λ e. cc;

@@ -16,10 +16,10 @@ use Rattle.lobby_load.specs.Telling.{TellsBadRecord}
 use Rattle.lobby_load.specs.declared.refusals.StoreFault.{StoreFault}
 use Rattle.lobby_load.specs.declared.refusals.StoreFault.TheVariants.{KeeperFault, Memory, WriteFault}
 use Rattle.lobby_state.specs.Lobby.{LobbyState}
-use Rattle.one_server.specs.Whole.{opened}
+use Rattle.one_server.specs.Whole.{opened_server}
 use Rattle.serve_core.specs.Outside.{Sheet}
 use Rattle.serve_core.specs.Serving.{HasServedAll}
-use Rattle.serve_turn.specs.Stopping.{status_of}
+use Rattle.serve_turn.specs.Stopping.{serving_status}
 use Rattle.serve_turn.specs.declared.end.ServeEnd.{ServeEnd}
 
 -- the lobby was loaded from a keeper that stood so before the load and after it: nobody is there and no save order
@@ -54,8 +54,9 @@ pub record StaysUnopened (fault : StoreFault) (old new : Store) (before after : 
 -- a server opened with a lobby that was loaded, and served from there; the status tells how that ended
 abbrev pub HasServedFrom : (ℕ → Bool) → ℕ → Option DoorTale → Sheet → Sheet → Store → Store → PassState → Type 0
 HasServedFrom shows status door before after old new pass =
-    (lobby : LobbyState) × (loaded : Store) × IsLoaded old loaded lobby × (end : ServeEnd) × (status ≡ status_of end)
-    × HasServedAll shows (opened lobby) end door before after loaded new pass
+    (lobby : LobbyState) × (loaded : Store) × IsLoaded old loaded lobby × (end : ServeEnd)
+    × (status ≡ serving_status end)
+    × HasServedAll shows (opened_server lobby) end door before after loaded new pass
 
 -- no hall was opened, for the reason that the status tells
 abbrev pub IsUnopened : ℕ → Store → Store → Sheet → Sheet → Type 0

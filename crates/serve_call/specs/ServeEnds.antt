@@ -8,7 +8,7 @@ use Rattle.serve_turn.specs.declared.end.ServeEnd.TheVariants.{DoorFault, WriteF
 use Rattle.serve_call.specs.Opening.{IsUnopened}
 use Rattle.serve_core.specs.Outside.{Sheet}
 use Rattle.edge_traits.specs.Calls.{Store}
-use Rattle.serve_turn.specs.Stopping.{IsClean, status_of}
+use Rattle.serve_turn.specs.Stopping.{IsClean, serving_status}
 use Rattle.serve_core.specs.Text.{whole_text}
 
 -- how many faults the door, the sink and the keeper have counted
@@ -37,4 +37,4 @@ pub record EndsServing (end : ServeEnd) (old new : Counts) (written written' : O
 abbrev pub EndsCall : ℕ → Store → Store → Sheet → Sheet → Counts → Counts → Type 0
 EndsCall status old new before after counts counts' =
     IsUnopened status old new before after
-    ⊎ ((end : ServeEnd) × (status ≡ status_of end) × EndsServing end counts counts' before.written after.written)
+    ⊎ ((end : ServeEnd) × (status ≡ serving_status end) × EndsServing end counts counts' before.written after.written)

@@ -20,7 +20,7 @@ use Rattle.lobby_state.specs.declared.game.ListedGame.{ListedGame}
 use Rattle.lobby_state.specs.Acts.{lobby_answer, lobby_after}
 use Rattle.lobby_state.specs.Desks.{IsDesk}
 use Rattle.lobby_state.specs.InUse.{IsInUse, desks_in_use}
-use Rattle.lobby_state.specs.Lobby.{LobbyState, game_in}
+use Rattle.lobby_state.specs.Lobby.{LobbyState, listed_game_in}
 use Rattle.lobby_state.specs.Plans.{plan_of}
 use Rattle.lobby_state.proofs.RowsInUse.{are_desks_in_use}
 use Rattle.one_server.specs.declared.act.Act.{Act}
@@ -108,7 +108,7 @@ module _ (xs : List Part) (w : IsWhole xs) where
       let used : IsInUse w.lobby (row number serial) = record {
         is_desk = (place.0, omega (arith, inside, w.count));
         game = listed.0;
-        there = ap game_in place.1.listed ∙ listed.1;
+        there = ap listed_game_in place.1.listed ∙ listed.1;
         serial = listed.2;
       } in
       in_list (row number serial) (desks_in_use w.lobby)

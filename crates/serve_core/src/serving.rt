@@ -8,7 +8,7 @@ ghost use Rattle.edge_traits.specs.WhereTold.{WhereTold};
 ghost use Rattle.edge_traits.specs.Faults.{Rose};
 ghost use Rattle.edge_traits.specs.Sink.{OnWriteFailed, UnlessWriteFailed, Wrote};
 ghost use Rattle.one_server.specs.declared.part.Part.{Part};
-ghost use Rattle.one_server.specs.Whole.{IsOpening, IsWhole, opened};
+ghost use Rattle.one_server.specs.Whole.{IsOpening, IsWhole, opened_server};
 ghost use Rattle.hall_core.specs.Passes.{first_pass, pass_noted};
 ghost use Rattle.serve_core.specs.Outside.{sheet_of};
 ghost use Rattle.serve_core.specs.Serving.{HasServedAll, IsUnused};
@@ -57,7 +57,8 @@ where
     requires opening { IsOpening lobby }
     requires door { IfSome (D.tale door.old) IsUnused }
     ensures hall { IfSome result.1 (λ h. h.1.home ≡ h.0) }
-    ensures served { IfSome result.1 (λ h. HasServedAll (C.shows clock.now) (opened lobby) result.0 (D.tale door.new)
+    ensures served { IfSome result.1 (λ h. HasServedAll (C.shows clock.now) (opened_server lobby) result.0
+        (D.tale door.new)
         (sheet_of K.written K.faults sink.old) (sheet_of K.written K.faults sink.new)
         (store_of P.table P.faults P.calls keeper.old)
         (store_of P.table P.faults P.calls keeper.new) h.1) }

@@ -52,13 +52,13 @@ is_short Enough sent.Memory = true
 is_short Enough written = false
 
 -- the number with which the program ends
-abbrev pub status_of : ServeEnd → ℕ
-status_of Done = 0
-status_of WriteFault = 3
-status_of KeeperFault = 4
-status_of Memory = 6
-status_of DoorFault = 8
-status_of Spent = 9
+abbrev pub serving_status : ServeEnd → ℕ
+serving_status Done = 0
+serving_status WriteFault = 3
+serving_status KeeperFault = 4
+serving_status Memory = 6
+serving_status DoorFault = 8
+serving_status Spent = 9
 
 -- nothing failed and memory was enough
 abbrev pub IsClean : ServeEnd → Type 0

@@ -37,11 +37,11 @@ pub enum ServeEnd {
 
 impl ServeEnd {
     ghost use Rattle.std.specs.Prelude.{◌≡◌};
-    ghost use Rattle.serve_turn.specs.Stopping.{status_of};
+    ghost use Rattle.serve_turn.specs.Stopping.{serving_status};
 
     /// The number with which the program ends.
     pub fn status(self) -> u8
-        ensures { result ≡ status_of self }
+        ensures { result ≡ serving_status self }
     {
         match self {
             ServeEnd::Done => 0,

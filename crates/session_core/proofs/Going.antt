@@ -5,7 +5,7 @@ use Rattle.memory.specs.declared.NoMemory.{NoMemory}
 use Rattle.histories.specs.History.{entry}
 use Rattle.one_server.specs.declared.act.Act.{Act}
 use Rattle.one_server.specs.declared.reply.Reply.{Reply}
-use Rattle.one_server.specs.Running.{IsKnown, Log, Made, Ran, RunnerState}
+use Rattle.one_server.specs.Running.{IsKnown, Log, Made, ServerRan, RunnerState}
 use Rattle.session_core.specs.Course.{Course, Done, Asks, Writes, Follows, Begins, act_at}
 use Rattle.session_core.specs.Going.{Answered, BrokeOff, Leads, Left, Went, WentOn}
 use Rattle.session_core.specs.Memory.{MemoryState}
@@ -102,7 +102,7 @@ module _ (moment : ℕ) where
   -- an act was made
   pub went_ask : (act : Act) (rest : Reply → Course) (reply : Reply) (old : RunnerState) (out : List ℕ)
       (new : RunnerState)
-      → Ran old (act_at moment act) reply new
+      → ServerRan old (act_at moment act) reply new
       → Went (Asks act rest) (rest reply) moment old out new out
   went_ask act rest reply old out new ran = record {
     entries = entry old.number (act_at moment act) reply ∷ [];
@@ -142,7 +142,7 @@ module _ (moment : ℕ) where
   -- an act was made, and what follows its reply was written
   pub went_on : (act : Act) (rest : Reply → Course) (reply : Reply) (coming : Course) (old : RunnerState) (out : List ℕ)
       (new : RunnerState) (out' : List ℕ)
-      → Ran old (act_at moment act) reply new
+      → ServerRan old (act_at moment act) reply new
       → Settles (rest reply) coming out out' → Went (Asks act rest) coming moment old out new out'
   went_on act rest reply coming old out new out' ran s =
       went_then (Asks act rest) (rest reply) coming old new new out out out' (went_ask act rest reply old out new ran)
@@ -151,7 +151,7 @@ module _ (moment : ℕ) where
   -- an act was made, and what follows its reply was written or ran out of memory
   pub went_asked : {T : Type 0} (act : Act) (rest : Reply → Course) (reply : Reply) (result : Result T NoMemory)
       (coming : T → Course) (old : RunnerState) (out : List ℕ) (new : RunnerState) (out' : List ℕ)
-      → Ran old (act_at moment act) reply new → IfOk result (λ next. Settles (rest reply) (coming next) out out')
+      → ServerRan old (act_at moment act) reply new → IfOk result (λ next. Settles (rest reply) (coming next) out out')
       → IfOk result (λ next. Went (Asks act rest) (coming next) moment old out new out')
   went_asked act rest reply (Ok next) coming old out new out' ran s =
       went_on act rest reply (coming next) old out new out' ran s
@@ -191,7 +191,7 @@ module _ (moment : ℕ) where
   pub on_asked : {T : Type 0} (act : Act) (rest : Reply → Course) (reply : Reply) (result : Result T NoMemory)
       (coming : T → Course) (old : RunnerState) (before : MemoryState) (out : List ℕ) (new : RunnerState)
       (after : MemoryState) (out' : List ℕ)
-      → Ran old (act_at moment act) reply new → IfOk result (λ next. Settles (rest reply) (coming next) out out')
+      → ServerRan old (act_at moment act) reply new → IfOk result (λ next. Settles (rest reply) (coming next) out out')
       → Remembers before (entry old.number (act_at moment act) reply ∷ []) after
       → IfOk result (λ next. WentOn (Asks act rest) (coming next) moment old before out new after out')
   unfolding went_on went_then went_ask went_settled
@@ -202,7 +202,8 @@ module _ (moment : ℕ) where
   -- an act was made, and its reply says what follows
   pub on_made : (act : Act) (rest : Reply → Course) (reply : Reply) (old : RunnerState) (before : MemoryState)
       (out : List ℕ) (new : RunnerState) (after : MemoryState)
-      → Ran old (act_at moment act) reply new → Remembers before (entry old.number (act_at moment act) reply ∷ []) after
+      → ServerRan old (act_at moment act) reply new
+      → Remembers before (entry old.number (act_at moment act) reply ∷ []) after
       → WentOn (Asks act rest) (rest reply) moment old before out new after out
   unfolding went_ask
   on_made act rest reply old before out new after ran remembers =
@@ -296,7 +297,7 @@ module _ (moment : ℕ) where
   -- running out of memory of what is written behind an act
   pub broke_asked : {T : Type 0} (act : Act) (rest : Reply → Course) (reply : Reply) (result : Result T NoMemory)
       (old : RunnerState) (before : MemoryState) (new : RunnerState) (after : MemoryState)
-      → Ran old (act_at moment act) reply new
+      → ServerRan old (act_at moment act) reply new
       → Remembers before (entry old.number (act_at moment act) reply ∷ []) after
       → OnErr result (BrokeOff (Asks act rest) moment old before new after)
   unfolding went_ask

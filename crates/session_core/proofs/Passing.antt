@@ -9,7 +9,7 @@ use Rattle.one_server.specs.declared.act.Act.{Act}
 use Rattle.one_server.specs.declared.act.Act.TheVariants.{Lobby, Desk, Pair}
 use Rattle.one_server.specs.Acts.{NeedsNoMemory}
 use Rattle.one_server.specs.declared.reply.Reply.{Reply}
-use Rattle.one_server.specs.Running.{IsKnown, Log, Made, Ran, RunnerState}
+use Rattle.one_server.specs.Running.{IsKnown, Log, Made, ServerRan, RunnerState}
 use Rattle.session_core.specs.Course.{Course, Done, Asks, MayPass, Passes, TakesMemory, nothing_told, act_at}
 use Rattle.session_core.specs.Going.{LeftInPart, Passed}
 use Rattle.session_core.specs.Memory.{MemoryState}
@@ -42,7 +42,7 @@ module _ (moment : ℕ) where
 
   -- an act was made
   pub passed_made : (act : Act) (rest : Reply → Course) (reply : Reply) (old new : RunnerState)
-      → Ran old (act_at moment act) reply new → Passed (Asks act rest) (rest reply) moment old new
+      → ServerRan old (act_at moment act) reply new → Passed (Asks act rest) (rest reply) moment old new
   passed_made act rest reply old new ran =
       record {
         entries = entry old.number (act_at moment act) reply ∷ [];

@@ -4,7 +4,7 @@ use Rattle.std.specs.Result.{IfOk, OnErr, OnOk}
 use Rattle.linked_desk.specs.declared.acts.DeskAct.TheVariants as desk_act
 use Rattle.memory.specs.declared.NoMemory.{NoMemory}
 use Rattle.one_server.specs.declared.reply.Reply.{Reply}
-use Rattle.one_server.specs.Running.{Ran, RunnerState}
+use Rattle.one_server.specs.Running.{ServerRan, RunnerState}
 use Rattle.session_asks.specs.declared.visit.Visit.{Visit}
 use Rattle.session_core.specs.Course.{Course, Writes, act_at}
 use Rattle.session_core.specs.Going.{BrokeOff, WentOn}
@@ -69,7 +69,8 @@ module _ (visit : Visit) (before : MemoryState) (rest : List Visit) where
 
   pub on_news : (moment : ℕ) (result : Result Bool NoMemory) (reply : Reply) (old : RunnerState) (out : List ℕ)
       (new : RunnerState) (after : MemoryState) (out' : List ℕ)
-      → Ran old (act_at moment (at_game visit desk_act.Fetch)) reply new → IfOk result (λ over. over ≡ says_over reply)
+      → ServerRan old (act_at moment (at_game visit desk_act.Fetch)) reply new
+      → IfOk result (λ over. over ≡ says_over reply)
       → IfOk result (λ over. out' ≡ out ++ news_text (reader_in before visit.seat) reply)
       → after ≡ kept_behind visit result before reply → has_entered before ≡ true
       → IfOk result
@@ -86,7 +87,8 @@ module _ (visit : Visit) (before : MemoryState) (rest : List Visit) where
 
   pub broke_news : (moment : ℕ) (result : Result Bool NoMemory) (reply : Reply) (old : RunnerState) (new : RunnerState)
       (after : MemoryState)
-      → Ran old (act_at moment (at_game visit desk_act.Fetch)) reply new → after ≡ kept_behind visit result before reply
+      → ServerRan old (act_at moment (at_game visit desk_act.Fetch)) reply new
+      → after ≡ kept_behind visit result before reply
       → has_entered before ≡ true
       → OnErr result (BrokeOff (visits (visit ∷ rest) before) moment old before new after)
   broke_news moment result reply old new after ran after_is inside =

@@ -29,7 +29,7 @@ use Rattle.one_server.specs.declared.part.Part.TheVariants.{Lobby as TheLobby}
 use Rattle.one_server.specs.declared.reply.Reply.{Reply}
 use Rattle.one_server.specs.House.{house}
 use Rattle.one_server.specs.LawfulProof.{house_lawful}
-use Rattle.one_server.specs.Running.{IsKnown, Log, Made, Ran, RunnerState}
+use Rattle.one_server.specs.Running.{IsKnown, Log, Made, ServerRan, RunnerState}
 use Rattle.one_server.specs.Whole.{IsWhole}
 use Rattle.steward_core.specs.Agreement.{AgreesSeen, IsNoOthers, NoOthersSave, SaysSaved, StaysAgreed, state_seen}
 use Rattle.lobby_state.specs.declared.desk_in_use.DeskInUse.{DeskInUse}
@@ -293,7 +293,7 @@ module _ (moment : ℕ) (orders carried doubt left : List Order) (before after_a
       (more.1 ∙ sym (append_assoc carried doubt more.0)) holds (agreed lobby there)
 
   agreed_said : (upto : ℕ) (answer : Reply) → last_number carried ≡ Some upto
-      → Ran old (says_saved moment upto) answer new → NoOthersSave old new → AgreesSeen after_all new
+      → ServerRan old (says_saved moment upto) answer new → NoOthersSave old new → AgreesSeen after_all new
   agreed_said upto answer last ran none lobby there =
       let a = says_saved moment upto in
       let e : Entry Timed Reply = entry old.number a answer in

@@ -6,7 +6,7 @@ use Rattle.histories.specs.History.{entry}
 use Rattle.lobby_state.specs.declared.desk_in_use.DeskInUse.{DeskInUse}
 use Rattle.one_server.specs.declared.act.Timed.{Timed}
 use Rattle.one_server.specs.declared.reply.Reply.{Reply}
-use Rattle.one_server.specs.Running.{IsKnown, Log, Made, Ran, RunnerState}
+use Rattle.one_server.specs.Running.{IsKnown, Log, Made, ServerRan, RunnerState}
 use Rattle.steward_core.specs.declared.clearing.ClearingEnd.{ClearingEnd}
 use Rattle.steward_core.specs.declared.clearing.ClearingEnd.TheVariants.{Done, Memory}
 use Rattle.steward_core.specs.Clearing.{AreClears, AsksAndClears, Cleared, ClearsOne, IsPartOf, TakesClearing, timed_acts_of, asks_in_use, clears, end_of_both, rows_told}
@@ -106,7 +106,7 @@ module _ (moment : ℕ) where
 
   -- the whole clearing
   pub whole_clearing : (end : ClearingEnd) (reply : Reply) (old mid new : RunnerState)
-      → Ran old (asks_in_use moment) reply mid → Cleared moment end (rows_told reply) mid new
+      → ServerRan old (asks_in_use moment) reply mid → Cleared moment end (rows_told reply) mid new
       → TakesClearing moment end old new
   whole_clearing Done reply old mid new ran p = record {
     entries = entry old.number (asks_in_use moment) reply ∷ p.entries;

@@ -12,7 +12,7 @@ use Rattle.lobby_store.specs.Carrying.{CallsFor, Carries, CarriesPerhaps, in_dou
 use Rattle.lobby_store.proofs.OrdersOut.{called_then, carries_none, carries_perhaps_then}
 use Rattle.one_server.specs.declared.act.Timed.{Timed}
 use Rattle.one_server.specs.declared.reply.Reply.{Reply}
-use Rattle.one_server.specs.Running.{IsKnown, Log, Made, Ran, RunnerState}
+use Rattle.one_server.specs.Running.{IsKnown, Log, Made, ServerRan, RunnerState}
 use Rattle.steward_core.specs.Clearing.{timed_acts_of}
 use Rattle.steward_core.specs.Saving.{AreFullRounds, EndsRound, EndsSaving, HasCalled, IsCutShort, IsSaveRound, LeavesInDoubt, RoundAt, RoundDoubts, RunsRound, SavesTold, TakesSaving, TellsUpTo, asks_orders, last_number, orders_in, round_of, says_saved, tells_upto}
 use Rattle.steward_core.specs.declared.saving.SaveRound.{SaveRound}
@@ -172,7 +172,8 @@ said_made moment (Some upto) told.Memory old new known t = ([], t, (λ bad. cc, 
 
 module _ (moment : ℕ) (orders : List Order) (before after : Store) (answer : Reply) (old mid new : RunnerState)
     (known : IsKnown mid)
-    (ran : Ran old (asks_orders moment) answer mid) (tells : orders_in answer ≡ orders) (few : length orders ≤ 16) where
+    (ran : ServerRan old (asks_orders moment) answer mid) (tells : orders_in answer ≡ orders)
+    (few : length orders ≤ 16) where
   asked : Entry Timed Reply
   asked = entry old.number (asks_orders moment) answer
 

@@ -18,7 +18,7 @@ use Rattle.one_server.specs.declared.part.Part.TheVariants.{Lobby as TheLobby, D
 use Rattle.one_server.specs.declared.reply.Reply.{Reply}
 use Rattle.one_server.specs.Acts.{lobby_reply}
 use Rattle.one_server.specs.House.{house, no_parts}
-use Rattle.one_server.specs.Running.{Log, Made, Ran, RunnerState}
+use Rattle.one_server.specs.Running.{Log, Made, ServerRan, RunnerState}
 use Rattle.steward_core.specs.Agreement.{state_seen}
 use Rattle.steward_core.specs.Saving.{ToldAsSaved, TellsUpTo, asks_orders, last_number, orders_in, says_saved}
 use Rattle.steward_core.specs.declared.saving.SavedTold.{SavedTold}
@@ -75,7 +75,7 @@ told_in xs k moment answer (Some (TheLobby lobby)) there told =
     })
 
 -- the session was told orders
-pub told_first : (moment : ℕ) (answer : Reply) (old new : RunnerState) → Ran old (asks_orders moment) answer new
+pub told_first : (moment : ℕ) (answer : Reply) (old new : RunnerState) → ServerRan old (asks_orders moment) answer new
     → StandFirst (orders_in answer) (state_seen new)
 told_first moment answer old new ran =
     let e : Entry Timed Reply = entry old.number (asks_orders moment) answer in
@@ -103,7 +103,7 @@ says_last orders last there = last_is orders (length orders - 1) last refl there
 pub tells_done : (moment : ℕ) (orders : List Order) (upto : ℕ) (end : SavedTold) (answer : Reply)
     (old new : RunnerState)
     → last_number orders ≡ Some upto → end ≡ told.Done
-    → Ran old (says_saved moment upto) answer new → ToldAsSaved moment orders end old new
+    → ServerRan old (says_saved moment upto) answer new → ToldAsSaved moment orders end old new
 tells_done moment orders upto end answer old new last is ran =
     subst (λ (e : SavedTold). ToldAsSaved moment orders e old new) (sym is)
     (subst (λ (n : Option ℕ). TellsUpTo moment n told.Done old new) (sym last) (answer, ran))

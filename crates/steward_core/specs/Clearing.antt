@@ -9,7 +9,7 @@ use Rattle.one_server.specs.declared.act.Act.TheVariants.{Lobby, Pair}
 use Rattle.one_server.specs.declared.act.Timed.{Timed}
 use Rattle.one_server.specs.declared.reply.Reply.{Reply}
 use Rattle.one_server.specs.declared.reply.Reply.TheVariants as reply
-use Rattle.one_server.specs.Running.{Log, Made, Ran, RunnerState}
+use Rattle.one_server.specs.Running.{Log, Made, ServerRan, RunnerState}
 use Rattle.steward_core.specs.declared.clearing.ClearingEnd.{ClearingEnd}
 use Rattle.steward_core.specs.declared.clearing.ClearingEnd.TheVariants.{Done, Memory}
 
@@ -68,7 +68,7 @@ pub record Cleared (moment : ℕ) (end : ClearingEnd) (rows : List DeskInUse) (o
 
 -- a session made a Clear of a desk, or passed over it
 abbrev pub ClearsOne : ℕ → ClearingEnd → DeskInUse → RunnerState → RunnerState → Type 0
-ClearsOne moment Done row old new = (answer : Reply) × Ran old (clears moment row) answer new
+ClearsOne moment Done row old new = (answer : Reply) × ServerRan old (clears moment row) answer new
 ClearsOne moment Memory row old new = Made old [] new
 
 -- how clearing ended whose halves ended like this

@@ -13,7 +13,7 @@ use Rattle.one_server.specs.declared.act.Act.TheVariants.{Lobby}
 use Rattle.one_server.specs.declared.act.Timed.{Timed}
 use Rattle.one_server.specs.declared.reply.Reply.{Reply}
 use Rattle.one_server.specs.declared.reply.Reply.TheVariants as reply
-use Rattle.one_server.specs.Running.{Log, Made, Ran, RunnerState}
+use Rattle.one_server.specs.Running.{Log, Made, ServerRan, RunnerState}
 use Rattle.steward_core.specs.Clearing.{timed_acts_of}
 use Rattle.steward_core.specs.declared.saving.SaveRound.{SaveRound}
 use Rattle.steward_core.specs.declared.saving.SaveRound.TheVariants as round
@@ -143,7 +143,7 @@ pub record TakesSaving (moment : ℕ) (end : StewardEnd) (before after : Store) 
 -- orders were told as saved, up to a number, where there is one
 abbrev pub TellsUpTo : ℕ → Option ℕ → SavedTold → RunnerState → RunnerState → Type 0
 TellsUpTo moment None end old new = (end ≡ told.Done) × (new ≡ old)
-TellsUpTo moment (Some upto) told.Done old new = (answer : Reply) × Ran old (says_saved moment upto) answer new
+TellsUpTo moment (Some upto) told.Done old new = (answer : Reply) × ServerRan old (says_saved moment upto) answer new
 TellsUpTo moment (Some upto) told.Memory old new = Made old [] new
 
 -- these orders were told as saved

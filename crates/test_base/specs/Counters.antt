@@ -22,18 +22,18 @@ second_of Right = None
 second_of Both = Some 1
 
 -- one more, in 64 bits
-abbrev pub more : ℕ → ℕ
-more n = (n + 1) % 2 ^ 64
+abbrev pub bumped : ℕ → ℕ
+bumped n = (n + 1) % 2 ^ 64
 
-abbrev pub counters : Core ℕ Bump ℕ
-counters = record {
+abbrev pub test_counters : Core ℕ Bump ℕ
+test_counters = record {
   first = first_of;
   second = λ p k a. second_of a;
   fits = λ a. Unit {0};
   whole = λ xs. length xs ≡ 2;
-  answer = λ p q k a. more p;
-  one = λ p q k a. more p;
-  two = λ p q k a. more q;
+  answer = λ p q k a. bumped p;
+  one = λ p q k a. bumped p;
+  two = λ p q k a. bumped q;
 }
 
 pub first_in : (xs : List ℕ) (a : Bump) → length xs ≡ 2 → first_of a < length xs
@@ -47,16 +47,16 @@ second_in xs Left s w e = absurd cc
 second_in xs Right s w e = absurd cc
 second_in xs Both s w e = let h : 1 ≡ s = cc in (omega arith, λ z. omega arith)
 
-pub counters_lawful : Lawful counters
+pub counters_lawful : Lawful test_counters
 counters_lawful = record {
   first_in = λ xs a w f. first_in xs a w;
   second_in = λ xs k a p s w f g e. second_in xs a s w e;
-  stays = λ xs k a w f. keeps_length counters xs k a ∙ w;
+  stays = λ xs k a w f. keeps_length test_counters xs k a ∙ w;
 }
 
 -- a history of two sessions
 abbrev pub example : List (Entry Bump ℕ)
 example = entry 1 Left 1 ∷ entry 2 Both 2 ∷ entry 1 Right 2 ∷ entry 2 Left 3 ∷ []
 
-abbrev pub opening : List ℕ
-opening = 0 ∷ 0 ∷ []
+abbrev pub opening_counters : List ℕ
+opening_counters = 0 ∷ 0 ∷ []

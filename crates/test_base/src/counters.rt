@@ -3,7 +3,7 @@
 ghost use Rattle.std.specs.Prelude.{◌≡◌, ℕ, List, [], ◌∷◌, ◌++◌, length, IfOk, OnErr};
 ghost use Rattle.histories.specs.Core.{reply, after};
 ghost use Rattle.histories.specs.History.{entry, state, Legal};
-ghost use Rattle.test_base.specs.Counters.{counters, example, opening};
+ghost use Rattle.test_base.specs.Counters.{test_counters, example, opening_counters};
 
 use crate::bump::Bump;
 use histories::{Entry, Served, acts_commute};
@@ -15,7 +15,7 @@ use std::marker::Model;
 pub struct Counters;
 
 impl Served for Counters {
-    ghost use Rattle.test_base.specs.Counters.{counters, counters_lawful};
+    ghost use Rattle.test_base.specs.Counters.{test_counters, counters_lawful};
 
     type Part = u64;
 
@@ -23,20 +23,20 @@ impl Served for Counters {
 
     type Reply = u64;
 
-    ghost core = { counters };
+    ghost core = { test_counters };
 
     ghost lawful = { counters_lawful };
 }
 
 /// The example is legal, and leaves 3 and 2.
 pub fn example_is_legal()
-    ensures legal { Legal counters opening example }
-    ensures leaves { state counters opening example ≡ 3 ∷ 2 ∷ [] }
+    ensures legal { Legal test_counters opening_counters example }
+    ensures leaves { state test_counters opening_counters example ≡ 3 ∷ 2 ∷ [] }
 {}
 
 /// The left and the right counter may be added to in either order.
 pub fn left_and_right_commute()
-    ensures { (xs : List ℕ) (k m : ℕ) → length xs ≡ 2 → after counters (after counters xs k Bump.Left) m Bump.Right ≡ after counters (after counters xs m Bump.Right) k Bump.Left }
+    ensures { (xs : List ℕ) (k m : ℕ) → length xs ≡ 2 → after test_counters (after test_counters xs k Bump.Left) m Bump.Right ≡ after test_counters (after test_counters xs m Bump.Right) k Bump.Left }
 {
     acts_commute::<Counters>();
 }
@@ -54,20 +54,20 @@ impl Model for Pair {
     ghost use Rattle.histories.specs.declared.entry.Entry.{Entry};
     ghost use Rattle.histories.specs.History.{state, Legal};
     ghost use Rattle.test_base.specs.declared.bump.Bump.{Bump};
-    ghost use Rattle.test_base.specs.Counters.{counters, opening};
+    ghost use Rattle.test_base.specs.Counters.{test_counters, opening_counters};
 
     ghost Value = { List (Entry Bump ℕ) };
 
     ghost view = { λ p. p.log.items };
 
-    ghost invariant = { λ p. Legal counters opening p.log.items × (state counters opening p.log.items ≡ p.left ∷ p.right ∷ []) };
+    ghost invariant = { λ p. Legal test_counters opening_counters p.log.items × (state test_counters opening_counters p.log.items ≡ p.left ∷ p.right ∷ []) };
 }
 
 // The step, on the two counters that it is lent: what the act answers any session, and what it leaves.
 #[tactic(auto, unfolding(histories::specs::Core::after))]
 fn step(left: &mut u64, right: &mut u64, act: Bump) -> u64
-    ensures answers { (k : ℕ) → reply counters (left.old ∷ right.old ∷ []) k act ≡ Some result }
-    ensures leaves { (k : ℕ) → after counters (left.old ∷ right.old ∷ []) k act ≡ left.new ∷ right.new ∷ [] }
+    ensures answers { (k : ℕ) → reply test_counters (left.old ∷ right.old ∷ []) k act ≡ Some result }
+    ensures leaves { (k : ℕ) → after test_counters (left.old ∷ right.old ∷ []) k act ≡ left.new ∷ right.new ∷ [] }
 {
     match act {
         Bump::Left => {
@@ -102,7 +102,7 @@ impl Pair {
     pub fn run(&mut self, session: u32, act: Bump) -> Result<u64, NoMemory>
         ensures ok { IfOk result (λ r. self.new ≡ self.old ++ entry session act r ∷ []) }
         ensures unchanged { OnErr result (self.new ≡ self.old) }
-        ensures legal { Legal counters opening self.new }
+        ensures legal { Legal test_counters opening_counters self.new }
     {
         self.log.reserve(1)?;
         let reply = step(&mut self.left, &mut self.right, act);
@@ -116,7 +116,7 @@ impl Pair {
 
     /// Both counters: the state of the history.
     pub fn both(&self) -> (u64, u64)
-        ensures { state counters opening self.now ≡ result.0 ∷ result.1 ∷ [] }
+        ensures { state test_counters opening_counters self.now ≡ result.0 ∷ result.1 ∷ [] }
     {
         (self.left, self.right)
     }

@@ -3,7 +3,7 @@
 ghost use Rattle.std.specs.Prelude.{IfOk, ◌≡◌};
 ghost use Rattle.hall_core.specs.Passes.{first_pass};
 ghost use Rattle.lobby_state.specs.Lobby.{opening};
-ghost use Rattle.one_server.specs.Whole.{opened};
+ghost use Rattle.one_server.specs.Whole.{opened_server};
 
 use hall_core::{Hall, HallPass, HallSeat};
 use lobby_state::Lobby;
@@ -15,7 +15,7 @@ use turn_chain::OpenGate;
 /// A hall with an empty lobby, and its first pass.
 #[tactic(auto, using(one_server::proofs::Opens::opening_is))]
 pub fn hall(alloc: Global) -> Result<(Hall, HallPass), NoMemory>
-    ensures { IfOk result (λ t. t.1 ≡ first_pass t.0 (opened opening)) }
+    ensures { IfOk result (λ t. t.1 ≡ first_pass t.0 (opened_server opening)) }
 {
     Hall::open(alloc, Lobby::new(alloc)?)
 }

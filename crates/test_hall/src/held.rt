@@ -3,7 +3,7 @@
 ghost use Rattle.std.specs.Prelude.{◌≡◌};
 ghost use Rattle.hall_core.specs.Passes.{first_pass};
 ghost use Rattle.lobby_state.specs.Lobby.{opening};
-ghost use Rattle.one_server.specs.Whole.{opened};
+ghost use Rattle.one_server.specs.Whole.{opened_server};
 
 use crate::others::{Others, everyone_joined};
 use crate::passes::{Guest, Here};
@@ -212,7 +212,7 @@ pub fn given_back<J: Here, R: Wait>(
     schedule: &Schedule,
 ) -> Option<(Course, HallParts)>
     requires here { hall ≡ J.hall }
-    requires fresh { first ≡ first_pass hall (opened opening) }
+    requires fresh { first ≡ first_pass hall (opened_server opening) }
 {
     let mut first = first;
     let ann = Guest::<J>::split_from(&hall, &mut first);

@@ -12,7 +12,7 @@ use Rattle.one_server.specs.declared.part.Part.{Part}
 use Rattle.one_server.specs.declared.reply.Reply.{Reply}
 use Rattle.one_server.specs.House.{house}
 use Rattle.one_server.specs.Replies.{IsReply}
-use Rattle.one_server.specs.Running.{Log, Made, Ran, RunnerState, Runs}
+use Rattle.one_server.specs.Running.{Log, Made, ServerRan, RunnerState, Runs}
 use Rattle.one_server.specs.Server.{ServerState, seat_state}
 use Rattle.session_core.specs.declared.input.Wrote.{Wrote}
 use Rattle.session_core.specs.Course.{Course}
@@ -85,7 +85,7 @@ made_beside old new b = record {
 -- and an act of its own
 ran_beside : (old mid new : ServerState) (act : Timed) (reply : Reply) → Beside old mid
     → new ≡ record mid { log = mid.log ++ entry 1 act reply ∷ [] }
-    → Legal house new.opening new.log → IsReply reply → Ran (opposed old) act reply (opposed new)
+    → Legal house new.opening new.log → IsReply reply → ServerRan (opposed old) act reply (opposed new)
 ran_beside old mid new act reply b is legal fits =
     let log : new.log ≡ mid.log ++ entry 1 act reply ∷ [] = ap (λ (s : ServerState). s.log) is in
     let others : mid.log ≡ old.log ++ b.begins.0 = sym b.begins.1 in

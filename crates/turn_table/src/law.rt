@@ -69,7 +69,7 @@ impl<S: Served, M: Meant<S::Act>> Play<Option<S::Part>, View<S::Part, S::Act, S:
     for Beginning<S, M> {
     ghost use Rattle.turn_table.specs.Plays.{BeginsTurn};
 
-    ghost then = { Begins S.core M.meant };
+    ghost then = { BeginsTurn S.core M.meant };
 }
 
 /// A turn is tried.
@@ -80,7 +80,7 @@ pub struct Taking<S> {
 impl<S: Served> Play<Option<S::Part>, View<S::Part, S::Act, S::Reply>> for Taking<S> {
     ghost use Rattle.turn_table.specs.Plays.{TurnTakes};
 
-    ghost then = { Takes S.core };
+    ghost then = { TurnTakes S.core };
 }
 
 /// An act is committed.
@@ -102,7 +102,7 @@ pub struct Giving<S> {
 impl<S: Served> Play<Option<S::Part>, View<S::Part, S::Act, S::Reply>> for Giving<S> {
     ghost use Rattle.turn_table.specs.Plays.{GivesTurn};
 
-    ghost then = { Gives S.core };
+    ghost then = { GivesTurn S.core };
 }
 
 /// A pass is split.

@@ -3,7 +3,7 @@ ghost use Rattle.std.specs.Prelude.{◌≡◌, filter, map, not};
 ghost use Rattle.fics_words.specs.Seats.{seat_list, seat_number};
 ghost use Rattle.lobby_state.specs.Desks.{IsDesk};
 ghost use Rattle.lobby_state.specs.Planned.{ArePlayersApart};
-ghost use Rattle.lobby_state.specs.Start.{in_seat, is_by_seated, is_settled, lobby_seated};
+ghost use Rattle.lobby_state.specs.Start.{in_seat, is_seek_of_seated, is_settled, lobby_seated};
 
 use crate::challenges::Stays;
 use crate::game::ListedGame;
@@ -107,7 +107,7 @@ fn drop_challenges(challenges: &mut MatchBook, members: &Members, seats: &Seats)
 
 /// The seeks of the players go.
 fn drop_seeks(seeks: &mut SeekBook, seats: &Seats)
-    ensures { seeks.new ≡ filter (λ seek. not (is_by_seated seats.now seek)) seeks.old }
+    ensures { seeks.new ≡ filter (λ seek. not (is_seek_of_seated seats.now seek)) seeks.old }
 {
     let unseated = ByUnseated(*seats);
     seeks.keep(&unseated);

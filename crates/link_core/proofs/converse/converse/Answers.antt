@@ -1,5 +1,5 @@
 use Rattle.std.proofs.Common.{◌^◌, ◌≤◌, ◌∙◌, ap, arith, le_trans, refl, subst, sym}
-use Rattle.line_reader.specs.Reader.{Reader}
+use Rattle.line_reader.specs.Reader.{LineReading}
 use Rattle.session_core.specs.Memory.{is_gone}
 use Rattle.session_core.specs.Texts.{opening_text}
 use Rattle.link_core.specs.Steps.{IsDrained, Progress, Stand}
@@ -48,9 +48,9 @@ loop-read-init g c =
     } in
     record {
       home = refl;
-      drained = subst (λ (r : Reader). IsDrained r) (sym c.in-Ok.ensures) (refl, refl);
+      drained = subst (λ (r : LineReading). IsDrained r) (sym c.in-Ok.ensures) (refl, refl);
       progress =
-          subst (λ (r : Reader). Progress shows start there r 0) (sym c.in-Ok.ensures)
+          subst (λ (r : LineReading). Progress shows start there r 0) (sym c.in-Ok.ensures)
           (progress_none shows start (g.L.Link.tale c.greet.new.link) c.session-session.ensures.known c.requires.new
           c.in-Ok-greet.ensures.wrote);
       here = ap is_gone c.requires.new;

@@ -1,7 +1,7 @@
 use Rattle.std.proofs.Common.{◌≡◌, ◌≤◌, ℕ, [], false, length}
 use Rattle.edge_traits.specs.Link.{IsOpen}
 use Rattle.session_core.specs.Memory.{is_gone}
-use Rattle.line_reader.specs.Reader.{lines_of}
+use Rattle.line_reader.specs.Reader.{lines_to_come}
 use Rattle.link_core.specs.Steps.{Progress, Stand}
 use Rattle.link_core.proofs.converse.take_lines.Given as goal
 
@@ -25,4 +25,4 @@ invariant-loop-line g l = record {
 }
 
 abbrev pub decreases-loop-line : goal.decreases-loop-line
-decreases-loop-line g l = length (lines_of l.reader [])
+decreases-loop-line g l = length (lines_to_come l.reader [])

@@ -1,5 +1,5 @@
 use Rattle.std.proofs.Common.{◌++◌}
-use Rattle.line_reader.specs.Reader.{Reader}
+use Rattle.line_reader.specs.Reader.{LineReading}
 use Rattle.link_core.specs.Steps.{Stand}
 use Rattle.link_core.proofs.Stepping.{stopped_reader}
 use Rattle.link_core.proofs.converse.take_piece.Goals as goal
@@ -13,7 +13,7 @@ returns-then-is_err-clause-steps g c = λ start turns p.
       memory = c.args.session.now;
       link = g.L.Link.tale c.args.link.now;
     } in
-    let fed : Reader =
+    let fed : LineReading =
     record {
       telnet = c.args.reader.now.telnet;
       line = c.args.reader.now.line;

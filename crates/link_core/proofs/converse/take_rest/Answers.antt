@@ -1,7 +1,7 @@
 use Rattle.std.proofs.Common.{◌≡◌, [], map, option_to_list, sym, subst}
 use Rattle.std.specs.declared.option.Option.{Option}
 use Rattle.line_reader.specs.declared.incoming.Incoming.{Incoming}
-use Rattle.line_reader.specs.Reader.{rest_of}
+use Rattle.line_reader.specs.Reader.{rest_to_come}
 use Rattle.session_core.specs.declared.input.Input.TheVariants.{Line}
 use Rattle.link_core.specs.Steps.{Halfway, Stand}
 use Rattle.link_core.proofs.Stamps.{rest_given}
@@ -12,7 +12,8 @@ use Rattle.link_core.proofs.converse.take_rest.Goals as goal
 pub answer-requires-clause-fits : goal.answer-requires-clause-fits
 answer-requires-clause-fits g c =
     rest_given c.args.reader.now c.in-Ok-Some.line
-    (subst (λ (o : Option Incoming). o ≡ rest_of c.args.reader.now []) c.in-Ok-Some.field-0-is c.in-Ok-Some.ensures)
+    (subst (λ (o : Option Incoming). o ≡ rest_to_come c.args.reader.now []) c.in-Ok-Some.field-0-is
+    c.in-Ok-Some.ensures)
 
 pub returns-in-Ok-clause-stops : goal.returns-in-Ok-clause-stops
 returns-in-Ok-clause-stops g c = λ start taken h.
@@ -33,7 +34,8 @@ returns-in-Ok-clause-stops g c = λ start taken h.
     (answered_one shows start now new taken true (Line c.in-Ok-Some.line) []
     (subst (λ (o : Option Incoming). Halfway shows start now taken true (map Line (option_to_list o)))
     (sym
-    (subst (λ (o : Option Incoming). o ≡ rest_of c.args.reader.now []) c.in-Ok-Some.field-0-is c.in-Ok-Some.ensures))
+    (subst (λ (o : Option Incoming). o ≡ rest_to_come c.args.reader.now []) c.in-Ok-Some.field-0-is
+    c.in-Ok-Some.ensures))
     h)
     c.in-Ok.ensures.answered)
 
@@ -55,7 +57,8 @@ returns-in-Err-answer-clause-stops g c = λ start taken h.
     stopped_one shows start c.in-Err-answer.end now new taken true (Line c.in-Ok-Some.line) []
     (subst (λ (o : Option Incoming). Halfway shows start now taken true (map Line (option_to_list o)))
     (sym
-    (subst (λ (o : Option Incoming). o ≡ rest_of c.args.reader.now []) c.in-Ok-Some.field-0-is c.in-Ok-Some.ensures))
+    (subst (λ (o : Option Incoming). o ≡ rest_to_come c.args.reader.now []) c.in-Ok-Some.field-0-is
+    c.in-Ok-Some.ensures))
     h)
     c.in-Err-answer.ensures.answered
 
@@ -68,4 +71,4 @@ returns-in-Err-clause-stops g c = λ start taken h.
       memory = c.args.session.now;
       link = g.L.Link.tale c.args.link.now;
     } in
-    stops_memory shows start now taken true (map Line (option_to_list (rest_of c.args.reader.now []))) h
+    stops_memory shows start now taken true (map Line (option_to_list (rest_to_come c.args.reader.now []))) h

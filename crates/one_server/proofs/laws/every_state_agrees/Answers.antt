@@ -4,7 +4,7 @@ use Rattle.one_server.specs.declared.part.Part.TheVariants.{Desk as ADesk}
 use Rattle.one_server.specs.House.{house}
 use Rattle.one_server.specs.WholeProof.{formed_is, place_is}
 use Rattle.one_server.specs.LawfulProof.{house_lawful}
-use Rattle.one_server.specs.Whole.{opened}
+use Rattle.one_server.specs.Whole.{opened_server}
 use Rattle.one_server.proofs.Opens.{IsOpening-empty}
 use Rattle.one_server.proofs.Serving.{whole_opening}
 use Rattle.one_server.proofs.laws.every_state_agrees.Goals as goal
@@ -13,7 +13,7 @@ pub returns-clause-empty : goal.returns-clause-empty
 returns-clause-empty c = IsOpening-empty
 
 pub returns-clause-opens : goal.returns-clause-opens
-unfolding opened
+unfolding opened_server
 returns-clause-opens c = whole_opening
 
 pub returns-clause-whole : goal.returns-clause-whole

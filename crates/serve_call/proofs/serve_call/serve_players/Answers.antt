@@ -1,5 +1,5 @@
 use Rattle.std.proofs.Common.{inl, inr, ap}
-use Rattle.one_server.specs.Whole.{opened}
+use Rattle.one_server.specs.Whole.{opened_server}
 use Rattle.serve_call.specs.Opening.{IsLoaded}
 use Rattle.serve_core.specs.Outside.{Sheet, sheet_of}
 use Rattle.edge_traits.specs.Calls.{Store, store_of}
@@ -40,7 +40,7 @@ returns-in-Ok-clause-served g c =
       loads,
       end,
       c.status.ensures,
-      served_from (g.C.Clock.shows c.args.clock.now) (opened lobby) end door before mid later loaded new h.1 none
+      served_from (g.C.Clock.shows c.args.clock.now) (opened_server lobby) end door before mid later loaded new h.1 none
           c.in-Ok.ensures.write_calm p,
     ))
     s.ensures.served
@@ -71,7 +71,7 @@ returns-in-Ok-clause-table g c =
     some_as s.result.1 _ _
     (λ h p.
     table_agrees (g.C.Clock.shows c.args.clock.now) lobby end door before later old loaded new h.1 loads
-    (served_from (g.C.Clock.shows c.args.clock.now) (opened lobby) end door before mid later loaded new h.1 none
+    (served_from (g.C.Clock.shows c.args.clock.now) (opened_server lobby) end door before mid later loaded new h.1 none
     c.in-Ok.ensures.write_calm p))
     s.ensures.served
 

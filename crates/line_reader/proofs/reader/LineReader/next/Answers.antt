@@ -1,5 +1,5 @@
 use Rattle.std.proofs.Common.{sym, subst, ◌∙◌}
-use Rattle.line_reader.specs.Reader.{Reader, IsKept}
+use Rattle.line_reader.specs.Reader.{LineReading, IsKept}
 use Rattle.line_reader.proofs.Steps.{next_gives, next_same, next_none}
 use Rattle.line_reader.proofs.reader.LineReader.next.Goals as goal
 
@@ -20,4 +20,4 @@ pub returns-clause-none : goal.returns-clause-none
 returns-clause-none c =
     let same = c.forget.ensures.same in
     next_none c.args.self.now c.loop-byte.self c.loop-byte.invariant (c.in_default.ensures {u = tt}).none
-    (subst (λ (r : Reader). IsKept r.line) same c.forget.ensures.kept)
+    (subst (λ (r : LineReading). IsKept r.line) same c.forget.ensures.kept)

@@ -1,6 +1,6 @@
 use Rattle.std.proofs.Common.{◌≡◌, [], ◌∙◌}
 use Rattle.line_reader.specs.Reading.{rest_reading}
-use Rattle.line_reader.specs.Reader.{rest_of}
+use Rattle.line_reader.specs.Reader.{rest_to_come}
 use Rattle.line_reader.proofs.Steps.{rest_all}
 use Rattle.line_reader.proofs.reader.LineReader.rest.Goals as goal
 use Rattle.std.proofs.lemmas.Result.{IfOk-weaker}
@@ -8,7 +8,7 @@ use Rattle.std.proofs.lemmas.Result.{IfOk-weaker}
 pub returns : goal.returns
 returns c =
     IfOk-weaker c.read_rest.result (λ rest. rest ≡ rest_reading c.bytes.result.now)
-    (λ rest. rest ≡ rest_of c.args.self.now [])
+    (λ rest. rest ≡ rest_to_come c.args.self.now [])
     (λ rest e.
     e
     ∙ rest_all c.self.inside.cutter c.duplicate-cutter.result c.pass_all.new.cutter c.self.inside.looked_at

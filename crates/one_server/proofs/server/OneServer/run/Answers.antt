@@ -2,7 +2,7 @@ use Rattle.std.proofs.Common.{List, length, ap, subst, ◌∙◌}
 use Rattle.linked_desk.specs.Desk.{DeskState}
 use Rattle.one_server.specs.Copies.{ItemsFor}
 use Rattle.one_server.specs.declared.act.Timed.{Timed}
-use Rattle.one_server.specs.Whole.{opened}
+use Rattle.one_server.specs.Whole.{opened_server}
 use Rattle.one_server.proofs.Copying.{are_of}
 use Rattle.one_server.proofs.Stepping.{count_of_desks}
 use Rattle.one_server.proofs.Serving.{whole_now, one_more, pushed}
@@ -29,11 +29,12 @@ twin-twin-requires c =
 pub invariant_of-self-2 : goal.invariant_of-self-2
 invariant_of-self-2 c =
     let timed : Timed = record { moment = c.args.moment; act = c.args.act } in
-    pushed (opened c.self.inside.opening.value) c.self.inside.log.items c.reserve.new.self.items
+    pushed (opened_server c.self.inside.opening.value) c.self.inside.log.items c.reserve.new.self.items
     c.push_reserved.new.self.items c.args.session timed c.twin-twin.result c.in_ok-reply.reply c.act_step.new.lobby
     c.act_step.new.desks
     c.push_reserved.ensures.items c.in_ok-reserve.ensures.items c.twin-twin.ensures
-    (one_more (opened c.self.inside.opening.value) c.self.inside.log.items c.self.inside.lobby c.act_step.new.lobby
+    (one_more (opened_server c.self.inside.opening.value) c.self.inside.log.items c.self.inside.lobby
+    c.act_step.new.lobby
     c.self.inside.desks c.act_step.new.desks c.args.session timed c.in_ok-reply.reply
     c.self.invariant c.requires c.in_ok-reply.ensures.reply c.in_ok-reply.ensures.after)
 
@@ -41,11 +42,12 @@ pub returns-clause-legal : goal.returns-clause-legal
 returns-clause-legal c =
     let timed : Timed = record { moment = c.args.moment; act = c.args.act } in
     let served =
-    pushed (opened c.self.inside.opening.value) c.self.inside.log.items c.reserve.new.self.items
+    pushed (opened_server c.self.inside.opening.value) c.self.inside.log.items c.reserve.new.self.items
     c.push_reserved.new.self.items c.args.session timed c.twin-twin.result c.in_ok-reply.reply c.act_step.new.lobby
     c.act_step.new.desks
     c.push_reserved.ensures.items c.in_ok-reserve.ensures.items c.twin-twin.ensures
-    (one_more (opened c.self.inside.opening.value) c.self.inside.log.items c.self.inside.lobby c.act_step.new.lobby
+    (one_more (opened_server c.self.inside.opening.value) c.self.inside.log.items c.self.inside.lobby
+    c.act_step.new.lobby
     c.self.inside.desks c.act_step.new.desks c.args.session timed c.in_ok-reply.reply
     c.self.invariant c.requires c.in_ok-reply.ensures.reply c.in_ok-reply.ensures.after) in
     served.legal
@@ -54,8 +56,10 @@ pub returns-clause-fits : goal.returns-clause-fits
 returns-clause-fits c =
     let timed : Timed = record { moment = c.args.moment; act = c.args.act } in
     let served =
-    one_more (opened c.self.inside.opening.value) c.self.inside.log.items c.self.inside.lobby c.act_step.new.lobby
+    one_more (opened_server c.self.inside.opening.value) c.self.inside.log.items c.self.inside.lobby
+    c.act_step.new.lobby
     c.self.inside.desks c.act_step.new.desks c.args.session timed c.in_ok-reply.reply
     c.self.invariant c.requires c.in_ok-reply.ensures.reply c.in_ok-reply.ensures.after in
-    last_reply (opened c.self.inside.opening.value) c.self.inside.log.items c.args.session timed c.in_ok-reply.reply
+    last_reply (opened_server c.self.inside.opening.value) c.self.inside.log.items c.args.session timed
+    c.in_ok-reply.reply
     served.whole served.legal
