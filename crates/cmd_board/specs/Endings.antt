@@ -19,5 +19,5 @@ end_lines v to_move Mate = end_text v why.Mate (Some (opposite to_move)) true ++
 end_lines v to_move Stalemate = end_text v why.Stalemate None true ++ codes "\n\r"
 
 -- the line of a refusal
-abbrev pub refusal_line : Refusal → List ℕ
-refusal_line cause = refusal_words cause ++ codes "\n\r"
+abbrev pub line_of_refusal : Refusal → List ℕ
+line_of_refusal cause = refusal_words cause ++ codes "\n\r"

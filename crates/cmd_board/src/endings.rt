@@ -2,7 +2,7 @@
 
 ghost use Rattle.std.specs.Prelude.{◌≡◌, ◌++◌, ◌↔◌, OnOk, IsSome, IsTrue, codes, true};
 ghost use Rattle.style12_writer.specs.EndLine.{is_decisive, end_text};
-ghost use Rattle.cmd_board.specs.Endings.{end_lines, refusal_line};
+ghost use Rattle.cmd_board.specs.Endings.{end_lines, line_of_refusal};
 
 use crate::game::END_OF_LINE;
 use chess_model::{Colour, State, Why};
@@ -52,7 +52,7 @@ pub(crate) fn put_ended(line: &[u8], out: &mut Vec<u8>) -> Result<(), NoMemory>
 
 /// Appends the line of a refusal.
 pub(crate) fn put_refusal(cause: Refusal, out: &mut Vec<u8>) -> Result<(), NoMemory>
-    ensures { OnOk result (out.new.items ≡ out.old.items ++ refusal_line cause) }
+    ensures { OnOk result (out.new.items ≡ out.old.items ++ line_of_refusal cause) }
 {
     write_refusal(out, cause)?;
     out.extend_from_slice(END_OF_LINE)?;

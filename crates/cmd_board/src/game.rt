@@ -27,7 +27,7 @@ pub struct UntimedGame {
 }
 
 impl Model for UntimedGame {
-    ghost use Rattle.cmd_board.specs.Game.{GameState};
+    ghost use Rattle.cmd_board.specs.Game.{BoardGame};
     ghost use Rattle.cmd_board.specs.GameFields.{HoldsGame};
 
     ghost Value = { GameState };

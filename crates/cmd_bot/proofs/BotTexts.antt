@@ -5,8 +5,8 @@ use Rattle.std.specs.Option.{option_map_or}
 use Rattle.std.specs.Io.KnownBytes.{Appends}
 use Rattle.cmd_lines.specs.ClosingCommandEnds.{AnswersAndCloses}
 use Rattle.cmd_lines.specs.Handling.{bad_line}
-use Rattle.cmd_lines.specs.LineCommand.{answers, bad_in, first_bad, last_state, line_answer, text_of}
-use Rattle.cmd_lines.specs.LineCommandEnds.{Answers, StopsAtBadLine}
+use Rattle.cmd_lines.specs.LineCommand.{answers, bad_in, first_bad, last_state, line_answer, text_of_lines}
+use Rattle.cmd_lines.specs.LineCommandEnds.{AnswersWhole, StopsAtBadLine}
 use Rattle.cmd_lines.specs.Lines.{lines_come, lines_of}
 use Rattle.cmd_bot.specs.BotLines.{BotState, answer_line, bot_answer, bot_lines, silent}
 use Rattle.cmd_bot.specs.BotText.{AnswersGame, TellsBadLine, WritesNothing}
@@ -56,7 +56,7 @@ module _ (depth : ℕ) where
       ] (silent_line s line)
 
   text_at : (lines : List (List ℕ)) (t : Option ℕ) → bad_in (bot_lines depth) lines ≡ t
-      → text_of (bot_lines depth) lines ≡ option_map_or (λ k. bad_line (codes "\n") k) t []
+      → text_of_lines (bot_lines depth) lines ≡ option_map_or (λ k. bad_line (codes "\n") k) t []
   text_at lines t e = answers_silent 1 None lines ∙ ap (λ x. option_map_or (λ k. bad_line (codes "\n") k) x []) e
 
   pub AnswersGame-done : (left left' written written' : Option (List ℕ))
@@ -86,6 +86,6 @@ module _ (depth : ℕ) where
   }
 
   pub WritesNothing-before : (left left' written written' : Option (List ℕ)) (ended : Bool)
-      → Answers (bot_lines depth) left left' written written' ended → WritesNothing written written'
+      → AnswersWhole (bot_lines depth) left left' written written' ended → WritesNothing written written'
   WritesNothing-before left left' written written' ended h =
       subst (Appends written written') (text_at (lines_come ended h.taken) None h.good) h.text

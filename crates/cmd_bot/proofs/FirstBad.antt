@@ -6,7 +6,7 @@ use Rattle.std.proofs.lemmas.List.Elements.{All-cons, All-nil}
 use Rattle.cmd_lines.specs.LineCommand.{LineCommand, bad_in, first_bad, last_state, line_answer}
 use Rattle.cmd_lines.specs.Lines.{is_written}
 use Rattle.cmd_bot.specs.BotLines.{bot_lines}
-use Rattle.cmd_bot.specs.Inputs.{Give, IsFirstBad}
+use Rattle.cmd_bot.specs.Inputs.{Give, IsFirstBadLine}
 use Rattle.cmd_bot.proofs.GamesGiven.{Give-given, Give-good}
 
 module _ {S : Type 0} (command : LineCommand S) where
@@ -62,7 +62,7 @@ short_front (line ∷ lines) (suc n) h =
     (short_front lines n (λ k d within. h (suc k) d (omega (arith, within))))
 
 pub IsFirstBad-told : (depth : ℕ) (lines : List (List ℕ)) (number : ℕ) → bad_in (bot_lines depth) lines ≡ Some number
-    → IsFirstBad depth lines number
+    → IsFirstBadLine depth lines number
 IsFirstBad-told depth lines number bad =
     let h = first_place (bot_lines depth) 1 number None lines bad in
     let last : number - 1 ≡ h.place = omega (arith, h.number) in

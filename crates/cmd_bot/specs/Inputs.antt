@@ -45,7 +45,7 @@ Give depth (first ∷ lines) state =
 
 -- the line of this number, counted from 1, is the first one that isn't a line of a game: those before it give a game,
 -- and with it they give none
-pub record IsFirstBad (depth : ℕ) (lines : List (List ℕ)) (number : ℕ) : Type 0 where
+pub record IsFirstBadLine (depth : ℕ) (lines : List (List ℕ)) (number : ℕ) : Type 0 where
   pub counted : 1 ≤ number
   pub there : number ≤ length lines
   pub game : BotState

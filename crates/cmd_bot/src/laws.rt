@@ -8,7 +8,7 @@ ghost use Rattle.cmd_lines.specs.declared.end.End.{End};
 ghost use Rattle.cmd_bot.specs.BotEnds.{BotEnds};
 ghost use Rattle.cmd_bot.specs.BotLines.{BotState, bot_lines};
 ghost use Rattle.cmd_bot.specs.BotText.{AnswersGame, TellsBadLine, WritesNothing};
-ghost use Rattle.cmd_bot.specs.Inputs.{Give, IsFirstBad};
+ghost use Rattle.cmd_bot.specs.Inputs.{Give, IsFirstBadLine};
 
 /// An input has no bad line exactly where its lines, without the empty ones, name a variant and half-moves that are
 /// accepted in turn; and these give the game in whose position the bot answers. A line of more than 1,023 bytes is bad.
@@ -22,7 +22,7 @@ pub fn inputs()
         → All (λ line. length line ≤ most_line_bytes) lines
         → Give depth (filter is_written lines) state → last_state (bot_lines depth) lines ≡ state }
     ensures first { (depth : ℕ) (lines : List (List ℕ)) (number : ℕ) → bad_in (bot_lines depth) lines ≡ Some number
-        → IsFirstBad depth lines number }
+        → IsFirstBadLine depth lines number }
 {}
 
 /// What is written at each end: the answer in the position of the input, the number of its first bad line, or nothing.

@@ -8,7 +8,7 @@ use Rattle.edge_traits.specs.Pairs.{Records}
 use Rattle.cmd_lines.specs.declared.end.End.{End}
 use Rattle.cmd_lines.specs.declared.end.End.TheVariants.{Done, ReadFault, WriteFault, Memory, BadLine, Spent}
 use Rattle.cmd_lines.proofs.Sending.{AppendsFront-behind}
-use Rattle.lobby_load.specs.BadRows.{IsAccount, IsGame, IsGoodStore}
+use Rattle.lobby_load.specs.BadRows.{IsAccount, IsRowOfGame, IsGoodStore}
 use Rattle.lobby_load.specs.Loaded.{HasCount, HasSizes}
 use Rattle.lobby_state.specs.Lobby.{LobbyState}
 use Rattle.cmd_store.specs.declared.outcome.Outcome.TheVariants.{Read}
@@ -23,7 +23,7 @@ counted None lobby accounts games good sized a g = tt
 counted (Some told) lobby accounts games good sized a g = (
   good,
   subst (λ (n : ℕ). HasCount IsAccount n (map.entries told)) (sym a) sized.accounts,
-  subst (λ (n : ℕ). HasCount IsGame n (map.entries told)) (sym g) sized.games,
+  subst (λ (n : ℕ). HasCount IsRowOfGame n (map.entries told)) (sym g) sized.games,
 )
 
 -- the line of the counts was written, or a beginning of it

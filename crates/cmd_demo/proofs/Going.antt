@@ -7,12 +7,12 @@ use Rattle.one_server.specs.declared.part.Part.{Part}
 use Rattle.one_server.specs.House.{house}
 use Rattle.one_server.specs.Running.{Log}
 use Rattle.one_server.specs.Server.{ServerState, parts_in}
-use Rattle.cmd_replay.specs.Evening.{Does, opening_parts}
+use Rattle.cmd_replay.specs.Evening.{EventDoes, opening_parts}
 use Rattle.cmd_replay.specs.FollowingProof.{one_doing}
 use Rattle.replay_core.specs.declared.script.ScriptEvent.{ScriptEvent}
 use Rattle.replay_core.specs.declared.script.ScriptEvent.TheVariants as event
 use Rattle.session_core.specs.Memory.{MemoryState}
-use Rattle.cmd_demo.specs.Demo.{Comes, Connects, DemoState, Enters, Go, Goes, IsDemo, Quits, Step, Turns, demo_steps, entering, quitting, start, turn_of, turning, with_turn}
+use Rattle.cmd_demo.specs.Demo.{Comes, Connects, DemoState, Enters, Go, StepGoes, IsDemo, Quits, Step, Turns, demo_steps, all_entering, quitting, start, turn_of, turns_of, with_turn}
 
 -- steps, and then others
 pub go_then : (one two : List Step) (old mid new : DemoState) → Go one old mid → Go two mid new
@@ -21,7 +21,7 @@ go_then [] two old mid new g h = subst (λ (from : DemoState). Go two from new) 
 go_then (step ∷ one) two old mid new g h = (g.0, g.1, go_then one two g.0 mid new g.2 h)
 
 -- one step
-pub go_one : (step : Step) (old new : DemoState) → Goes step old new → Go (step ∷ []) old new
+pub go_one : (step : Step) (old new : DemoState) → StepGoes step old new → Go (step ∷ []) old new
 go_one step old new g = (new, g, refl)
 
 -- ---- loops
@@ -29,33 +29,34 @@ go_one step old new g = (new, g, refl)
 next_of : (count : ℕ) → suc count ≡ count + 1
 next_of count = omega arith
 
-pub none_entered : (at : DemoState) → Go (entering 0) at at
-unfolding entering
+pub none_entered : (at : DemoState) → Go (all_entering 0) at at
+unfolding all_entering
 none_entered at = refl
 
-pub one_enters : (count : ℕ) (old mid new : DemoState) → Go (entering count) old mid
-    → Go (Connects (count + 1) ∷ Enters (count + 1) ∷ []) mid new → Go (entering (count + 1)) old new
-unfolding entering
+pub one_enters : (count : ℕ) (old mid new : DemoState) → Go (all_entering count) old mid
+    → Go (Connects (count + 1) ∷ Enters (count + 1) ∷ []) mid new → Go (all_entering (count + 1)) old new
+unfolding all_entering
 one_enters count old mid new g h =
-    subst (λ (n : ℕ). Go (entering n) old new) (next_of count)
-    (go_then (entering count) (Connects (count + 1) ∷ Enters (count + 1) ∷ []) old mid new g h)
+    subst (λ (n : ℕ). Go (all_entering n) old new) (next_of count)
+    (go_then (all_entering count) (Connects (count + 1) ∷ Enters (count + 1) ∷ []) old mid new g h)
 
-pub no_turns : (at : DemoState) → Go (turning 0) at at
-unfolding turning
+pub no_turns : (at : DemoState) → Go (turns_of 0) at at
+unfolding turns_of
 no_turns at = refl
 
-pub one_turn : (count : ℕ) (old mid new : DemoState) → Go (turning count) old mid → Goes Turns mid new
-    → Go (turning (count + 1)) old new
-unfolding turning
+pub one_turn : (count : ℕ) (old mid new : DemoState) → Go (turns_of count) old mid → StepGoes Turns mid new
+    → Go (turns_of (count + 1)) old new
+unfolding turns_of
 one_turn count old mid new g h =
-    subst (λ (n : ℕ). Go (turning n) old new) (next_of count)
-    (go_then (turning count) (Turns ∷ []) old mid new g (go_one Turns mid new h))
+    subst (λ (n : ℕ). Go (turns_of n) old new) (next_of count)
+    (go_then (turns_of count) (Turns ∷ []) old mid new g (go_one Turns mid new h))
 
 pub none_quits : (at : DemoState) → Go (quitting 0) at at
 unfolding quitting
 none_quits at = refl
 
-pub one_quits : (count : ℕ) (old mid new : DemoState) → Go (quitting count) old mid → Goes (Quits (count + 1)) mid new
+pub one_quits : (count : ℕ) (old mid new : DemoState) → Go (quitting count) old mid
+    → StepGoes (Quits (count + 1)) mid new
     → Go (quitting (count + 1)) old new
 unfolding quitting
 one_quits count old mid new g h =
@@ -63,12 +64,12 @@ one_quits count old mid new g h =
     (go_then (quitting count) (Quits (count + 1) ∷ []) old mid new g (go_one (Quits (count + 1)) mid new h))
 
 -- the whole
-pub all_go : (old one two new : DemoState) → Go (entering 40) old one → Go (turning 4000) one two
+pub all_go : (old one two new : DemoState) → Go (all_entering 40) old one → Go (turns_of 4000) one two
     → Go (quitting 40) two new → Go demo_steps old new
 unfolding demo_steps
 all_go old one two new e t q =
-    go_then (entering 40 ++ turning 4000) (quitting 40) old two new
-    (go_then (entering 40) (turning 4000) old one two e t) q
+    go_then (all_entering 40 ++ turns_of 4000) (quitting 40) old two new
+    (go_then (all_entering 40) (turns_of 4000) old one two e t) q
 
 -- ---- one end
 
@@ -91,8 +92,8 @@ one_coming : (session : ℕ) (what : ScriptEvent) (old new other : DemoState) �
     → Comes session what old other → new ≡ other
 one_coming session what old new other c d =
     let knew : c.before ≡ d.before = same_Some c.before d.before (sym c.knew ∙ d.knew) in
-    let does : Does what c.before session old.moment d.answered.entries d.bytes d.after =
-    subst (λ (m : MemoryState). Does what m session old.moment d.answered.entries d.bytes d.after) (sym knew)
+    let does : EventDoes what c.before session old.moment d.answered.entries d.bytes d.after =
+    subst (λ (m : MemoryState). EventDoes what m session old.moment d.answered.entries d.bytes d.after) (sym knew)
     d.answered.does in
     let same =
     one_doing what c.before session old.moment (parts_in old.server) c.answered.entries d.answered.entries c.bytes
@@ -103,7 +104,7 @@ one_coming session what old new other c d =
     (c.memories ∙ ap (λ (m : MemoryState). slice_set old.memories (session - 1) m) same.2 ∙ sym d.memories)
     (c.number ∙ sym d.number) (c.moment ∙ sym d.moment)
 
-one_step : (step : Step) (old new other : DemoState) → Goes step old new → Goes step old other → new ≡ other
+one_step : (step : Step) (old new other : DemoState) → StepGoes step old new → StepGoes step old other → new ≡ other
 one_step (Connects session) old new other g h = one_coming session event.Connect old new other g h
 one_step (Enters session) old new other g h = one_coming session (event.Plain (codes "guest")) old new other g h
 one_step Turns old new other g h =
@@ -136,7 +137,7 @@ comes_opened session what old new c opened = record {
   legal = c.legal;
 }
 
-goes_opened : (step : Step) (old new : DemoState) → Goes step old new → old.server.opening ≡ opening_parts
+goes_opened : (step : Step) (old new : DemoState) → StepGoes step old new → old.server.opening ≡ opening_parts
     → HasOpened new
 goes_opened (Connects session) old new g opened = comes_opened session event.Connect old new g opened
 goes_opened (Enters session) old new g opened = comes_opened session (event.Plain (codes "guest")) old new g opened

@@ -5,7 +5,7 @@ use Rattle.histories.specs.History.{Legal}
 use Rattle.one_server.specs.House.{house}
 use Rattle.one_server.specs.Running.{Log}
 use Rattle.one_server.specs.Server.{ServerState}
-use Rattle.cmd_replay.specs.Evening.{HasAnswered, opening_parts}
+use Rattle.cmd_replay.specs.Evening.{EventAnswered, opening_parts}
 use Rattle.replay_core.specs.Draws.{drawn, drawn_on}
 use Rattle.replay_core.specs.declared.script.ScriptEvent.{ScriptEvent}
 use Rattle.replay_core.specs.declared.script.ScriptEvent.TheVariants as event
@@ -46,7 +46,7 @@ pub record Comes (session : ℕ) (what : ScriptEvent) (old new : DemoState) : Ty
   pub after : MemoryState
   pub bytes : List ℕ
   pub knew : slice_get old.memories (session - 1) ≡ Some before
-  pub answered : HasAnswered what session old.moment old.server before new.server after bytes
+  pub answered : EventAnswered what session old.moment old.server before new.server after bytes
   pub legal : Legal house new.server.opening new.server.log
   pub memories : new.memories ≡ slice_set old.memories (session - 1) after
   pub number : new.number ≡ old.number
@@ -75,28 +75,28 @@ abbrev pub with_turn : DemoTurn → DemoState → DemoState
 with_turn turn at = record at { number = turn.said.number; moment = turn.moment }
 
 -- a step takes the demo from where it stands
-abbrev pub Goes : Step → DemoState → DemoState → Type 0
-Goes (Connects session) old new = Comes session event.Connect old new
-Goes (Enters session) old new = Comes session (event.Plain (codes "guest")) old new
-Goes Turns old new = Comes (turn_of old).session (turn_of old).said.event (with_turn (turn_of old) old) new
-Goes (Quits session) old new = Comes session (event.Plain (codes "quit")) old new
+abbrev pub StepGoes : Step → DemoState → DemoState → Type 0
+StepGoes (Connects session) old new = Comes session event.Connect old new
+StepGoes (Enters session) old new = Comes session (event.Plain (codes "guest")) old new
+StepGoes Turns old new = Comes (turn_of old).session (turn_of old).said.event (with_turn (turn_of old) old) new
+StepGoes (Quits session) old new = Comes session (event.Plain (codes "quit")) old new
 
 -- steps take it, one after another
 abbrev pub Go : List Step → DemoState → DemoState → Type 0
 Go [] old new = new ≡ old
-Go (step ∷ steps) old new = (mid : DemoState) × Goes step old mid × Go steps mid new
+Go (step ∷ steps) old new = (mid : DemoState) × StepGoes step old mid × Go steps mid new
 
 -- ---- the whole demo
 
 -- the sessions from 1 to so many connect, and each says `guest`
-unfoldable pub entering : ℕ → List Step
-entering zero = []
-entering (suc before) = entering before ++ Connects (before + 1) ∷ Enters (before + 1) ∷ []
+unfoldable pub all_entering : ℕ → List Step
+all_entering zero = []
+all_entering (suc before) = all_entering before ++ Connects (before + 1) ∷ Enters (before + 1) ∷ []
 
 -- so many turns
-unfoldable pub turning : ℕ → List Step
-turning zero = []
-turning (suc before) = turning before ++ Turns ∷ []
+unfoldable pub turns_of : ℕ → List Step
+turns_of zero = []
+turns_of (suc before) = turns_of before ++ Turns ∷ []
 
 -- the sessions from 1 to so many say `quit`
 unfoldable pub quitting : ℕ → List Step
@@ -105,7 +105,7 @@ quitting (suc before) = quitting before ++ Quits (before + 1) ∷ []
 
 -- 40 sessions come, 4,000 times one of them is drawn, and all quit
 unfoldable pub demo_steps : List Step
-demo_steps = entering 40 ++ turning 4000 ++ quitting 40
+demo_steps = all_entering 40 ++ turns_of 4000 ++ quitting 40
 
 -- this is the history that a number makes
 pub record IsDemo (number : ℕ) (log : Log) : Type 0 where

@@ -17,7 +17,7 @@ use Rattle.replay_core.specs.Script.{IsScriptEvent}
 use Rattle.replay_core.specs.Draws.{drawn, drawn_on}
 use Rattle.cmd_demo.specs.declared.wish.Wish.{Wish}
 use Rattle.cmd_demo.specs.declared.wish.Wish.TheVariants as wish
-use Rattle.cmd_demo.specs.Turns.{moves_of}
+use Rattle.cmd_demo.specs.Turns.{moves_of_session}
 
 -- ---- wishes
 
@@ -72,8 +72,8 @@ abbrev pub numbered : List ℕ → ℕ → ℕ → Said
 numbered front most number = says (front ++ decimal (1 + drawn number most)) (drawn_on number)
 
 -- a line with one of those names between these words comes
-abbrev pub naming : List ℕ → List ℕ → ℕ → Log → Said
-naming front back number log = says (front ++ name_drawn number log ++ back) (drawn_on number)
+abbrev pub naming_one : List ℕ → List ℕ → ℕ → Log → Said
+naming_one front back number log = says (front ++ name_drawn number log ++ back) (drawn_on number)
 
 -- one of these half-moves comes, by a draw; nothing where there are none
 abbrev pub moving : List Move → ℕ → Said
@@ -89,14 +89,14 @@ said_by wish.Play session number server = numbered (codes "play ") 8 number
 said_by wish.Tell session number server = says (codes "tell 1 hello") number
 said_by wish.Join session number server = says (codes "+channel 1") number
 said_by wish.Observe session number server = numbered (codes "observe ") 16 number
-said_by wish.Partner session number server = naming (codes "partner ") [] number server.log
-said_by wish.MatchPairs session number server = naming (codes "match ") (codes " 2 0 bughouse") number server.log
+said_by wish.Partner session number server = naming_one (codes "partner ") [] number server.log
+said_by wish.MatchPairs session number server = naming_one (codes "match ") (codes " 2 0 bughouse") number server.log
 said_by wish.Accept session number server = says (codes "accept") number
 said_by wish.Draw session number server = says (codes "draw") number
 said_by wish.TakeBack session number server = says (codes "takeback 1") number
 said_by wish.Flag session number server = says (codes "flag") number
 said_by wish.Kibitz session number server = says (codes "kibitz good") number
-said_by wish.Move session number server = moving (moves_of session (parts_in server)) number
+said_by wish.Move session number server = moving (moves_of_session session (parts_in server)) number
 
 -- ---- what the program says
 

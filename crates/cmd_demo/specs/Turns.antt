@@ -6,7 +6,7 @@ use Rattle.chess_model.specs.AllMoves.{allowed_moves}
 use Rattle.chess_model.specs.Holdings.{same_colour}
 use Rattle.game_board.specs.Board.{Board, position_of, to_move}
 use Rattle.fics_words.specs.Boards.{board_place}
-use Rattle.linked_desk.specs.Desk.{DeskState, boards_at, end_of}
+use Rattle.linked_desk.specs.Desk.{DeskState, boards_at, ended_at}
 use Rattle.linked_desk.specs.Seats.{board_of, colour_at}
 use Rattle.lobby_state.specs.Lobby.{places_of}
 use Rattle.one_server.specs.declared.part.Part.{Part}
@@ -35,7 +35,7 @@ moves_on_one colour (Some board) = moves_on colour board
 -- those that the player of a seat could make at a desk: none where its game has ended
 abbrev pub moves_at : ℕ → DeskState → List Move
 moves_at seat desk =
-    if is_some (end_of desk) then []
+    if is_some (ended_at desk) then []
     else moves_on_one (colour_at seat) (slice_get (boards_at desk) (board_place (board_of seat)))
 
 abbrev pub moves_in : ℕ → Option Part → List Move
@@ -43,10 +43,10 @@ moves_in seat (Some (ADesk desk)) = moves_at seat desk
 moves_in seat _ = []
 
 -- those that a player could make from its place: the desk of number d is the part d
-abbrev pub moves_from : Option Place → List Part → List Move
-moves_from None parts = []
-moves_from (Some place) parts = moves_in place.seat (slice_get parts place.desk)
+abbrev pub moves_from_place : Option Place → List Part → List Move
+moves_from_place None parts = []
+moves_from_place (Some place) parts = moves_in place.seat (slice_get parts place.desk)
 
 -- those that a session could make where it plays at present
-unfoldable pub moves_of : ℕ → List Part → List Move
-moves_of session parts = moves_from (place_in (slice_get parts 0) session) parts
+unfoldable pub moves_of_session : ℕ → List Part → List Move
+moves_of_session session parts = moves_from_place (place_in (slice_get parts 0) session) parts

@@ -3,8 +3,8 @@
 ghost use Rattle.std.specs.Prelude.{◌≡◌, ◌<◌, ◌≤◌, ◌++◌, ℕ, IfOk, decimal};
 ghost use Rattle.fics_words.specs.Line.{IsLine};
 ghost use Rattle.one_server.specs.Server.{parts_in};
-ghost use Rattle.cmd_demo.specs.Said.{AreWords, IsSaid, letters_of, moving, naming, numbered, said_by, says};
-ghost use Rattle.cmd_demo.specs.Turns.{moves_of};
+ghost use Rattle.cmd_demo.specs.Said.{AreWords, IsSaid, letters_of, moving, naming_one, numbered, said_by, says};
+ghost use Rattle.cmd_demo.specs.Turns.{moves_of_session};
 
 use crate::names::name_in;
 use crate::steps::SESSIONS;
@@ -91,7 +91,7 @@ fn naming(
 ) -> Result<ScriptEvent, NoMemory>
     requires front { AreWords front.now }
     requires back { AreWords back.now }
-    ensures { IfOk result (IsSaid (naming front.now back.now draws.old server.now.log) draws.new) }
+    ensures { IfOk result (IsSaid (naming_one front.now back.now draws.old server.now.log) draws.new) }
 {
     let session = 1 + draws.draw(u64::from(SESSIONS)) as u32;
     let name = name_in(session, server.history());
@@ -134,7 +134,7 @@ fn moving(
     server: &OneServer,
     draws: &mut Draws,
 ) -> Result<ScriptEvent, NoMemory>
-    ensures { IfOk result (IsSaid (moving (moves_of session (parts_in server.now)) draws.old) draws.new) }
+    ensures { IfOk result (IsSaid (moving (moves_of_session session (parts_in server.now)) draws.old) draws.new) }
 {
     let moves = moves_of(alloc, session, server)?;
     chosen(alloc, moves.as_slice(), draws)

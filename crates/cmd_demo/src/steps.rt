@@ -61,8 +61,8 @@ impl Demo {
     ghost use Rattle.std.specs.Prelude.{◌≡◌, ◌+◌, ◌≤◌, ◌∷◌, [], IfOk, OnOk};
     ghost use Rattle.replay_core.specs.Script.{IsScriptEvent};
     ghost use Rattle.replay_core.specs.declared.script.ScriptEvent.TheVariants.{Plain};
-    ghost use Rattle.cmd_demo.specs.Demo.{Comes, Connects, Enters, Go, Goes, Turns};
-    ghost use Rattle.cmd_demo.specs.Demo.{demo_steps, entering, quitting, start, turning};
+    ghost use Rattle.cmd_demo.specs.Demo.{Comes, Connects, Enters, Go, StepGoes, Turns};
+    ghost use Rattle.cmd_demo.specs.Demo.{demo_steps, all_entering, quitting, start, turns_of};
     ghost use Rattle.cmd_demo.specs.Said.{AreWords};
 
     /// A demo of the number, before its first step.
@@ -99,7 +99,7 @@ impl Demo {
     /// All sessions connect and enter.
     fn all_enter(&mut self) -> Result<(), NoMemory>
         requires { self.old.moment ≡ 0 }
-        ensures gone { OnOk result (Go (entering 40) self.old self.new) }
+        ensures gone { OnOk result (Go (all_entering 40) self.old self.new) }
         ensures moment { OnOk result (self.new.moment ≡ 0) }
     {
         for place in 0..SESSIONS {
@@ -123,7 +123,7 @@ impl Demo {
     /// All turns come.
     fn all_turns(&mut self) -> Result<(), NoMemory>
         requires { self.old.moment ≡ 0 }
-        ensures gone { OnOk result (Go (turning 4000) self.old self.new) }
+        ensures gone { OnOk result (Go (turns_of 4000) self.old self.new) }
         ensures moment { OnOk result (self.new.moment ≤ 8000000) }
     {
         for _turn in 0..TURNS {
@@ -135,7 +135,7 @@ impl Demo {
     /// A session is drawn, and what comes from it.
     fn turn(&mut self) -> Result<(), NoMemory>
         requires { self.old.moment ≤ 8000000 }
-        ensures gone { OnOk result (Goes Turns self.old self.new) }
+        ensures gone { OnOk result (StepGoes Turns self.old self.new) }
         ensures moment { OnOk result (self.new.moment ≤ self.old.moment + 2000) }
     {
         self.moment += self.draws.draw(WAIT);

@@ -2,7 +2,7 @@
 
 ghost use Rattle.std.specs.Prelude.{◌≡◌, IfOk};
 ghost use Rattle.one_server.specs.Server.{parts_in};
-ghost use Rattle.cmd_demo.specs.Turns.{moves_at, moves_of, moves_on};
+ghost use Rattle.cmd_demo.specs.Turns.{moves_at, moves_of_session, moves_on};
 
 use chess_model::{Colour, Move};
 use game_board::GameBoard;
@@ -18,7 +18,7 @@ pub(crate) fn moves_of(
     session: u32,
     server: &OneServer,
 ) -> Result<Vec<Move>, NoMemory>
-    ensures { IfOk result (λ moves. moves.items ≡ moves_of session (parts_in server.now)) }
+    ensures { IfOk result (λ moves. moves.items ≡ moves_of_session session (parts_in server.now)) }
 {
     let Some(place) = server.lobby().places(session).present() else {
         return Ok(Vec::new(alloc));

@@ -13,16 +13,16 @@ use Rattle.cmd_lines.specs.declared.end.End.TheVariants.{Done, ReadFault, WriteF
 use Rattle.cmd_lines.proofs.Sending.{AppendsFront-behind}
 use Rattle.lobby_load.specs.BadRows.{IsGoodStore}
 use Rattle.lobby_load.specs.Loaded.{AreSpelled, HasLoaded}
-use Rattle.lobby_load.specs.Telling.{Tells, WroteFront, bad_record_line}
+use Rattle.lobby_load.specs.Telling.{TellsBadRecord, WroteFront, bad_record_line}
 use Rattle.lobby_load.specs.declared.refusals.StoreFault.{StoreFault}
 use Rattle.lobby_load.specs.declared.refusals.StoreFault.TheVariants as fault
 use Rattle.lobby_state.specs.Lobby.{LobbyState}
 use Rattle.lobby_state.specs.WellFormed.{IsWellFormed}
 use Rattle.cmd_store.specs.declared.outcome.Outcome.{Outcome}
 use Rattle.cmd_store.specs.declared.outcome.Outcome.TheVariants as outcome
-use Rattle.cmd_store.specs.Outcomes.{outcome_of}
-use Rattle.examine_board.specs.Exam.{ExamState, opened}
-use Rattle.cmd_examine.specs.ExamineEnds.{AnswersFrom, AreAnswered, ExamineEnds, ExaminesExam, ExaminesOpened, HasNone, IsCutOff, IsCutOffFirst, IsGameOf, TellsNone, no_such_game}
+use Rattle.cmd_store.specs.Outcomes.{outcome_of_fault}
+use Rattle.examine_board.specs.Exam.{ExamState, exam_opened}
+use Rattle.cmd_examine.specs.ExamineEnds.{AnswersFrom, AreShown, ExamineEnds, ExaminesExam, ExaminesOpened, HasNone, IsShownInPart, IsCutOffFirst, IsGameOf, TellsNone, no_such_game}
 use Rattle.cmd_examine.specs.Texts.{examine_lines, shown_text}
 use Rattle.cmd_examine.proofs.Stored.{found_is, none_is}
 
@@ -55,8 +55,8 @@ not_shown A e left written written' Spent h = absurd h
 
 module _ (table : Option Records) (number : ℕ) (left left' written mid written' : Option (List ℕ))
     (none : Appends written mid []) where
-  answered : (e : ExamState) (end : End) → AreAnswered e left left' mid written' end
-      → AreAnswered e left left' written written' end
+  answered : (e : ExamState) (end : End) → AreShown e left left' mid written' end
+      → AreShown e left left' written written' end
   answered e end h =
       record {
         shown = h.shown;
@@ -64,36 +64,37 @@ module _ (table : Option Records) (number : ℕ) (left left' written mid written
         answers = h.answers;
       }
 
-  cut : (due : List ℕ) → IsCutOff due left left' mid written' → IsCutOff due left left' written written'
+  cut : (due : List ℕ) → IsShownInPart due left left' mid written' → IsShownInPart due left left' written written'
   cut due h = record { unread = h.unread; text = AppendsFront-behind written mid written' [] due none h.text }
 
   game_ends : (game : StoredGame) (end : End) → IsGameOf table number game
-      → AnswersFrom (opened game) left left' mid written' end
+      → AnswersFrom (exam_opened game) left left' mid written' end
       → ExamineEnds table number left left' written written' (outcome.Read end)
-  game_ends game Done stored h = record { game = game; stored = stored; answers = answered (opened game) Done h }
+  game_ends game Done stored h = record { game = game; stored = stored; answers = answered (exam_opened game) Done h }
   game_ends game ReadFault stored h =
-      record { game = game; stored = stored; answers = answered (opened game) ReadFault h }
+      record { game = game; stored = stored; answers = answered (exam_opened game) ReadFault h }
   game_ends game WriteFault stored (inl h) =
-      inl (record { game = game; stored = stored; answers = answered (opened game) WriteFault h })
+      inl (record { game = game; stored = stored; answers = answered (exam_opened game) WriteFault h })
   game_ends game WriteFault stored (inr h) =
       inr (record {
-        due = shown_text (opened game);
+        due = shown_text (exam_opened game);
         is_due = inr (inr (inr (game, stored, refl)));
-        cut = cut (shown_text (opened game)) h;
+        cut = cut (shown_text (exam_opened game)) h;
       })
   game_ends game Memory stored (inl h) =
-      inl (record { game = game; stored = stored; answers = answered (opened game) Memory h })
+      inl (record { game = game; stored = stored; answers = answered (exam_opened game) Memory h })
   game_ends game Memory stored (inr h) =
       inr (record {
-        due = shown_text (opened game);
+        due = shown_text (exam_opened game);
         is_due = inr (inr (inr (game, stored, refl)));
-        cut = cut (shown_text (opened game)) h;
+        cut = cut (shown_text (exam_opened game)) h;
       })
-  game_ends game BadLine stored h = record { game = game; stored = stored; answers = answered (opened game) BadLine h }
-  game_ends game Spent stored h = record { game = game; stored = stored; answers = answered (opened game) Spent h }
+  game_ends game BadLine stored h =
+      record { game = game; stored = stored; answers = answered (exam_opened game) BadLine h }
+  game_ends game Spent stored h = record { game = game; stored = stored; answers = answered (exam_opened game) Spent h }
 
   examined : (game : StoredGame) (end : Outcome) → IsGameOf table number game
-      → ExaminesExam (opened game) left left' mid written' end
+      → ExaminesExam (exam_opened game) left left' mid written' end
       → ExamineEnds table number left left' written written' end
   examined game (outcome.Read end) stored h = game_ends game end stored h
   examined game outcome.BadRecord stored h = absurd h
@@ -137,16 +138,16 @@ module _ (table : Option Records) (number : ℕ) (left left' written mid written
   pub store_examined : {E : Type 0} (lobby : LobbyState) (found : Result (Option ExamState) E) (end : Outcome)
       → number < 2 ^ 64 → IsWellFormed lobby → AreSpelled lobby
       → IfSome table (λ told. HasLoaded told lobby) → IfSome table IsGoodStore
-      → IfOk found (λ f. f ≡ option_map opened (stored_game lobby.shelf.games number))
+      → IfOk found (λ f. f ≡ option_map exam_opened (stored_game lobby.shelf.games number))
       → ExaminesOpened found left left' mid written' end → ExamineEnds table number left left' written written' end
   store_examined {E} lobby found end small formed spelled loaded good is h =
       by found (stored_game lobby.shelf.games number) refl is h
     where
       by : (f : Result (Option ExamState) E) (at : Option StoredGame) → stored_game lobby.shelf.games number ≡ at
-          → IfOk f (λ it. it ≡ option_map opened at)
+          → IfOk f (λ it. it ≡ option_map exam_opened at)
           → ExaminesOpened f left left' mid written' end → ExamineEnds table number left left' written written' end
       by (Ok (Some e)) (Some game) stands same g =
-          let own : e ≡ opened game = cc in
+          let own : e ≡ exam_opened game = cc in
           examined game end (found_is table lobby number small formed spelled loaded good game stands)
           (subst (λ (x : ExamState). ExaminesExam x left left' mid written' end) own g)
       by (Ok (Some e)) None stands same g = absurd cc
@@ -168,8 +169,8 @@ front_told table number left written written' h =
 
 pub not_opened : (A : Type 0) (table : Option Records) (number : ℕ) (left written written' : Option (List ℕ))
     (why : StoreFault)
-    → Tells {A = A} table written written' (Err why)
-    → ExamineEnds table number left left written written' (outcome_of why)
+    → TellsBadRecord {A = A} table written written' (Err why)
+    → ExamineEnds table number left left written written' (outcome_of_fault why)
 not_opened A table number left written written' fault.BadRecord told =
     record { unread = refl; key = told.0; bad = told.1; text = told.2 }
 not_opened A table number left written written' fault.KeeperFault told = (refl, told)

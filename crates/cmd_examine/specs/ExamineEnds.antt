@@ -18,7 +18,7 @@ use Rattle.lobby_load.specs.Telling.{IsFirstBad, bad_record_line}
 use Rattle.lobby_store.specs.Carrying.{held}
 use Rattle.cmd_store.specs.declared.outcome.Outcome.{Outcome}
 use Rattle.cmd_store.specs.declared.outcome.Outcome.TheVariants.{Read, BadRecord, KeeperFault, NoGame}
-use Rattle.examine_board.specs.Exam.{ExamState, opened}
+use Rattle.examine_board.specs.Exam.{ExamState, exam_opened}
 use Rattle.cmd_examine.specs.Texts.{examine_lines, shown_text}
 
 -- the line that tells that there is no such game
@@ -43,27 +43,27 @@ pub record HasNone (table : Option Records) (number : ℕ) : Type 0 where
   pub none : IfSome table (λ told. held told (game_key number) ≡ None)
 
 -- the lines that show the exam were written, and then the lines of the input were read and answered, with this end
-pub record AreAnswered (e : ExamState) (left left' written written' : Option (List ℕ)) (end : End) : Type 0 where
+pub record AreShown (e : ExamState) (left left' written written' : Option (List ℕ)) (end : End) : Type 0 where
   pub shown : Option (List ℕ)
   pub opening : Appends written shown (shown_text e)
   pub answers : LineCommandEnds (examine_lines e) left left' shown written' end
 
 -- nothing was read, and a beginning of this text was written
-pub record IsCutOff (due : List ℕ) (left left' written written' : Option (List ℕ)) : Type 0 where
+pub record IsShownInPart (due : List ℕ) (left left' written written' : Option (List ℕ)) : Type 0 where
   pub unread : left' ≡ left
   pub text : AppendsFront written written' due
 
 -- how an exam ends that begins with writing the lines that show it
 abbrev pub AnswersFrom : ExamState → Option (List ℕ) → Option (List ℕ) → Option (List ℕ) → Option (List ℕ) → End
     → Type 0
-AnswersFrom e left left' written written' Done = AreAnswered e left left' written written' Done
-AnswersFrom e left left' written written' ReadFault = AreAnswered e left left' written written' ReadFault
+AnswersFrom e left left' written written' Done = AreShown e left left' written written' Done
+AnswersFrom e left left' written written' ReadFault = AreShown e left left' written written' ReadFault
 AnswersFrom e left left' written written' WriteFault =
-    AreAnswered e left left' written written' WriteFault ⊎ IsCutOff (shown_text e) left left' written written'
+    AreShown e left left' written written' WriteFault ⊎ IsShownInPart (shown_text e) left left' written written'
 AnswersFrom e left left' written written' Memory =
-    AreAnswered e left left' written written' Memory ⊎ IsCutOff (shown_text e) left left' written written'
-AnswersFrom e left left' written written' BadLine = AreAnswered e left left' written written' BadLine
-AnswersFrom e left left' written written' Spent = AreAnswered e left left' written written' Spent
+    AreShown e left left' written written' Memory ⊎ IsShownInPart (shown_text e) left left' written written'
+AnswersFrom e left left' written written' BadLine = AreShown e left left' written written' BadLine
+AnswersFrom e left left' written written' Spent = AreShown e left left' written written' Spent
 
 -- how an exam ends that was opened
 abbrev pub ExaminesExam : ExamState → Option (List ℕ) → Option (List ℕ) → Option (List ℕ) → Option (List ℕ) → Outcome
@@ -92,7 +92,7 @@ pub record IsExamined (table : Option Records) (number : ℕ) (left left' writte
     : Type 0 where
   pub game : StoredGame
   pub stored : IsGameOf table number game
-  pub answers : AreAnswered (opened game) left left' written written' end
+  pub answers : AreShown (exam_opened game) left left' written written' end
 
 -- this text is due before anything is read: none yet, the line that tells of the least bad record, the line that tells
 -- that there is no such game, or the lines that show the game before its first half-move
@@ -100,17 +100,17 @@ abbrev pub IsDueFirst : Option Records → ℕ → List ℕ → Type 0
 IsDueFirst table number due =
     (due ≡ []) ⊎ (((key : List ℕ) × IsFirstBad table key × (due ≡ bad_record_line key))
     ⊎ ((HasNone table number × (due ≡ no_such_game))
-    ⊎ ((game : StoredGame) × IsGameOf table number game × (due ≡ shown_text (opened game)))))
+    ⊎ ((game : StoredGame) × IsGameOf table number game × (due ≡ shown_text (exam_opened game)))))
 
 -- nothing was read, and a beginning was written of what is due before
 pub record IsCutOffFirst (table : Option Records) (number : ℕ)
     (left left' written written' : Option (List ℕ)) : Type 0 where
   pub due : List ℕ
   pub is_due : IsDueFirst table number due
-  pub cut : IsCutOff due left left' written written'
+  pub cut : IsShownInPart due left left' written written'
 
 -- a record is bad: nothing was read, and the line that tells of the least bad key was written
-pub record IsBadTold (table : Option Records) (left left' written written' : Option (List ℕ)) : Type 0 where
+pub record IsBadStoreTold (table : Option Records) (left left' written written' : Option (List ℕ)) : Type 0 where
   pub unread : left' ≡ left
   pub key : List ℕ
   pub bad : IsFirstBad table key
@@ -141,7 +141,7 @@ ExamineEnds table number left left' written written' (Read BadLine) =
     IsExamined table number left left' written written' BadLine
 ExamineEnds table number left left' written written' (Read Spent) =
     IsExamined table number left left' written written' Spent
-ExamineEnds table number left left' written written' BadRecord = IsBadTold table left left' written written'
+ExamineEnds table number left left' written written' BadRecord = IsBadStoreTold table left left' written written'
 ExamineEnds table number left left' written written' KeeperFault = (left' ≡ left) × Appends written written' []
 ExamineEnds table number left left' written written' NoGame = IsNoneTold table number left left' written written'
 

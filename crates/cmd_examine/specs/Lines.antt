@@ -19,8 +19,8 @@ worded first rest bytes =
     else option_map Play (word.reading bytes))
 
 -- what the line asks for, where it is in the grammar
-abbrev pub reading : List ℕ → Option ExamLine
-reading bytes =
+abbrev pub exam_line_of : List ℕ → Option ExamLine
+exam_line_of bytes =
     if bytes_eq bytes (codes "forward") then Some (Forward 1)
     else (if bytes_eq bytes (codes "back") then Some (Back 1)
     else (if bytes_eq bytes (codes "revert") then Some Revert

@@ -3,10 +3,10 @@
 ghost use Rattle.std.specs.Prelude.{◌≡◌, ◌≤◌, ◌++◌, IfErr, IfOk, OnOk};
 ghost use Rattle.edge_traits.specs.Faults.{Rose};
 ghost use Rattle.cmd_lines.specs.Ends.{OnReadFault, OnWriteFault};
-ghost use Rattle.cmd_lines.specs.LineCommand.{IsAnswer};
+ghost use Rattle.cmd_lines.specs.LineCommand.{IsLineAnswer};
 ghost use Rattle.cmd_lines.specs.Reading.{AfterSend};
 ghost use Rattle.cmd_examine.specs.ExamineEnds.{AnswersFrom};
-ghost use Rattle.cmd_examine.specs.Texts.{answer_line, done, shown_text, told};
+ghost use Rattle.cmd_examine.specs.Texts.{answer_line, exam_done, shown_text, exam_told};
 
 use crate::line::ExamLine;
 use crate::reading::read_line;
@@ -82,7 +82,7 @@ fn show<K: Sink>(alloc: Global, exam: &Exam, sink: &mut K) -> Result<(), End>
 /// Makes the answer of a line, and appends what is written for it; false where the line is outside the grammar. After
 /// running out of memory nothing is known of the exam and of what was appended.
 fn answer_line(exam: &mut Exam, line: &[u8], out: &mut Vec<u8>) -> Result<bool, NoMemory>
-    ensures { IfOk result (λ good. IsAnswer (answer_line exam.old line.now) out.old.items exam.new out.new.items
+    ensures { IfOk result (λ good. IsLineAnswer (answer_line exam.old line.now) out.old.items exam.new out.new.items
         good) }
 {
     let Some(line) = read_line(line) else {
@@ -94,8 +94,8 @@ fn answer_line(exam: &mut Exam, line: &[u8], out: &mut Vec<u8>) -> Result<bool, 
 
 /// Does what a line asks for, and appends the text of the answer.
 fn do_line(exam: &mut Exam, line: ExamLine, out: &mut Vec<u8>) -> Result<(), NoMemory>
-    ensures after { OnOk result (exam.new ≡ (done exam.old line).0) }
-    ensures text { OnOk result (out.new.items ≡ out.old.items ++ (done exam.old line).1) }
+    ensures after { OnOk result (exam.new ≡ (exam_done exam.old line).0) }
+    ensures text { OnOk result (out.new.items ≡ out.old.items ++ (exam_done exam.old line).1) }
 {
     let answer = match line {
         ExamLine::Forward(n) => exam.forward(n),
@@ -111,7 +111,7 @@ fn do_line(exam: &mut Exam, line: ExamLine, out: &mut Vec<u8>) -> Result<(), NoM
 
 /// Appends the text of an answer: the lines that show where the exam is, or the refusal.
 fn put_answer(exam: &Exam, answer: Result<(), Refusal>, out: &mut Vec<u8>) -> Result<(), NoMemory>
-    ensures { OnOk result (out.new.items ≡ out.old.items ++ told exam.now answer) }
+    ensures { OnOk result (out.new.items ≡ out.old.items ++ exam_told exam.now answer) }
 {
     match answer {
         Ok(()) => put_exam(exam, out),

@@ -8,7 +8,7 @@ ghost use Rattle.lobby_shelf.specs.Numbers.{stored_game};
 ghost use Rattle.lobby_state.specs.WellFormed.{IsWellFormed};
 ghost use Rattle.lobby_load.specs.Calling.{LoadsOnce};
 ghost use Rattle.cmd_store.specs.Outcomes.{EndsAt, OnKeeperFault, OnReadFault, OnWriteFault};
-ghost use Rattle.examine_board.specs.Exam.{opened};
+ghost use Rattle.examine_board.specs.Exam.{exam_opened};
 ghost use Rattle.cmd_examine.specs.ExamineEnds.{EndsBeforeInput, ExamineEnds, ExaminesOpened, TellsNone};
 
 use crate::answering::answer_exam;
@@ -59,7 +59,7 @@ pub fn examine<S: Source, K: Sink, P: Keeper>(
 /// Opens the game of that number of a lobby that was loaded, if there is one.
 fn open_game(alloc: Global, lobby: &Lobby, number: u64) -> Result<Option<Exam>, NoMemory>
     ensures formed { IsWellFormed lobby.now }
-    ensures opened { IfOk result (λ found. found ≡ option_map opened (stored_game lobby.now.shelf.games number)) }
+    ensures opened { IfOk result (λ found. found ≡ option_map exam_opened (stored_game lobby.now.shelf.games number)) }
 {
     lobbies_are_well_formed(lobby);
     match lobby.stored(number) {
@@ -71,7 +71,7 @@ fn open_game(alloc: Global, lobby: &Lobby, number: u64) -> Result<Option<Exam>, 
 /// The exam of a stored game, which replays.
 fn open_exam(alloc: Global, game: &StoredGame) -> Result<Exam, NoMemory>
     requires { Replays game.now }
-    ensures { IfOk result (λ exam. exam ≡ opened game.now) }
+    ensures { IfOk result (λ exam. exam ≡ exam_opened game.now) }
 {
     let Some(exam) = Exam::open(alloc, game)? else {
         unreachable!()
@@ -87,7 +87,7 @@ fn examine_opened<S: Source, K: Sink>(
     sink: &mut K,
 ) -> Outcome
     ensures calm { OnKeeperFault result ⊥ }
-    ensures ends { ExaminesOpened opened (S.left source.old) (S.left source.new) (K.written sink.old)
+    ensures ends { ExaminesOpened exam_opened (S.left source.old) (S.left source.new) (K.written sink.old)
         (K.written sink.new) result }
     ensures unread { EndsBeforeInput result → source.new ≡ source.old }
     ensures read_cause { OnReadFault result (Rose (S.faults source.old) (S.faults source.new)) }

@@ -1,7 +1,7 @@
 //! The reading of a line.
 
 ghost use Rattle.std.specs.Prelude.{◌≡◌};
-ghost use Rattle.cmd_examine.specs.Lines.{count_of, reading, worded};
+ghost use Rattle.cmd_examine.specs.Lines.{count_of, exam_line_of, worded};
 
 use crate::line::ExamLine;
 use cmd_lines::cut;
@@ -13,7 +13,7 @@ const MOST_STEPS: u64 = 2_400;
 
 /// Reads a line; `None` where it is outside the grammar.
 pub(crate) fn read_line(line: &[u8]) -> Option<ExamLine>
-    ensures { result ≡ reading line.now }
+    ensures { result ≡ exam_line_of line.now }
 {
     if line == b"forward".as_slice() {
         return Some(ExamLine::Forward(1));

@@ -2,7 +2,7 @@
 use Rattle.std.proofs.Common.{◌≡◌, ℕ, List, Option, Some, None, get_or, refl, sym, ap, subst, ◌∙◌}
 use Rattle.std.specs.Prelude.{◌==◌, if◌then◌else◌, Result, Ok, Err, IfErr, codes, option_copied, unwrap_or}
 use Rattle.std.specs.Borrow.{Bor}
-use Rattle.cmd_job.specs.Jobs.{IsBind, IsCount, IsExamine, IsGame, IsOverStore, IsPort, IsServe, OnUsage, text_of}
+use Rattle.cmd_job.specs.Jobs.{IsBind, IsCount, IsExamine, IsGameGiven, IsOverStore, IsPort, IsServe, OnUsage, called_text}
 use Rattle.cmd_job.specs.Options.{Chosen, Says}
 use Rattle.cmd_job.specs.declared.command_name.CommandName.{CommandName}
 use Rattle.cmd_job.specs.declared.command_name.CommandName.TheVariants as name
@@ -24,7 +24,7 @@ command_by second third =
     else if third == 114 then name.Serve else name.Check
 
 command_by-text : (command : CommandName)
-    → command_by (get_or (text_of command) 1 0) (get_or (text_of command) 2 0) ≡ command
+    → command_by (get_or (called_text command) 1 0) (get_or (called_text command) 2 0) ≡ command
 unfolding command_by
 command_by-text name.Board = refl
 command_by-text name.Replay = refl
@@ -38,7 +38,7 @@ command_by-text name.Examine = refl
 command_by-text name.Serve = refl
 
 -- a text names one command
-pub one_command : (command other : CommandName) → text_of command ≡ text_of other → command ≡ other
+pub one_command : (command other : CommandName) → called_text command ≡ called_text other → command ≡ other
 one_command command other e =
     sym (command_by-text command) ∙ ap (λ (n : List ℕ). command_by (get_or n 1 0) (get_or n 2 0)) e
     ∙ command_by-text other
@@ -68,11 +68,12 @@ module _ (words : List (List ℕ)) (values : Chosen) where
       (subst (λ (v : Chosen). IsCount v.count count) (one_saying name.Serve words h.values values h.says says)
       h.count_is)
 
-  pub no_game : Says name.Examine words values → ((game : ℕ) → IsGame values.game game → ⊥)
+  pub no_game : Says name.Examine words values → ((game : ℕ) → IsGameGiven values.game game → ⊥)
       → (store : List ℕ) (game : ℕ) → IsExamine words store game → ⊥
   no_game says none store game h =
       none game
-      (subst (λ (v : Chosen). IsGame v.game game) (one_saying name.Examine words h.values values h.says says) h.game_is)
+      (subst (λ (v : Chosen). IsGameGiven v.game game) (one_saying name.Examine words h.values values h.says says)
+      h.game_is)
 
   pub no_store : (command : CommandName) → Says command words values → values.store ≡ None → (store : List ℕ)
       → IsOverStore command words store → ⊥

@@ -6,7 +6,7 @@ use Rattle.std.specs.List.{position_or_len, before_first, after_first}
 use Rattle.std.proofs.lemmas.Bool.{eqb-true}
 use Rattle.std.proofs.lemmas.List.{length-map}
 use Rattle.std.proofs.lemmas.Slice.Eq.{bytes_eq-Decides}
-use Rattle.cmd_job.specs.Options.{AreOptions, BeginsWith, Chosen, GivenValue, Says, Tells, chosen_of, is_equals, listed, name_of, nothing_chosen, same_option, values_of, with_chosen}
+use Rattle.cmd_job.specs.Options.{AreOptions, BeginsWith, Chosen, GivenValue, Says, TellsOptions, chosen_of, is_equals, listed, name_of, nothing_chosen, same_option, values_of, with_chosen}
 use Rattle.cmd_job.specs.declared.command_name.CommandName.{CommandName}
 use Rattle.cmd_job.specs.declared.options.JobOption.{JobOption}
 use Rattle.cmd_job.specs.declared.options.JobOption.TheVariants.{Port, Bind, Count, Store, Game}
@@ -188,9 +188,10 @@ one_more values option other value true is none =
 one_more values option other value false is none = append-nil (listed (chosen_of values other))
 
 -- one option more that was not given before
-tells_more : (given : List GivenValue) (values : Chosen) (option : JobOption) (value : List ℕ) → Tells given values
+tells_more : (given : List GivenValue) (values : Chosen) (option : JobOption) (value : List ℕ)
+    → TellsOptions given values
     → chosen_of values option ≡ None
-    → Tells (given ++ record { option = option; value = value } ∷ []) (with_chosen values option value)
+    → TellsOptions (given ++ record { option = option; value = value } ∷ []) (with_chosen values option value)
 unfolding put_of
 tells_more given values option value tells none = λ other.
     values-append other given (record { option = option; value = value } ∷ [])
@@ -214,8 +215,8 @@ own_value option value more =
 
 -- an option that was given isn't given again
 tells_twice : (given more : List GivenValue) (values other : Chosen) (option : JobOption) (value : List ℕ)
-    → Tells given values → chosen_of values option ≢ None
-    → Tells (given ++ record { option = option; value = value } ∷ more) other → ⊥
+    → TellsOptions given values → chosen_of values option ≢ None
+    → TellsOptions (given ++ record { option = option; value = value } ∷ more) other → ⊥
 tells_twice given more values other option value tells some both =
     let all : values_of option (given ++ record { option = option; value = value } ∷ more)
     ≡ values_of option given ++ (value ∷ values_of option more) =
@@ -234,7 +235,8 @@ one_listed (Some v) None e = absurd (let bad : v ∷ [] ≡ [] = e in cc)
 one_listed (Some v) (Some w) e = ap Some (let same : v ∷ [] ≡ w ∷ [] = e in cc)
 
 -- what is given tells one choice
-pub one_choice : (given : List GivenValue) (values other : Chosen) → Tells given values → Tells given other
+pub one_choice : (given : List GivenValue) (values other : Chosen) → TellsOptions given values
+    → TellsOptions given other
     → values ≡ other
 one_choice given values other h k =
     let same : (option : JobOption) → chosen_of values option ≡ chosen_of other option = λ option.
@@ -252,7 +254,7 @@ pub record SoFar (command : CommandName) (words rest : List (List ℕ)) (values 
   pub before : (more : List GivenValue) → AreOptions command rest more → AreOptions command words (done ++ more)
   pub only : (all : List GivenValue) → AreOptions command words all
       → (more : List GivenValue) × (all ≡ done ++ more) × AreOptions command rest more
-  pub tells : Tells done values
+  pub tells : TellsOptions done values
 
 none_told : (option : JobOption) → [] ≡ listed (chosen_of nothing_chosen option)
 none_told Port = refl
@@ -324,7 +326,7 @@ module _ (command : CommandName) (words rest : List (List ℕ)) (values : Chosen
       let m = so.only h.given h.options in
       let b = behind option value later begins h.given m.0 m.1 m.2 in
       tells_twice so.done b.0 values other option value so.tells some
-      (subst (λ (l : List GivenValue). Tells l other)
+      (subst (λ (l : List GivenValue). TellsOptions l other)
       (b.1 ∙ append_assoc so.done (record { option = option; value = value } ∷ []) b.0) h.once)
 
 -- ---- words
@@ -334,7 +336,8 @@ pub one_saying : (command : CommandName) (words : List (List ℕ)) (values other
     → Says command words other → values ≡ other
 one_saying command words values other h k =
     one_choice h.given values other h.once
-    (subst (λ (g : List GivenValue). Tells g other) (one_options command words k.given h.given k.options h.options)
+    (subst (λ (g : List GivenValue). TellsOptions g other)
+    (one_options command words k.given h.given k.options h.options)
     k.once)
 
 pub some_words : (words : List (String Global)) → (length words == 0) ≡ false → map string_bytes words ≢ []

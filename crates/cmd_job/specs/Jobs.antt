@@ -11,17 +11,17 @@ use Rattle.cmd_job.specs.declared.job.JobFail.TheVariants as fail
 use Rattle.cmd_job.specs.Options.{Chosen, Says}
 
 -- how a command is called
-abbrev pub text_of : CommandName → List ℕ
-text_of name.Board = codes "board"
-text_of name.Replay = codes "replay"
-text_of name.Tourney = codes "tourney"
-text_of name.Tidy = codes "tidy"
-text_of name.Bot = codes "bot"
-text_of name.Demo = codes "demo"
-text_of name.Check = codes "check"
-text_of name.Pgn = codes "pgn"
-text_of name.Examine = codes "examine"
-text_of name.Serve = codes "serve"
+abbrev pub called_text : CommandName → List ℕ
+called_text name.Board = codes "board"
+called_text name.Replay = codes "replay"
+called_text name.Tourney = codes "tourney"
+called_text name.Tidy = codes "tidy"
+called_text name.Bot = codes "bot"
+called_text name.Demo = codes "demo"
+called_text name.Check = codes "check"
+called_text name.Pgn = codes "pgn"
+called_text name.Examine = codes "examine"
+called_text name.Serve = codes "serve"
 
 -- ---- what the values stand for
 
@@ -47,9 +47,9 @@ IsCount (Some text) None = ⊥
 IsCount (Some text) (Some n) = NumberFrom1 (2 ^ 31) text n
 
 -- the number of a stored game has to be given
-abbrev pub IsGame : Option (List ℕ) → ℕ → Type 0
-IsGame None game = ⊥
-IsGame (Some text) game = NumberFrom1 (2 ^ 64 - 1) text game
+abbrev pub IsGameGiven : Option (List ℕ) → ℕ → Type 0
+IsGameGiven None game = ⊥
+IsGameGiven (Some text) game = NumberFrom1 (2 ^ 64 - 1) text game
 
 -- the bot looks 4 half-moves ahead at most
 abbrev pub IsDepth : List ℕ → ℕ → Type 0
@@ -78,7 +78,7 @@ pub record IsExamine (words : List (List ℕ)) (store : List ℕ) (game : ℕ) :
   pub values : Chosen
   pub says : Says name.Examine words values
   pub store_is : values.store ≡ Some store
-  pub game_is : IsGame values.game game
+  pub game_is : IsGameGiven values.game game
 
 -- `serve --port P [--bind A] [--store PATH] [--count K]`
 pub record IsServe (words : List (List ℕ)) (port : ℕ) (bind : List ℕ) (store : Option (List ℕ)) (count : Option ℕ)
@@ -113,11 +113,12 @@ IsBehind name.Serve words job =
 -- the texts name this job: the name of a command, and the words behind it
 abbrev pub TextsName : List (List ℕ) → Job → Type 0
 TextsName texts job =
-    (command : CommandName) × (words : List (List ℕ)) × (texts ≡ text_of command ∷ words) × IsBehind command words job
+    (command : CommandName) × (words : List (List ℕ)) × (texts ≡ called_text command ∷ words)
+    × IsBehind command words job
 
 -- the words name this job
-abbrev pub Names : List (String Global) → Job → Type 0
-Names words job = TextsName (map string_bytes words) job
+abbrev pub NamesJob : List (String Global) → Job → Type 0
+NamesJob words job = TextsName (map string_bytes words) job
 
 -- the fact holds where the words name no job
 abbrev pub OnUsage : JobFail → Type 0 → Type 0
@@ -128,4 +129,4 @@ OnUsage fail.Memory P = Unit {0}
 abbrev pub AsksToServe : List (String Global) → Type 0
 AsksToServe words =
     (port : ℕ) × (bind : String Global) × (store : Option (String Global)) × (count : Option ℕ)
-    × Names words (Serve port bind store count)
+    × NamesJob words (Serve port bind store count)

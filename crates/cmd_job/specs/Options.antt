@@ -102,11 +102,11 @@ listed None = []
 listed (Some value) = value ∷ []
 
 -- each option is given at most once, and these are the values
-abbrev pub Tells : List GivenValue → Chosen → Type 0
-Tells given values = (option : JobOption) → values_of option given ≡ listed (chosen_of values option)
+abbrev pub TellsOptions : List GivenValue → Chosen → Type 0
+TellsOptions given values = (option : JobOption) → values_of option given ≡ listed (chosen_of values option)
 
 -- the words are options of the command, in any order, each at most once, and these are their values
 pub record Says (command : CommandName) (words : List (List ℕ)) (values : Chosen) : Type 0 where
   pub given : List GivenValue
   pub options : AreOptions command words given
-  pub once : Tells given values
+  pub once : TellsOptions given values

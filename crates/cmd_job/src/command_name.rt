@@ -2,7 +2,7 @@
 
 ghost use Rattle.std.specs.Prelude.{◌≡◌, ◌≢◌, IfSome, IfNone};
 ghost use Rattle.cmd_job.specs.Options.{takes};
-ghost use Rattle.cmd_job.specs.Jobs.{text_of};
+ghost use Rattle.cmd_job.specs.Jobs.{called_text};
 
 use crate::options::JobOption;
 
@@ -33,8 +33,8 @@ pub enum CommandName {
 
 /// The command that is called so.
 pub(crate) fn command_named(word: &str) -> Option<CommandName>
-    ensures some { IfSome result (λ name. word.now ≡ text_of name) }
-    ensures none { IfNone result ((name : CommandName) → word.now ≢ text_of name) }
+    ensures some { IfSome result (λ name. word.now ≡ called_text name) }
+    ensures none { IfNone result ((name : CommandName) → word.now ≢ called_text name) }
 {
     if word == "board" {
         return Some(CommandName::Board);

@@ -1,7 +1,7 @@
 //! The numbers among the words.
 
 ghost use Rattle.std.specs.Prelude.{ℕ, Option, IfSome, IfNone, Some, option_copied};
-ghost use Rattle.cmd_job.specs.Jobs.{IsCount, IsDemoNumber, IsDepth, IsGame, IsPort, NumberFrom1};
+ghost use Rattle.cmd_job.specs.Jobs.{IsCount, IsDemoNumber, IsDepth, IsGameGiven, IsPort, NumberFrom1};
 
 use fics_words::read_number;
 
@@ -58,8 +58,8 @@ pub(crate) fn read_count(text: Option<&str>) -> Option<Option<u64>>
 
 /// Reads the number of a stored game, which has to be there: 1 to 2^64 - 1.
 pub(crate) fn read_game(text: Option<&str>) -> Option<u64>
-    ensures some { IfSome result (IsGame (option_copied text.entry)) }
-    ensures none { IfNone result ((game : ℕ) → IsGame (option_copied text.entry) game → ⊥) }
+    ensures some { IfSome result (IsGameGiven (option_copied text.entry)) }
+    ensures none { IfNone result ((game : ℕ) → IsGameGiven (option_copied text.entry) game → ⊥) }
 {
     read_positive(text?, u64::MAX)
 }

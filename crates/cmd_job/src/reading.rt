@@ -2,7 +2,7 @@
 
 ghost use Rattle.std.specs.Prelude.{◌≡◌, ℕ, List, [], Option, IfOk, IfErr, IfSome, IfNone};
 ghost use Rattle.std.specs.Prelude.{map, option_copied, option_map, string_bytes};
-ghost use Rattle.cmd_job.specs.Jobs.{IsBehind, IsBot, IsDemo, IsExamine, IsOverStore, IsServe, Names, OnUsage};
+ghost use Rattle.cmd_job.specs.Jobs.{IsBehind, IsBot, IsDemo, IsExamine, IsOverStore, IsServe, NamesJob, OnUsage};
 ghost use Rattle.cmd_job.specs.Options.{Chosen, Says};
 ghost use Rattle.cmd_job.specs.declared.command_name.CommandName.{CommandName};
 ghost use Rattle.cmd_job.specs.declared.job.Job.{Job};
@@ -19,8 +19,8 @@ const HOME: &str = "127.0.0.1";
 
 /// Reads the words behind the program's name; `Usage` where they name no job.
 pub fn read_job(alloc: Global, words: &[String]) -> Result<Job, JobFail>
-    ensures job { IfOk result (Names words.now) }
-    ensures usage { IfErr result (λ fail. OnUsage fail ((job : Job) → Names words.now job → ⊥)) }
+    ensures job { IfOk result (NamesJob words.now) }
+    ensures usage { IfErr result (λ fail. OnUsage fail ((job : Job) → NamesJob words.now job → ⊥)) }
 {
     let Some((first, rest)) = words.split_first() else {
         return Err(JobFail::Usage);

@@ -12,7 +12,7 @@ use Rattle.cmd_lines.specs.FeederEnds.{FeederEnds, IsBegun}
 use Rattle.cmd_lines.specs.Feeding.{IsDueFor}
 use Rattle.cmd_lines.specs.HandlerEnds.{AreAnswered}
 use Rattle.cmd_lines.specs.Handling.{IsDue}
-use Rattle.cmd_lines.specs.LineCommand.{IsPlayed, LineCommand, bad_in, last_state, text_of}
+use Rattle.cmd_lines.specs.LineCommand.{IsPlayed, LineCommand, bad_in, last_state, text_of_lines}
 use Rattle.cmd_lines.specs.Lines.{lines_come, lines_of}
 use Rattle.cmd_lines.specs.PlayedLinesProof.{IsPlayed-good}
 use Rattle.cmd_lines.specs.HandlerStanding.{HandlerStanding}
@@ -35,7 +35,7 @@ module _ {S : Type 0} (command : LineCommand S) (closing : S → List ℕ) where
 
   -- the text of lines that are all good, with the text at the end
   closed_text : (lines : List (List ℕ)) (stands : S) (text : List ℕ) → IsPlayed command lines stands text
-      → text_of command lines ++ closing (last_state command lines) ≡ text ++ closing stands
+      → text_of_lines command lines ++ closing (last_state command lines) ≡ text ++ closing stands
   closed_text lines stands text p =
       ap (λ l. l ++ closing (last_state command lines)) (IsPlayed-text command lines stands text p)
       ∙ ap (λ s. text ++ closing s) (IsPlayed-state command lines stands text p)
@@ -47,12 +47,12 @@ module _ {S : Type 0} (command : LineCommand S) (closing : S → List ℕ) where
 
   -- what is due for a beginning of the lines is a beginning of what is written for those that have come
   front_come : (ended : Bool) (lines : List (List ℕ)) (written written' : Option (List ℕ))
-      → AppendsFront written written' (text_of command lines)
+      → AppendsFront written written' (text_of_lines command lines)
       → AppendsFront written written' (text_come command closing ended lines)
   front_come false lines written written' front = front
   front_come true lines written written' front =
-      AppendsFront-more written written' (text_of command lines) (closing_text command closing lines)
-      (text_of command lines ++ closing_text command closing lines) refl front
+      AppendsFront-more written written' (text_of_lines command lines) (closing_text command closing lines)
+      (text_of_lines command lines ++ closing_text command closing lines) refl front
 
   front_of_lines : (ended whole : Bool) (taken before rest due : List ℕ) (written written' : Option (List ℕ))
       → taken ≡ before ++ rest → (whole ≡ true → (ended ≡ true) × (rest ≡ []))
@@ -70,9 +70,9 @@ module _ {S : Type 0} (command : LineCommand S) (closing : S → List ℕ) where
   front_at_end taken due s written written' h front =
       let lines = lines_of taken in
       let good = IsPlayed-good command lines h.0 h.1 h.2 in
-      let text : due ≡ text_of command lines ++ closing_text command closing lines =
+      let text : due ≡ text_of_lines command lines ++ closing_text command closing lines =
       h.3 ∙ sym (closed_text lines h.0 h.1 h.2)
-      ∙ ap (λ l. text_of command lines ++ l) (sym (closing_text-good lines good)) in
+      ∙ ap (λ l. text_of_lines command lines ++ l) (sym (closing_text-good lines good)) in
       subst (AppendsFront written written') text front
 
   front : (ended whole : Bool) (taken before rest due : List ℕ) (written written' : Option (List ℕ))

@@ -4,7 +4,7 @@ use Rattle.std.specs.Prelude.{◌⊎◌, ◌==◌, nat_le, Result}
 use Rattle.std.proofs.lemmas.Bool.{leb-true, leb-false}
 use Rattle.std.proofs.lemmas.List.{take_all, length-take-le}
 use Rattle.std.proofs.Math.Seq.{take-suc}
-use Rattle.cmd_lines.specs.Handling.{Reaching, IsOutsideAt, HasBadLine, AreLines, AfterAnswering, bad_line}
+use Rattle.cmd_lines.specs.Handling.{Reaching, IsOutsideAt, HasBadLine, AreLinesOfRun, AfterAnswering, bad_line}
 use Rattle.cmd_lines.specs.Feeding.{AfterFeeding}
 use Rattle.fics_words.specs.Pieces.{is_kept, but_last, last_of}
 use Rattle.cmd_lines.specs.Lines.{last_line, lines_of, whole_lines}
@@ -47,7 +47,7 @@ kept_long kept line e many =
     ]
 
 -- a line that is too long is outside the grammar
-pub IsOutsideAt-long : {S : Type 0} (reached : Reaching S) → AreLines reached → (old : S) (line : List ℕ)
+pub IsOutsideAt-long : {S : Type 0} (reached : Reaching S) → AreLinesOfRun reached → (old : S) (line : List ℕ)
     → 1023 < length line → IsOutsideAt reached old line
 IsOutsideAt-long reached laws old line long lines due p s after h =
     absurd (omega (arith, long, laws.short lines line s after h))
@@ -141,7 +141,7 @@ module _ {S : Type 0} (reached : Reaching S) (ending : List ℕ) (old : HandlerS
   refused new out out' Memory told outside = tt
 
   -- a line that is too long
-  pub AfterLine-long : AreLines reached → 1023 < length kept
+  pub AfterLine-long : AreLinesOfRun reached → 1023 < length kept
       → (new : HandlerStanding S) (out out' : List ℕ) (stop : Stop)
       → OnBadLine stop (out' ≡ out ++ bad_line ending number)
       → AfterLine {A = Unit {0}} reached ending old out new out' (Err stop)

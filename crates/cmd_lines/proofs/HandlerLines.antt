@@ -1,13 +1,13 @@
 -- A run of a handler whose lines are all in the grammar isn't stopped at one.
 use Rattle.std.proofs.Common.{◌≡◌, ℕ, true, false, Bool, List, [], ◌∷◌, ◌++◌, refl, sym, ap, subst, ◌∙◌, append_assoc, append-nil, Some, None}
 use Rattle.std.specs.Prelude.{Option}
-use Rattle.cmd_lines.specs.Handling.{Reaching, AreLines, HasBadLine}
+use Rattle.cmd_lines.specs.Handling.{Reaching, AreLinesOfRun, HasBadLine}
 use Rattle.cmd_lines.specs.HandlerEnds.{AreStopped}
 use Rattle.cmd_lines.specs.Lines.{lines_of, lines_come, whole_lines}
 use Rattle.cmd_lines.proofs.Pieces.{Grows-lines_of}
 
 -- a prefix of lines that a run has
-pub front_reached : {S : Type 0} (reached : Reaching S) → AreLines reached
+pub front_reached : {S : Type 0} (reached : Reaching S) → AreLinesOfRun reached
     → (lines more : List (List ℕ)) (s : S) (due : List ℕ) → reached (lines ++ more) s due
     → (before : S) × (text : List ℕ) × reached lines before text
 front_reached reached laws lines [] s due h =
@@ -19,7 +19,7 @@ front_reached reached laws lines (line ∷ more) s due h =
     laws.fronts lines line later.0 later.1 later.2
 
 -- no line of a run is outside the grammar
-pub no_bad_line : {S : Type 0} (reached : Reaching S) → AreLines reached
+pub no_bad_line : {S : Type 0} (reached : Reaching S) → AreLinesOfRun reached
     → (ending : List ℕ) (lines more : List (List ℕ)) (told : List ℕ) (s : S) (due : List ℕ)
     → HasBadLine reached ending lines told → reached (lines ++ more) s due → ⊥
 no_bad_line reached laws ending lines more told s due bad h =
@@ -32,7 +32,7 @@ no_bad_line reached laws ending lines more told s due bad h =
     bad.bad front.0 front.1 front.2
 
 -- an input whose lines a run has isn't stopped
-pub never_stopped : {S : Type 0} (reached : Reaching S) → AreLines reached
+pub never_stopped : {S : Type 0} (reached : Reaching S) → AreLinesOfRun reached
     → (ending text : List ℕ) (left' written written' : Option (List ℕ)) (s : S) (due : List ℕ)
     → reached (lines_of text) s due → AreStopped reached ending (Some text) left' written written' → ⊥
 never_stopped reached laws ending text None written written' s due h stop = stop.came.0

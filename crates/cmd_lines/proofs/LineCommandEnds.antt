@@ -7,8 +7,8 @@ use Rattle.std.proofs.Math.Seq.{take-append_seam}
 use Rattle.edge_traits.specs.Sink.{AppendsFront}
 use Rattle.cmd_lines.specs.Handling.{HasBadLine, IsDue}
 use Rattle.cmd_lines.specs.HandlerEnds.{HandlerEnds, AreAnswered, PartIsWritten}
-use Rattle.cmd_lines.specs.LineCommand.{IsPlayed, LineCommand, answers, bad_in, line_answer, text_of}
-use Rattle.cmd_lines.specs.LineCommandEnds.{Answers, AnswersPart, LineCommandEnds}
+use Rattle.cmd_lines.specs.LineCommand.{IsPlayed, LineCommand, answers, bad_in, line_answer, text_of_lines}
+use Rattle.cmd_lines.specs.LineCommandEnds.{AnswersWhole, AnswersPart, LineCommandEnds}
 use Rattle.cmd_lines.specs.Lines.{lines_come}
 use Rattle.cmd_lines.specs.PlayedLinesProof.{answers-answer_line, bad-answer_line, IsPlayed-answer_line, IsPlayed-good}
 use Rattle.cmd_lines.specs.declared.end.End.{End}
@@ -54,17 +54,18 @@ module _ {S : Type 0} (command : LineCommand S) where
 
   bad_behind : (lines : List (List ℕ)) (due : List ℕ) (h : HasBadLine (IsPlayed command) command.ending lines due)
       (more : List (List ℕ))
-      → text_of command (lines ++ more) ≡ due
+      → text_of_lines command (lines ++ more) ≡ due
   bad_behind lines due h more =
-      ap (λ l. text_of command (l ++ more)) h.parts
-      ∙ ap (text_of command) (append_assoc h.before (h.line ∷ h.rest) more) ∙ h.good.text (h.line ∷ h.rest ++ more)
+      ap (λ l. text_of_lines command (l ++ more)) h.parts
+      ∙ ap (text_of_lines command) (append_assoc h.before (h.line ∷ h.rest) more)
+      ∙ h.good.text (h.line ∷ h.rest ++ more)
       ∙ ap (λ l. h.text ++ l)
       (answers-answer_line command (length h.before + 1) h.stands h.line (h.rest ++ more) None (refused lines due h))
       ∙ sym h.told
 
   text_at_bad : (lines : List (List ℕ)) (due : List ℕ) (h : HasBadLine (IsPlayed command) command.ending lines due)
-      → text_of command lines ≡ due
-  text_at_bad lines due h = ap (text_of command) (sym (append-nil lines)) ∙ bad_behind lines due h []
+      → text_of_lines command lines ≡ due
+  text_at_bad lines due h = ap (text_of_lines command) (sym (append-nil lines)) ∙ bad_behind lines due h []
 
   bad_at_bad : (lines : List (List ℕ)) (due : List ℕ) (h : HasBadLine (IsPlayed command) command.ending lines due)
       → bad_in command lines ≡ Some (length h.before + 1)
@@ -77,23 +78,23 @@ module _ {S : Type 0} (command : LineCommand S) where
       (due : List ℕ)
       → lines ≡ before ++ rest
       → IsDue (IsPlayed command) command.ending before due → AppendsFront written written' due
-      → AppendsFront written written' (text_of command lines)
+      → AppendsFront written written' (text_of_lines command lines)
   front_of_due lines written written' before rest due is (inl (s, p)) front =
-      AppendsFront-more written written' due (answers command (length before + 1) s rest) (text_of command lines)
-      (ap (text_of command) is ∙ p.text rest) front
+      AppendsFront-more written written' due (answers command (length before + 1) s rest) (text_of_lines command lines)
+      (ap (text_of_lines command) is ∙ p.text rest) front
   front_of_due lines written written' before rest due is (inr bad) front =
-      AppendsFront-more written written' due [] (text_of command lines)
-      (ap (text_of command) is ∙ bad_behind before due bad rest ∙ sym (append-nil due)) front
+      AppendsFront-more written written' due [] (text_of_lines command lines)
+      (ap (text_of_lines command) is ∙ bad_behind before due bad rest ∙ sym (append-nil due)) front
 
   part : (lines : List (List ℕ)) (written written' : Option (List ℕ))
       → PartIsWritten (IsPlayed command) command.ending lines written written'
-      → AppendsFront written written' (text_of command lines)
+      → AppendsFront written written' (text_of_lines command lines)
   part lines written written' h = front_of_due lines written written' h.before h.rest h.due h.parts h.is_due h.text
 
   -- the text of lines that have all come
   Answers-played : (left left' written written' : Option (List ℕ)) (ended : Bool)
       → AreAnswered (IsPlayed command) left left' written written' ended
-      → Answers command left left' written written' ended
+      → AnswersWhole command left left' written written' ended
   Answers-played left left' written written' ended h =
       record {
         taken = h.taken;

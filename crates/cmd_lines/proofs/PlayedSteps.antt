@@ -3,7 +3,7 @@ use Rattle.std.proofs.Common.{◌≡◌, ℕ, ◌<◌, ◌≤◌, Bool, cond, Li
 use Rattle.std.specs.Prelude.{Option, Result, IfOk}
 use Rattle.std.proofs.lemmas.Bool.{le-ltb}
 use Rattle.cmd_lines.specs.Handling.{AfterAnswering}
-use Rattle.cmd_lines.specs.LineCommand.{IsAnswer, IsPlayed, LineCommand, begun_at, last_state, line_answer, text_of}
+use Rattle.cmd_lines.specs.LineCommand.{IsLineAnswer, IsPlayed, LineCommand, begun_at, last_state, line_answer, text_of_lines}
 use Rattle.cmd_lines.specs.PlayedLinesProof.{IsPlayed-answer_line, IsOutside-refused}
 
 module _ {S : Type 0} (command : LineCommand S) where
@@ -20,8 +20,8 @@ module _ {S : Type 0} (command : LineCommand S) where
 
   -- and what is due for them is their text
   pub IsPlayed-text : (lines : List (List ℕ)) (state : S) (due : List ℕ) → IsPlayed command lines state due
-      → text_of command lines ≡ due
-  IsPlayed-text lines state due p = ap (text_of command) (sym (append-nil lines)) ∙ p.text [] ∙ append-nil due
+      → text_of_lines command lines ≡ due
+  IsPlayed-text lines state due p = ap (text_of_lines command) (sym (append-nil lines)) ∙ p.text [] ∙ append-nil due
 
   -- and they bring the command here
   pub IsPlayed-state : (lines : List (List ℕ)) (state : S) (due : List ℕ) → IsPlayed command lines state due
@@ -31,7 +31,7 @@ module _ {S : Type 0} (command : LineCommand S) where
   -- what the answer of a line does, as a step of the relation
   AfterAnswering-made : (old : S) (line out : List ℕ) (new : S) (out' : List ℕ) (made : Bool) (t : Option (S × List ℕ))
       → line_answer command old line ≡ t
-      → IsAnswer t out new out' made → AfterAnswering (IsPlayed command) old line out new out' made
+      → IsLineAnswer t out new out' made → AfterAnswering (IsPlayed command) old line out new out' made
   AfterAnswering-made old line out new out' made None e h =
       subst (AfterAnswering (IsPlayed command) old line out new out') (sym h.0)
       (h.1, λ lines due p. IsOutside-refused command lines old due line e p)
@@ -43,7 +43,7 @@ module _ {S : Type 0} (command : LineCommand S) where
 
   pub AfterAnswering-played : {E : Type 0} (old : S) (line out : List ℕ) (new : S) (out' : List ℕ) (r : Result Bool E)
       → 0 < length line → length line ≤ 1023
-      → IfOk r (λ made. IsAnswer (command.answer old line) out new out' made)
+      → IfOk r (λ made. IsLineAnswer (command.answer old line) out new out' made)
       → IfOk r (λ made. AfterAnswering (IsPlayed command) old line out new out' made)
   AfterAnswering-played old line out new out' (Ok made) some short h =
       AfterAnswering-made old line out new out' made (command.answer old line) (line_answer-short old line some short) h
@@ -53,7 +53,7 @@ module _ {S : Type 0} (command : LineCommand S) where
 pub AfterAnswering-begun : {S E : Type 0} (command : LineCommand S) (old : S) (line out : List ℕ) (new : S)
     (out' : List ℕ) (r : Result Bool E)
     → 0 < length line → length line ≤ 1023
-    → IfOk r (λ made. IsAnswer (command.answer old line) out new out' made)
+    → IfOk r (λ made. IsLineAnswer (command.answer old line) out new out' made)
     → IfOk r (λ made. (start : S) → AfterAnswering (IsPlayed (begun_at command start)) old line out new out' made)
 AfterAnswering-begun command old line out new out' (Ok made) some short h =
     λ start. AfterAnswering-played (begun_at command start) {E = Unit {0}} old line out new out' (Ok made) some short h

@@ -3,7 +3,7 @@ use Rattle.std.specs.Prelude.{◌≡◌, ℕ, Bool, true, false, List, [], ◌++
 use Rattle.std.specs.Option.{option_map_or}
 use Rattle.cmd_lines.specs.Feeding.{Feeding}
 use Rattle.cmd_lines.specs.Handling.{HasBadLine}
-use Rattle.cmd_lines.specs.LineCommand.{LineCommand, IsPlayed, bad_in, last_state, text_of}
+use Rattle.cmd_lines.specs.LineCommand.{LineCommand, IsPlayed, bad_in, last_state, text_of_lines}
 use Rattle.cmd_lines.specs.Lines.{lines_come, lines_of}
 use Rattle.cmd_lines.specs.MachineFeeding.{HasAnswered}
 use Rattle.cmd_lines.specs.HandlerStanding.{HandlerStanding}
@@ -15,8 +15,8 @@ module _ {S : Type 0} (command : LineCommand S) (closing : S → List ℕ) where
 
   -- what is written for lines that have come: the texts of their answers and, where they are all, the text at the end
   abbrev pub text_come : Bool → List (List ℕ) → List ℕ
-  text_come false lines = text_of command lines
-  text_come true lines = text_of command lines ++ closing_text lines
+  text_come false lines = text_of_lines command lines
+  text_come true lines = text_of_lines command lines ++ closing_text lines
 
   -- all lines are good, and this text is due for them, with the text at the end
   abbrev pub IsClosedWith : List ℕ → HandlerStanding S → List ℕ → Type 0

@@ -4,8 +4,8 @@ use Rattle.std.specs.Io.KnownBytes.{Appends}
 use Rattle.edge_traits.specs.Sink.{AppendsFront}
 use Rattle.cmd_lines.specs.ClosingCommand.{text_come}
 use Rattle.cmd_lines.specs.Ends.{HasRead}
-use Rattle.cmd_lines.specs.LineCommand.{LineCommand, bad_in, last_state, text_of}
-use Rattle.cmd_lines.specs.LineCommandEnds.{Answers, Spends, StopsAtBadLine}
+use Rattle.cmd_lines.specs.LineCommand.{LineCommand, bad_in, last_state, text_of_lines}
+use Rattle.cmd_lines.specs.LineCommandEnds.{AnswersWhole, Spends, StopsAtBadLine}
 use Rattle.cmd_lines.specs.Lines.{lines_come, lines_of}
 use Rattle.cmd_lines.specs.declared.end.End.{End}
 use Rattle.cmd_lines.specs.declared.end.End.TheVariants.{Done, ReadFault, WriteFault, Memory, BadLine, Spent}
@@ -17,7 +17,7 @@ pub record AnswersAndCloses {S : Type 0} (command : LineCommand S) (closing : S 
   pub came : HasRead left left' taken true
   pub good : bad_in command (lines_of taken) ≡ None
   pub text : Appends written written'
-      (text_of command (lines_of taken) ++ closing (last_state command (lines_of taken)))
+      (text_of_lines command (lines_of taken) ++ closing (last_state command (lines_of taken)))
 
 -- a prefix was written of the text of the lines that have come, with the text at the end only where the input has ended
 pub record AnswersOrClosesPart {S : Type 0} (command : LineCommand S) (closing : S → List ℕ)
@@ -34,7 +34,7 @@ abbrev pub ClosingCommandEnds : {S : Type 0} → LineCommand S → (S → List �
 ClosingCommandEnds command closing left left' written written' Done =
     AnswersAndCloses command closing left left' written written'
 ClosingCommandEnds command closing left left' written written' ReadFault =
-    Answers command left left' written written' false
+    AnswersWhole command left left' written written' false
 ClosingCommandEnds command closing left left' written written' WriteFault =
     AnswersOrClosesPart command closing left left' written written'
 ClosingCommandEnds command closing left left' written written' Memory =

@@ -12,8 +12,8 @@ abbrev pub IsOutside : {S : Type 0} → Reaching S → List (List ℕ) → Type 
 IsOutside {S} reached lines = (s : S) (due : List ℕ) → reached lines s due → ⊥
 
 -- the line takes the handler from the old place to the new one, and this text is due for it
-abbrev pub Takes : {S : Type 0} → Reaching S → S → List ℕ → S → List ℕ → Type 0
-Takes reached old line new text =
+abbrev pub TakesLine : {S : Type 0} → Reaching S → S → List ℕ → S → List ℕ → Type 0
+TakesLine reached old line new text =
     (lines : List (List ℕ)) (due : List ℕ) → reached lines old due → reached (lines ++ line ∷ []) new (due ++ text)
 
 -- no run has the line behind lines that bring the handler here
@@ -24,12 +24,12 @@ IsOutsideAt reached old line =
 -- after the answer of a line: it was good and its text was appended, or it is outside the grammar and nothing was
 abbrev pub AfterAnswering : {S : Type 0} → Reaching S → S → List ℕ → List ℕ → S → List ℕ → Bool → Type 0
 AfterAnswering reached old line out new out' true =
-    (text : List ℕ) × (out' ≡ out ++ text) × Takes reached old line new text
+    (text : List ℕ) × (out' ≡ out ++ text) × TakesLine reached old line new text
 AfterAnswering reached old line out new out' false = (out' ≡ out) × IsOutsideAt reached old line
 
 -- the laws of the lines of a command: an empty line changes nothing, a prefix of lines that a run has is one too, and
 -- no line of a run has more than 1,023 bytes
-pub record AreLines {S : Type 0} (reached : Reaching S) : Type 0 where
+pub record AreLinesOfRun {S : Type 0} (reached : Reaching S) : Type 0 where
   pub empty : (lines : List (List ℕ)) (s : S) (due : List ℕ) → reached lines s due → reached (lines ++ [] ∷ []) s due
   pub fronts : (lines : List (List ℕ)) (line : List ℕ) (s : S) (due : List ℕ) → reached (lines ++ line ∷ []) s due
       → (before : S) × (text : List ℕ) × reached lines before text

@@ -46,8 +46,8 @@ abbrev pub last_state : {S : Type 0} → LineCommand S → List (List ℕ) → S
 last_state command lines = state_after command command.start lines
 
 -- what is written for the lines of an input; lines are counted from 1
-abbrev pub text_of : {S : Type 0} → LineCommand S → List (List ℕ) → List ℕ
-text_of command lines = answers command 1 command.start lines
+abbrev pub text_of_lines : {S : Type 0} → LineCommand S → List (List ℕ) → List ℕ
+text_of_lines command lines = answers command 1 command.start lines
 
 -- the number of the first line of an input that is outside the grammar
 abbrev pub bad_in : {S : Type 0} → LineCommand S → List (List ℕ) → Option ℕ
@@ -56,12 +56,13 @@ bad_in command lines = first_bad command 1 command.start lines
 -- the lines are good, bring the command from its start to here, and this text is due for them: whatever lines follow,
 -- the answers of these are made from here, bring it on from here, and their text goes on behind that text
 pub record IsPlayed {S : Type 0} (command : LineCommand S) (lines : List (List ℕ)) (s : S) (due : List ℕ) : Type 0 where
-  pub text : (more : List (List ℕ)) → text_of command (lines ++ more) ≡ due ++ answers command (length lines + 1) s more
+  pub text : (more : List (List ℕ))
+      → text_of_lines command (lines ++ more) ≡ due ++ answers command (length lines + 1) s more
   pub good : (more : List (List ℕ)) → bad_in command (lines ++ more) ≡ first_bad command (length lines + 1) s more
   pub state : (more : List (List ℕ)) → last_state command (lines ++ more) ≡ state_after command s more
 
 -- the answer of a line was made: the command stands where the function says and the line's text was appended, or the
 -- line is outside the grammar and nothing was
-abbrev pub IsAnswer : {S : Type 0} → Option (S × List ℕ) → List ℕ → S → List ℕ → Bool → Type 0
-IsAnswer answer out new out' good =
+abbrev pub IsLineAnswer : {S : Type 0} → Option (S × List ℕ) → List ℕ → S → List ℕ → Bool → Type 0
+IsLineAnswer answer out new out' good =
     MatchOption answer ((good ≡ false) × (out' ≡ out)) (λ next. (good ≡ true) × (new ≡ next.0) × (out' ≡ out ++ next.1))

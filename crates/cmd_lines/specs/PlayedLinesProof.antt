@@ -4,8 +4,8 @@ use Rattle.std.specs.Prelude.{Option, nat_lt}
 use Rattle.std.specs.Option.{option_map_or}
 use Rattle.std.proofs.lemmas.Bool.{lt-ltb, ltb-true, ltb-false}
 use Rattle.fics_words.specs.Line.{most_line_bytes}
-use Rattle.cmd_lines.specs.Handling.{AreLines, IsOutside, bad_line}
-use Rattle.cmd_lines.specs.LineCommand.{LineCommand, line_answer, answers, first_bad, state_after, last_state, text_of, bad_in, IsPlayed}
+use Rattle.cmd_lines.specs.Handling.{AreLinesOfRun, IsOutside, bad_line}
+use Rattle.cmd_lines.specs.LineCommand.{LineCommand, line_answer, answers, first_bad, state_after, last_state, text_of_lines, bad_in, IsPlayed}
 
 module _ {S : Type 0} (command : LineCommand S) where
   -- a long line has no answer
@@ -46,7 +46,7 @@ module _ {S : Type 0} (command : LineCommand S) where
       omega (arith, length-append lines (line ∷ [])) in
       record {
         text = λ more.
-            ap (text_of command) (append_assoc lines (line ∷ []) more) ∙ p.text (line ∷ more)
+            ap (text_of_lines command) (append_assoc lines (line ∷ []) more) ∙ p.text (line ∷ more)
             ∙ ap (λ l. due ++ l) (answers-answer_line (length lines + 1) state line more (Some (next, text)) e)
             ∙ sym (append_assoc due text (answers command (length lines + 1 + 1) next more))
             ∙ ap (λ n. (due ++ text) ++ answers command n next more) number;
@@ -137,7 +137,7 @@ module _ {S : Type 0} (command : LineCommand S) where
       )
 
   -- an empty line changes nothing, a prefix of good lines is good, and no good line has more than 1,023 bytes
-  pub played_lines : AreLines (IsPlayed command)
+  pub played_lines : AreLinesOfRun (IsPlayed command)
   played_lines = record {
     empty = λ lines s due p.
         subst (λ (text : List ℕ). IsPlayed command (lines ++ [] ∷ []) s text) (append-nil due)

@@ -20,7 +20,7 @@ use std::marker::Model;
 /// line at which an input stops it, follow from that function alone.
 pub trait LineAnswerer: Drop {
     ghost use Rattle.std.specs.Prelude.{◌≡◌, ◌<◌, ◌≤◌, length, IfOk};
-    ghost use Rattle.cmd_lines.specs.LineCommand.{IsAnswer, LineCommand};
+    ghost use Rattle.cmd_lines.specs.LineCommand.{IsLineAnswer, LineCommand};
 
     /// Where the command starts if nothing else is said, the function, and the bytes that end the line which tells of
     /// one outside the grammar.
@@ -32,7 +32,7 @@ pub trait LineAnswerer: Drop {
         requires some { 0 < length line.now }
         requires short { length line.now ≤ most_line_bytes }
         ensures { IfOk result
-            (λ good. IsAnswer (command.answer self.old line.now) out.old.items self.new out.new.items good) };
+            (λ good. IsLineAnswer (command.answer self.old line.now) out.old.items self.new out.new.items good) };
 
     /// The bytes that end a line.
     fn ending(&self) -> &'static [u8]

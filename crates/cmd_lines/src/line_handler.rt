@@ -6,7 +6,7 @@ use memory::NoMemory;
 pub trait LineHandler: Drop {
     ghost use Rattle.std.specs.Prelude.{◌≡◌, ◌<◌, ◌≤◌, ℕ, List, length, IfOk, OnOk};
     ghost use Rattle.fics_words.specs.Line.{most_line_bytes};
-    ghost use Rattle.cmd_lines.specs.Handling.{AfterAnswering, AreLines};
+    ghost use Rattle.cmd_lines.specs.Handling.{AfterAnswering, AreLinesOfRun};
 
     /// These lines have brought the handler from where it starts to where it stands, and this text is due for them.
     ghost reached: { Self → List (List ℕ) → Self → List ℕ → Type 0 };

@@ -15,13 +15,13 @@ use Rattle.cmd_store.specs.declared.outcome.Outcome.{Outcome}
 use Rattle.cmd_store.specs.declared.outcome.Outcome.TheVariants as outcome
 use Rattle.cmd_pgn.specs.Exports.{exports}
 use Rattle.cmd_pgn.specs.Games.{AreStoreGames}
-use Rattle.cmd_pgn.specs.PgnEnds.{PgnEnds, Writes}
+use Rattle.cmd_pgn.specs.PgnEnds.{PgnEnds, WritesText}
 use Rattle.cmd_pgn.proofs.StoreGames.{store_games}
 
 -- the store was opened, which wrote nothing, and then its games were written
 exported : (table : Option Records) (old mid new : Option (List ℕ)) (games : List Shelved) (end : Outcome)
     → AreStoreGames table games → Appends old mid []
-    → Writes mid new (exports games) end → PgnEnds table old new end
+    → WritesText mid new (exports games) end → PgnEnds table old new end
 exported table old mid new games (outcome.Read Done) stored none w =
     record { games = games; stored = stored; text = Appends-trans old mid new [] (exports games) none w }
 exported table old mid new games (outcome.Read ReadFault) stored none w = absurd w
@@ -42,6 +42,6 @@ exported table old mid new games outcome.NoGame stored none w = absurd w
 pub store_exported : (table : Option Records) (old mid new : Option (List ℕ)) (lobby : LobbyState) (end : Outcome)
     → IsWellFormed lobby → AreSpelled lobby
     → IfSome table (λ told. HasLoaded told lobby) → IfSome table IsGoodStore → Appends old mid []
-    → Writes mid new (exports lobby.shelf.games) end → PgnEnds table old new end
+    → WritesText mid new (exports lobby.shelf.games) end → PgnEnds table old new end
 store_exported table old mid new lobby end formed spelled loaded good none w =
     exported table old mid new lobby.shelf.games end (store_games table lobby formed spelled loaded good) none w

@@ -36,8 +36,8 @@ PgnEnds table old new outcome.KeeperFault = Appends old new []
 PgnEnds table old new _ = ⊥
 
 -- this text was written, all of it, or a beginning of it at a fault of writing and out of memory
-abbrev pub Writes : Option (List ℕ) → Option (List ℕ) → List ℕ → Outcome → Type 0
-Writes old new text (outcome.Read Done) = Appends old new text
-Writes old new text (outcome.Read WriteFault) = AppendsFront old new text
-Writes old new text (outcome.Read Memory) = AppendsFront old new text
-Writes old new text _ = ⊥
+abbrev pub WritesText : Option (List ℕ) → Option (List ℕ) → List ℕ → Outcome → Type 0
+WritesText old new text (outcome.Read Done) = Appends old new text
+WritesText old new text (outcome.Read WriteFault) = AppendsFront old new text
+WritesText old new text (outcome.Read Memory) = AppendsFront old new text
+WritesText old new text _ = ⊥

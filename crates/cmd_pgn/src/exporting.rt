@@ -6,7 +6,7 @@ ghost use Rattle.edge_traits.specs.Keeper.{Stays};
 ghost use Rattle.lobby_state.specs.WellFormed.{IsWellFormed};
 ghost use Rattle.lobby_load.specs.Calling.{LoadsOnce};
 ghost use Rattle.cmd_store.specs.Outcomes.{EndsAt, OnKeeperFault, OnWriteFault};
-ghost use Rattle.cmd_pgn.specs.PgnEnds.{PgnEnds, Writes};
+ghost use Rattle.cmd_pgn.specs.PgnEnds.{PgnEnds, WritesText};
 ghost use Rattle.cmd_pgn.specs.Exports.{exports};
 
 use crate::writing::write_games;
@@ -39,7 +39,7 @@ pub fn pgn<K: Sink, P: Keeper>(alloc: Global, sink: &mut K, keeper: &mut P) -> O
 fn write_shelf<K: Sink>(alloc: Global, lobby: &Lobby, sink: &mut K) -> Outcome
     ensures well_formed { IsWellFormed lobby.now }
     ensures calm { OnKeeperFault result ⊥ }
-    ensures writes { Writes (K.written sink.old) (K.written sink.new) (exports lobby.now.shelf.games) result }
+    ensures writes { WritesText (K.written sink.old) (K.written sink.new) (exports lobby.now.shelf.games) result }
     ensures write_cause { OnWriteFault result (Rose (K.faults sink.old) (K.faults sink.new)) }
     ensures write_counted { K.faults sink.old ≤ K.faults sink.new }
 {

@@ -11,14 +11,14 @@ use Rattle.session_core.specs.declared.input.Input.TheVariants as input
 use Rattle.session_core.specs.declared.input.Wrote.{Wrote}
 use Rattle.session_core.specs.Memory.{MemoryState}
 use Rattle.session_core.specs.Texts.{opening_text}
-use Rattle.cmd_replay.specs.Evening.{HasAnswered, HasGone, HasTaken}
+use Rattle.cmd_replay.specs.Evening.{EventAnswered, HasGone, HasTaken}
 
 -- a session connects
 pub connected : (what : ScriptEvent) (session moment : ℕ) (server : ServerState) (memory : MemoryState) (bytes : List ℕ)
     → what ≡ event.Connect → bytes ≡ opening_text
-    → HasAnswered what session moment server memory server memory bytes
+    → EventAnswered what session moment server memory server memory bytes
 connected what session moment server memory bytes is text =
-    subst (λ (w : ScriptEvent). HasAnswered w session moment server memory server memory bytes) (sym is)
+    subst (λ (w : ScriptEvent). EventAnswered w session moment server memory server memory bytes) (sym is)
     (record {
       entries = [];
       does = record { text = []; follows = (refl, refl, refl); answer = text };
@@ -29,9 +29,9 @@ connected what session moment server memory bytes is text =
 pub cut : (what : ScriptEvent) (session moment : ℕ) (old new : ServerState) (before after : MemoryState)
     (bytes : List ℕ)
     → what ≡ event.Cut → bytes ≡ []
-    → HasGone before session moment old new after → HasAnswered what session moment old before new after bytes
+    → HasGone before session moment old new after → EventAnswered what session moment old before new after bytes
 cut what session moment old new before after bytes is none gone =
-    subst (λ (w : ScriptEvent). HasAnswered w session moment old before new after bytes) (sym is)
+    subst (λ (w : ScriptEvent). EventAnswered w session moment old before new after bytes) (sym is)
     (record {
       entries = gone.entries;
       does = record { text = []; follows = gone.follows; answer = none };
@@ -44,12 +44,12 @@ module _ (result : Result Wrote NoMemory) (what : ScriptEvent) (session moment :
   pub plain_taken : (text copy : List ℕ) → what ≡ event.Plain text → copy ≡ text
       → IfOk result
       (λ wrote. HasTaken (input.Line (incoming.Plain copy)) session moment old before new after wrote.bytes.items)
-      → IfOk result (λ wrote. HasAnswered what session moment old before new after wrote.bytes.items)
+      → IfOk result (λ wrote. EventAnswered what session moment old before new after wrote.bytes.items)
   plain_taken text copy is same =
       let copied : what ≡ event.Plain copy = is ∙ ap event.Plain (sym same) in
       IfOk-weaker result _ _
       (λ wrote h.
-      subst (λ (w : ScriptEvent). HasAnswered w session moment old before new after wrote.bytes.items) (sym copied)
+      subst (λ (w : ScriptEvent). EventAnswered w session moment old before new after wrote.bytes.items) (sym copied)
       (record {
         entries = h.entries;
         does = record { text = h.text; follows = h.follows; answer = h.answer };
@@ -61,12 +61,12 @@ module _ (result : Result Wrote NoMemory) (what : ScriptEvent) (session moment :
       → IfOk result
       (λ wrote.
       HasTaken (input.Line (incoming.Stamped copy stamp)) session moment old before new after wrote.bytes.items)
-      → IfOk result (λ wrote. HasAnswered what session moment old before new after wrote.bytes.items)
+      → IfOk result (λ wrote. EventAnswered what session moment old before new after wrote.bytes.items)
   stamped_taken stamp text copy is same =
       let copied : what ≡ event.Stamped stamp copy = is ∙ ap (event.Stamped stamp) (sym same) in
       IfOk-weaker result _ _
       (λ wrote h.
-      subst (λ (w : ScriptEvent). HasAnswered w session moment old before new after wrote.bytes.items) (sym copied)
+      subst (λ (w : ScriptEvent). EventAnswered w session moment old before new after wrote.bytes.items) (sym copied)
       (record {
         entries = h.entries;
         does = record { text = h.text; follows = h.follows; answer = h.answer };

@@ -5,7 +5,7 @@ use Rattle.memory.specs.declared.NoMemory.{NoMemory}
 use Rattle.fics_words.specs.Line.{IsLine}
 use Rattle.histories.specs.History.{Legal}
 use Rattle.histories.proofs.Histories.{legal_back}
-use Rattle.cmd_lines.specs.Handling.{AfterAnswering, IsOutsideAt, Takes}
+use Rattle.cmd_lines.specs.Handling.{AfterAnswering, IsOutsideAt, TakesLine}
 use Rattle.cmd_lines.specs.Lines.{is_written}
 use Rattle.one_server.specs.declared.part.Part.{Part}
 use Rattle.one_server.specs.House.{house}
@@ -14,11 +14,11 @@ use Rattle.one_server.specs.Server.{ServerState, parts_in}
 use Rattle.replay_core.specs.declared.order.Attendance.{Attendance}
 use Rattle.replay_core.specs.declared.script.ScriptLine.{ScriptLine}
 use Rattle.replay_core.specs.declared.seat_line.SeatLine.{SeatLine}
-use Rattle.replay_core.specs.Order.{Arrival, MayCome, left_of}
+use Rattle.replay_core.specs.Order.{Arrival, LineMayCome, left_of}
 use Rattle.replay_core.specs.Attendance.{IsAfter}
-use Rattle.replay_core.specs.SeatLine.{IsSeatLine, players_of, seat_text}
+use Rattle.replay_core.specs.SeatLine.{IsSeatLine, players_wanted, seat_text}
 use Rattle.session_core.specs.Memory.{MemoryState, newcomer}
-use Rattle.cmd_replay.specs.Evening.{EveningState, Does, HasDone, HasMade, AfterLeaving, AreMemories, IsClosed, IsNext, IsNoNext, IsOrdered, KeepsOrder, LeaveInOrder, MayFollow, Reached, Row, Seats, Comes, arrivals_of, history_of, final_moment, left_by, line_of, opening_parts, parts_after, quit_of, remembered, seated_by, seated_from, seating_acts}
+use Rattle.cmd_replay.specs.Evening.{EveningState, EventDoes, HasDone, HasMade, AfterLeaving, AreMemories, IsClosed, IsNextLine, IsNoNext, IsOrdered, KeepsOrder, LeaveInOrder, RowMayFollow, Reached, Row, Seats, Comes, arrivals_of, history_of, final_moment, sessions_left, line_of, opening_parts, parts_after, quit_of, remembered, seated_by, seated_from, seating_acts}
 use Rattle.cmd_replay.specs.EveningLinesProof.{no_snoc, none_has, one_line_more}
 use Rattle.cmd_replay.specs.EveningsProof.{came-append, seated-push}
 use Rattle.cmd_replay.proofs.Memories.{one_memory, seated_memories, new_memories}
@@ -44,7 +44,7 @@ written_line (byte ∷ line) some = refl
 
 -- ---- lines outside the grammar
 
-row_line : (before : List Row) (row : Row) → MayFollow before row → IsLine (line_of row)
+row_line : (before : List Row) (row : Row) → RowMayFollow before row → IsLine (line_of row)
 row_line before (Seats seat made) h = h.short
 row_line before (Comes line made bytes memory) h = h.short
 
@@ -72,7 +72,7 @@ keeps_some progress order e rows h = (subst (λ (o : Option Attendance). IsOrder
 no_next_row : (progress : Attendance) (rows : List Row) (line : List ℕ)
     → IsAfter progress (seated_by rows) (arrivals_of rows) → IsNoNext progress line
     → (rows ≡ [] → (seat : SeatLine) → IsSeatLine seat → line ≢ seat_text seat)
-    → (row : Row) → line ≡ line_of row → MayFollow rows row → ⊥
+    → (row : Row) → line ≡ line_of row → RowMayFollow rows row → ⊥
 no_next_row progress rows line after no_next no_seat (Seats seat made) e h = no_seat h.first seat h.spelled e
 no_next_row progress rows line after no_next no_seat (Comes next made bytes memory) e h =
     no_next (seated_by rows) (arrivals_of rows) after next h.spelled e h.order
@@ -118,8 +118,8 @@ pub seats_taken : (old new : EveningState) (seat : SeatLine) (progress : Attenda
     → new.server.opening ≡ old.server.opening
     → HasMade (seating_acts seat.names seat.terms) old.server.log new.server.log
     → Legal house new.server.opening new.server.log
-    → new.order ≡ Some progress → IsAfter progress (players_of seat.terms.variant) [] → new.moment ≡ old.moment
-    → new.memories ≡ seated_from 0 seat.names old.memories → Takes Reached old (seat_text seat) new []
+    → new.order ≡ Some progress → IsAfter progress (players_wanted seat.terms.variant) [] → new.moment ≡ old.moment
+    → new.memories ≡ seated_from 0 seat.names old.memories → TakesLine Reached old (seat_text seat) new []
 seats_taken old new seat progress first some short spelled opening made legal order after moment memories lines due at =
     let entries = made.entries in
     let row : Row = Seats seat entries in
@@ -148,9 +148,9 @@ seats_taken old new seat progress first some short spelled opening made legal or
 
 -- and is then answered
 pub seats_answered : (old new : EveningState) (line out : List ℕ) (seat : SeatLine) → line ≡ seat_text seat
-    → Takes Reached old (seat_text seat) new [] → AfterAnswering Reached old line out new out true
+    → TakesLine Reached old (seat_text seat) new [] → AfterAnswering Reached old line out new out true
 seats_answered old new line out seat text takes =
-    ([], sym (append-nil out), subst (λ (l : List ℕ). Takes Reached old l new []) (sym text) takes)
+    ([], sym (append-nil out), subst (λ (l : List ℕ). TakesLine Reached old l new []) (sym text) takes)
 
 last-push : (lines : List Arrival) (came : Arrival) → final_moment (lines ++ came ∷ []) ≡ came.line.moment
 last-push [] came = refl
@@ -160,13 +160,13 @@ last-push (first ∷ next ∷ lines) came = last-push (next ∷ lines) came
 -- the line of a session is taken
 pub coming_taken : (old new : EveningState) (line : List ℕ) (next : ScriptLine) (progress then : Attendance)
     (before kept : MemoryState) (out out' : List ℕ) (quit : Bool)
-    → KeepsOrder progress old.order → 0 < length line → IsLine line → IsNext progress line next
+    → KeepsOrder progress old.order → 0 < length line → IsLine line → IsNextLine progress line next
     → slice_get old.memories (next.session - 1) ≡ Some before
     → new.memories ≡ slice_set old.memories (next.session - 1) kept
     → HasDone next.event next.session next.moment old.server before out new.server kept out'
     → quit ≡ quit_of next.event kept → Legal house new.server.opening new.server.log
     → new.order ≡ Some then
-    → ((seated : ℕ) (lines : List Arrival) → IsAfter progress seated lines → MayCome seated lines next → IsAfter
+    → ((seated : ℕ) (lines : List Arrival) → IsAfter progress seated lines → LineMayCome seated lines next → IsAfter
     then seated (lines ++ record { line = next; quit = quit } ∷ []))
     → new.moment ≡ next.moment → AfterAnswering Reached old line out new out' true
 coming_taken old new line next progress
@@ -198,7 +198,8 @@ coming_taken old new line next progress
             short = subst IsLine is_next.text short;
             order = may;
             does =
-                subst (λ (m : MemoryState). Does next.event m next.session next.moment entries done.bytes kept) knew
+                subst (λ (m : MemoryState). EventDoes next.event m next.session next.moment entries done.bytes kept)
+                knew
                 done.does;
             legal = legal_more at.rows entries new.server server legal;
           })
@@ -228,7 +229,9 @@ closed_after old new progress order leaving legal lines due at =
     (ap (λ (s : ServerState). s.log) left.1) in
     record {
       entries = left.0;
-      leave = subst (λ (moment : ℕ). LeaveInOrder (remembered at.rows) moment (left_by at.rows) left.0) at.last left.2;
+      leave =
+          subst (λ (moment : ℕ). LeaveInOrder (remembered at.rows) moment (sessions_left at.rows) left.0) at.last
+          left.2;
       more = left.1;
       legal =
           subst (λ (parts : List Part). Legal house parts left.0) (sym (parts_at lines old due at))
@@ -243,13 +246,15 @@ nobody_left = refl
 pub closed_before : (old new : EveningState) → old.order ≡ None → new.server ≡ old.server → IsClosed old new
 closed_before old new first server lines due at =
     let none : [] ≡ at.rows = sym (no_rows old.order at.rows at.ordered first) in
-    let nobody : LeaveInOrder (remembered []) (final_moment (arrivals_of [])) (left_by []) [] =
+    let nobody : LeaveInOrder (remembered []) (final_moment (arrivals_of [])) (sessions_left []) [] =
     subst (λ (sessions : List ℕ). LeaveInOrder (remembered []) 0 sessions []) (sym nobody_left) refl in
     record {
       entries = [];
       leave =
           subst
-          (λ (rows : List Row). LeaveInOrder (remembered rows) (final_moment (arrivals_of rows)) (left_by rows) []) none
+          (λ (rows : List Row).
+          LeaveInOrder (remembered rows) (final_moment (arrivals_of rows)) (sessions_left rows) [])
+          none
           nobody;
       more = server ∙ ap (λ (l : Log). record old.server { log = l }) (sym (append-nil old.server.log));
       legal = tt;

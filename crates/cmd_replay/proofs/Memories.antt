@@ -6,7 +6,7 @@ use Rattle.std.proofs.lemmas.List.{get_or-replicate, get_or-set_other, get_or-se
 use Rattle.std.proofs.lemmas.Option.{get_or_from_slice_get, slice_get-get_or}
 use Rattle.one_server.specs.Running.{Log}
 use Rattle.replay_core.specs.declared.script.ScriptLine.{ScriptLine}
-use Rattle.session_core.specs.Memory.{MemoryState, newcomer, seated}
+use Rattle.session_core.specs.Memory.{MemoryState, newcomer, seated_memory}
 use Rattle.replay_core.specs.declared.seat_line.SeatLine.{SeatLine}
 use Rattle.cmd_replay.specs.Evening.{AreMemories, Row, Seats, Comes, remembered, seated_from}
 use Rattle.cmd_replay.specs.EveningsProof.{remembered-push}
@@ -66,37 +66,39 @@ length-seated_from : (place : ℕ) (names : List (List ℕ)) (memories : List Me
     → length (seated_from place names memories) ≡ length memories
 length-seated_from place [] memories = refl
 length-seated_from place (name ∷ names) memories =
-    length-seated_from (place + 1) names (slice_set memories place (seated name))
-    ∙ length-set memories place (seated name)
+    length-seated_from (place + 1) names (slice_set memories place (seated_memory name))
+    ∙ length-set memories place (seated_memory name)
 
 -- those before them are as they were
 before_seated : (place : ℕ) (names : List (List ℕ)) (memories : List MemoryState) (p : ℕ) → p < place
     → get_or (seated_from place names memories) p newcomer ≡ get_or memories p newcomer
 before_seated place [] memories p low = refl
 before_seated place (name ∷ names) memories p low =
-    before_seated (place + 1) names (slice_set memories place (seated name)) p (omega (arith, low))
-    ∙ get_or-set_other memories place p (seated name) newcomer (λ e. omega (arith, e, low))
+    before_seated (place + 1) names (slice_set memories place (seated_memory name)) p (omega (arith, low))
+    ∙ get_or-set_other memories place p (seated_memory name) newcomer (λ e. omega (arith, e, low))
 
 -- each name has its session, and those behind them are as they were
 among_seated : (place : ℕ) (names : List (List ℕ)) (memories : List MemoryState) (p : ℕ) → place + p < length memories
     → get_or (seated_from place names memories) (place + p) newcomer
-    ≡ option_map_or seated (slice_get names p) (get_or memories (place + p) newcomer)
+    ≡ option_map_or seated_memory (slice_get names p) (get_or memories (place + p) newcomer)
 among_seated place [] memories p inside = refl
 among_seated place (name ∷ names) memories zero inside =
     let here : place + 0 ≡ place = omega arith in
     let within : place < length memories = omega (arith, inside) in
-    ap (λ (k : ℕ). get_or (seated_from (place + 1) names (slice_set memories place (seated name))) k newcomer) here
-    ∙ before_seated (place + 1) names (slice_set memories place (seated name)) place (omega arith)
-    ∙ get_or-set_same memories place (seated name) newcomer within
+    ap (λ (k : ℕ). get_or (seated_from (place + 1) names (slice_set memories place (seated_memory name))) k newcomer)
+    here
+    ∙ before_seated (place + 1) names (slice_set memories place (seated_memory name)) place (omega arith)
+    ∙ get_or-set_same memories place (seated_memory name) newcomer within
 among_seated place (name ∷ names) memories (suc p) inside =
-    let set = slice_set memories place (seated name) in
+    let set = slice_set memories place (seated_memory name) in
     let next : place + suc p ≡ place + 1 + p = omega arith in
-    let within : place + 1 + p < length set = omega (arith, inside, length-set memories place (seated name)) in
+    let within : place + 1 + p < length set = omega (arith, inside, length-set memories place (seated_memory name)) in
     let other : get_or set (place + 1 + p) newcomer ≡ get_or memories (place + 1 + p) newcomer =
-    get_or-set_other memories place (place + 1 + p) (seated name) newcomer (λ e. omega (arith, e)) in
+    get_or-set_other memories place (place + 1 + p) (seated_memory name) newcomer (λ e. omega (arith, e)) in
     ap (λ (k : ℕ). get_or (seated_from (place + 1) names set) k newcomer) next
     ∙ among_seated (place + 1) names set p within
-    ∙ ap (option_map_or seated (slice_get names p)) (other ∙ ap (λ (k : ℕ). get_or memories k newcomer) (sym next))
+    ∙ ap (option_map_or seated_memory (slice_get names p))
+    (other ∙ ap (λ (k : ℕ). get_or memories k newcomer) (sym next))
 
 -- the first sessions are seated, and the others are new
 pub seated_memories : (memories : List MemoryState) (seat : SeatLine) (made : Log)
@@ -117,5 +119,5 @@ seated_memories memories seat made h =
           ∙ ap Some
           (ap (λ (k : ℕ). get_or set k newcomer) (sym whole)
           ∙ among_seated 0 seat.names memories place (omega (arith, h.count, first, last))
-          ∙ ap (option_map_or seated (slice_get seat.names place)) new);
+          ∙ ap (option_map_or seated_memory (slice_get seat.names place)) new);
     }

@@ -25,16 +25,16 @@ use Rattle.replay_core.specs.declared.script.ScriptEvent.{ScriptEvent}
 use Rattle.replay_core.specs.declared.script.ScriptEvent.TheVariants as event
 use Rattle.replay_core.specs.declared.script.ScriptLine.{ScriptLine}
 use Rattle.replay_core.specs.declared.seat_line.SeatLine.{SeatLine}
-use Rattle.replay_core.specs.Order.{Arrival, MayCome, is_here, left_of}
+use Rattle.replay_core.specs.Order.{Arrival, LineMayCome, is_here, left_of}
 use Rattle.replay_core.specs.Attendance.{IsAfter}
 use Rattle.replay_core.specs.Script.{IsScriptLine, script_text}
-use Rattle.replay_core.specs.SeatLine.{IsSeatLine, players_of, seat_text}
+use Rattle.replay_core.specs.SeatLine.{IsSeatLine, players_wanted, seat_text}
 use Rattle.session_core.specs.declared.input.Input.{Input}
 use Rattle.session_core.specs.declared.input.Input.TheVariants as input
-use Rattle.session_core.specs.Course.{Course, Done, Follows, timed}
+use Rattle.session_core.specs.Course.{Course, Done, Follows, act_at}
 use Rattle.session_core.specs.Going.{departing}
-use Rattle.session_core.specs.Inputs.{answer_text, input_course}
-use Rattle.session_core.specs.Memory.{MemoryState, is_gone, newcomer, seated}
+use Rattle.session_core.specs.Inputs.{text_for_input, input_course}
+use Rattle.session_core.specs.Memory.{MemoryState, is_gone, newcomer, seated_memory}
 use Rattle.session_core.specs.Texts.{opening_text}
 use Rattle.cmd_lines.specs.Lines.{is_written}
 use Rattle.cmd_replay.specs.Tagged.{tagged}
@@ -56,11 +56,11 @@ course_of (event.Ack stamp) memory = input_course (input.Line (incoming.Ack stam
 abbrev pub bytes_of : ScriptEvent → MemoryState → MemoryState → List ℕ → List ℕ
 bytes_of event.Connect before after text = opening_text
 bytes_of event.Cut before after text = []
-bytes_of event.Quiet before after text = answer_text input.Quiet before after text
-bytes_of (event.Plain line) before after text = answer_text (input.Line (incoming.Plain line)) before after text
+bytes_of event.Quiet before after text = text_for_input input.Quiet before after text
+bytes_of (event.Plain line) before after text = text_for_input (input.Line (incoming.Plain line)) before after text
 bytes_of (event.Stamped stamp line) before after text =
-    answer_text (input.Line (incoming.Stamped line stamp)) before after text
-bytes_of (event.Ack stamp) before after text = answer_text (input.Line (incoming.Ack stamp)) before after text
+    text_for_input (input.Line (incoming.Stamped line stamp)) before after text
+bytes_of (event.Ack stamp) before after text = text_for_input (input.Line (incoming.Ack stamp)) before after text
 
 -- whether it was a `quit` that was answered
 abbrev pub quit_of : ScriptEvent → MemoryState → Bool
@@ -72,7 +72,7 @@ quit_of (event.Stamped stamp line) after = is_gone after
 quit_of (event.Ack stamp) after = is_gone after
 
 -- the event takes its session from what it remembered to what it remembers then, by these entries, and is answered so
-pub record Does (what : ScriptEvent) (before : MemoryState) (session moment : ℕ) (made : Log) (bytes : List ℕ)
+pub record EventDoes (what : ScriptEvent) (before : MemoryState) (session moment : ℕ) (made : Log) (bytes : List ℕ)
     (after : MemoryState) : Type 0 where
   pub text : List ℕ
   pub follows : Follows (course_of what before) session moment made text after
@@ -121,13 +121,14 @@ arrivals_of (Comes line made bytes memory ∷ rows) =
 -- how many sessions are seated from the start: one for each player of the seat line, which can only come first
 abbrev pub seated_by : List Row → ℕ
 seated_by [] = 0
-seated_by (Seats seat made ∷ rows) = players_of seat.terms.variant
+seated_by (Seats seat made ∷ rows) = players_wanted seat.terms.variant
 seated_by (Comes line made bytes memory ∷ rows) = 0
 
 -- what a session remembers after one row more: the seat line has its sessions enter under its names, and a session's
 -- line leaves what the session remembers then
 abbrev pub remembered_after : ℕ → MemoryState → Row → MemoryState
-remembered_after session before (Seats seat made) = option_map_or seated (slice_get seat.names (session - 1)) before
+remembered_after session before (Seats seat made) =
+    option_map_or seated_memory (slice_get seat.names (session - 1)) before
 remembered_after session before (Comes line made bytes memory) = if line.session == session then memory else before
 
 -- what a session remembers after the rows, from 1 on; before the first it is new
@@ -147,37 +148,37 @@ abbrev pub asked_of : Entry Timed Reply → ℕ × Timed
 asked_of e = (e.session, e.act)
 
 -- the acts that seat players, all at moment 0: a session enters under a name
-abbrev pub entering : ℕ → List ℕ → ℕ × Timed
-entering session name = (session, timed 0 (Lobby (lobby_act.Enter (Some name) None)))
+abbrev pub enters_as : ℕ → List ℕ → ℕ × Timed
+enters_as session name = (session, act_at 0 (Lobby (lobby_act.Enter (Some name) None)))
 
 -- it asks the player of that name to be its partner
-abbrev pub asking : ℕ → List ℕ → ℕ × Timed
-asking session name = (session, timed 0 (Lobby (lobby_act.Partner (Some (key_of name)))))
+abbrev pub asks_partner : ℕ → List ℕ → ℕ × Timed
+asks_partner session name = (session, act_at 0 (Lobby (lobby_act.Partner (Some (key_of name)))))
 
 -- the first session challenges the player of that name
 abbrev pub challenging : List ℕ → Terms → ℕ × Timed
-challenging name terms = (1, timed 0 (Lobby (lobby_act.Match (key_of name) terms)))
+challenging name terms = (1, act_at 0 (Lobby (lobby_act.Match (key_of name) terms)))
 
 -- the second accepts
-abbrev pub accepting : ℕ × Timed
-accepting = (2, timed 0 (Pair (pair_act.Accept None)))
+abbrev pub second_accepts : ℕ × Timed
+second_accepts = (2, act_at 0 (Pair (pair_act.Accept None)))
 
 -- a session takes what waits for it
 abbrev pub fetching : ℕ → ℕ × Timed
-fetching session = (session, timed 0 (Lobby lobby_act.Fetch))
+fetching session = (session, act_at 0 (Lobby lobby_act.Fetch))
 
 -- the acts of a seat line: all enter in the order of their names; where they are four the first and the fourth become
 -- partners, and the second and the third; the first challenges the second, who accepts; and all take what waits for
 -- them
 abbrev pub seating_acts : List (List ℕ) → Terms → List (ℕ × Timed)
 seating_acts (one ∷ two ∷ []) terms =
-    entering 1 one ∷ entering 2 two
-    ∷ challenging two terms ∷ accepting
+    enters_as 1 one ∷ enters_as 2 two
+    ∷ challenging two terms ∷ second_accepts
     ∷ fetching 1 ∷ fetching 2 ∷ []
 seating_acts (one ∷ two ∷ three ∷ four ∷ []) terms =
-    entering 1 one ∷ entering 2 two ∷ entering 3 three ∷ entering 4 four
-    ∷ asking 1 four ∷ asking 4 one ∷ asking 2 three ∷ asking 3 two
-    ∷ challenging two terms ∷ accepting
+    enters_as 1 one ∷ enters_as 2 two ∷ enters_as 3 three ∷ enters_as 4 four
+    ∷ asks_partner 1 four ∷ asks_partner 4 one ∷ asks_partner 2 three ∷ asks_partner 3 two
+    ∷ challenging two terms ∷ second_accepts
     ∷ fetching 1 ∷ fetching 2 ∷ fetching 3 ∷ fetching 4 ∷ []
 seating_acts _ terms = []
 
@@ -201,19 +202,19 @@ pub record IsComing (before : List Row) (line : ScriptLine) (made : Log) (bytes 
     (memory : MemoryState) : Type 0 where
   pub spelled : IsScriptLine line
   pub short : IsLine (script_text line)
-  pub order : MayCome (seated_by before) (arrivals_of before) line
-  pub does : Does line.event (remembered before line.session) line.session line.moment made bytes memory
+  pub order : LineMayCome (seated_by before) (arrivals_of before) line
+  pub does : EventDoes line.event (remembered before line.session) line.session line.moment made bytes memory
   pub legal : Legal house (parts_after before) made
 
 -- the row may follow these
-abbrev pub MayFollow : List Row → Row → Type 0
-MayFollow before (Seats seat made) = IsSeating before seat made
-MayFollow before (Comes line made bytes memory) = IsComing before line made bytes memory
+abbrev pub RowMayFollow : List Row → Row → Type 0
+RowMayFollow before (Seats seat made) = IsSeating before seat made
+RowMayFollow before (Comes line made bytes memory) = IsComing before line made bytes memory
 
 -- each of the later rows may follow all that come before it
 abbrev pub FollowInOrder : List Row → List Row → Type 0
 FollowInOrder before [] = Unit {0}
-FollowInOrder before (row ∷ later) = MayFollow before row × FollowInOrder (before ++ row ∷ []) later
+FollowInOrder before (row ∷ later) = RowMayFollow before row × FollowInOrder (before ++ row ∷ []) later
 
 -- the rows of an evening up to here
 abbrev pub IsEvening : List Row → Type 0
@@ -235,14 +236,14 @@ final_moment (came ∷ []) = came.line.moment
 final_moment (came ∷ next ∷ lines) = final_moment (next ∷ lines)
 
 -- the sessions that are left after the rows
-abbrev pub left_by : List Row → List ℕ
-left_by rows = left_of (seated_by rows) (arrivals_of rows)
+abbrev pub sessions_left : List Row → List ℕ
+sessions_left rows = left_of (seated_by rows) (arrivals_of rows)
 
 -- those that were left after the rows have left, in the order of their numbers, at the moment of the last line, and
 -- nothing else was done
 pub record HasClosed (rows : List Row) (old new : ServerState) : Type 0 where
   pub entries : Log
-  pub leave : LeaveInOrder (remembered rows) (final_moment (arrivals_of rows)) (left_by rows) entries
+  pub leave : LeaveInOrder (remembered rows) (final_moment (arrivals_of rows)) (sessions_left rows) entries
   pub more : new ≡ record old { log = old.log ++ entries }
   pub legal : Legal house (parts_in old) entries
 
@@ -285,7 +286,8 @@ IsClosed old new =
 -- the memories once these names are seated, in the order of the sessions behind so many
 abbrev pub seated_from : ℕ → List (List ℕ) → List MemoryState → List MemoryState
 seated_from place [] memories = memories
-seated_from place (name ∷ names) memories = seated_from (place + 1) names (slice_set memories place (seated name))
+seated_from place (name ∷ names) memories =
+    seated_from (place + 1) names (slice_set memories place (seated_memory name))
 
 -- ---- one line of a session
 
@@ -295,31 +297,32 @@ KeepsOrder progress order =
     (rows : List Row) → IsOrdered order rows → IsAfter progress (seated_by rows) (arrivals_of rows)
 
 -- the line is this one of a session, and may come next
-pub record IsNext (progress : Attendance) (bytes : List ℕ) (line : ScriptLine) : Type 0 where
+pub record IsNextLine (progress : Attendance) (bytes : List ℕ) (line : ScriptLine) : Type 0 where
   pub spelled : IsScriptLine line
   pub text : bytes ≡ script_text line
-  pub order : (seated : ℕ) (lines : List Arrival) → IsAfter progress seated lines → MayCome seated lines line
+  pub order : (seated_memory : ℕ) (lines : List Arrival) → IsAfter progress seated_memory lines
+      → LineMayCome seated_memory lines line
 
 -- no line of a session that may come next is written so
 abbrev pub IsNoNext : Attendance → List ℕ → Type 0
 IsNoNext progress bytes =
-    (seated : ℕ) (lines : List Arrival) → IsAfter progress seated lines → (line : ScriptLine)
-    → IsScriptLine line → bytes ≡ script_text line → MayCome seated lines line → ⊥
+    (seated_memory : ℕ) (lines : List Arrival) → IsAfter progress seated_memory lines → (line : ScriptLine)
+    → IsScriptLine line → bytes ≡ script_text line → LineMayCome seated_memory lines line → ⊥
 
 -- a session's event did this, what it wrote was put out under its number, and nothing else was done
 pub record HasDone (what : ScriptEvent) (session moment : ℕ) (old : ServerState) (before : MemoryState) (out : List ℕ)
     (new : ServerState) (after : MemoryState) (out' : List ℕ) : Type 0 where
   pub entries : Log
   pub bytes : List ℕ
-  pub does : Does what before session moment entries bytes after
+  pub does : EventDoes what before session moment entries bytes after
   pub more : new ≡ record old { log = old.log ++ entries }
   pub put : out' ≡ out ++ tagged session bytes
 
 -- a session's event did this, and this is its answer
-pub record HasAnswered (what : ScriptEvent) (session moment : ℕ) (old : ServerState) (before : MemoryState)
+pub record EventAnswered (what : ScriptEvent) (session moment : ℕ) (old : ServerState) (before : MemoryState)
     (new : ServerState) (after : MemoryState) (bytes : List ℕ) : Type 0 where
   pub entries : Log
-  pub does : Does what before session moment entries bytes after
+  pub does : EventDoes what before session moment entries bytes after
   pub more : new ≡ record old { log = old.log ++ entries }
 
 -- a session took an input, and this is its answer
@@ -328,7 +331,7 @@ pub record HasTaken (asked : Input) (session moment : ℕ) (old : ServerState) (
   pub entries : Log
   pub text : List ℕ
   pub follows : Follows (input_course asked before) session moment entries text after
-  pub answer : bytes ≡ answer_text asked before after text
+  pub answer : bytes ≡ text_for_input asked before after text
   pub more : new ≡ record old { log = old.log ++ entries }
 
 -- a session went by its course of leaving to its end, from what it remembers, and nothing else was done
@@ -341,6 +344,6 @@ pub record HasGone (memory : MemoryState) (session moment : ℕ) (old new : Serv
 -- those of the first so many sessions that were here have left from what they remembered, and nothing else was done
 abbrev pub AfterLeaving : Attendance → List MemoryState → ℕ → ℕ → ServerState → ServerState → Type 0
 AfterLeaving progress memories moment count old new =
-    (seated : ℕ) (lines : List Arrival) (remember : ℕ → MemoryState) → IsAfter progress seated lines
+    (seated_memory : ℕ) (lines : List Arrival) (remember : ℕ → MemoryState) → IsAfter progress seated_memory lines
     → AreMemories memories remember → (made : Log) × (new ≡ record old { log = old.log ++ made })
-    × LeaveInOrder remember moment (filter (is_here seated lines) (range_with_len 1 count)) made
+    × LeaveInOrder remember moment (filter (is_here seated_memory lines) (range_with_len 1 count)) made

@@ -9,8 +9,8 @@ use Rattle.replay_core.specs.declared.order.Attendance.{Attendance}
 use Rattle.replay_core.specs.Order.{Arrival}
 use Rattle.replay_core.specs.Attendance.{IsAfter, presence_of}
 use Rattle.session_core.specs.Memory.{MemoryState, newcomer}
-use Rattle.cmd_replay.specs.Evening.{Row, Seats, Comes, AreMemories, EveningState, IsOrdered, Reached, IsEvening, MayFollow, line_of, entries_of, text_of_row, history_of, transcript_of, arrivals_of, final_moment, opening_parts, remembered, seated_by}
-use Rattle.cmd_lines.specs.Handling.{AreLines, IsOutside}
+use Rattle.cmd_replay.specs.Evening.{Row, Seats, Comes, AreMemories, EveningState, IsOrdered, Reached, IsEvening, RowMayFollow, line_of, entries_of, text_of_row, history_of, transcript_of, arrivals_of, final_moment, opening_parts, remembered, seated_by}
+use Rattle.cmd_lines.specs.Handling.{AreLinesOfRun, IsOutside}
 use Rattle.cmd_lines.specs.Lines.{is_written}
 use Rattle.cmd_replay.specs.EveningsProof.{evening_step, history-push, transcript-push, lines-append, one_evening}
 
@@ -153,7 +153,7 @@ empty_push lines = filter-append is_written lines ([] ∷ []) ∙ append-nil (fi
 -- a line whose row may follow takes the evening one row further
 pub one_line_more : (lines : List (List ℕ)) (evening next : EveningState) (due : List ℕ)
     (at : Reached lines evening due) (line : List ℕ) (row : Row)
-    → is_written line ≡ true → line ≡ line_of row → MayFollow at.rows row
+    → is_written line ≡ true → line ≡ line_of row → RowMayFollow at.rows row
     → next.server ≡ record { opening = opening_parts; log = history_of at.rows ++ entries_of row }
     → IsOrdered next.order (at.rows ++ row ∷ [])
     → next.moment ≡ final_moment (arrivals_of (at.rows ++ row ∷ []))
@@ -175,18 +175,18 @@ one_line_more lines evening next due at line row written spelled follows server 
 -- no evening has a line behind these where no row of it may follow
 pub none_has : (lines : List (List ℕ)) (evening : EveningState) (due : List ℕ) (at : Reached lines evening due)
     (line : List ℕ)
-    → is_written line ≡ true → ((row : Row) → line ≡ line_of row → MayFollow at.rows row → ⊥)
+    → is_written line ≡ true → ((row : Row) → line ≡ line_of row → RowMayFollow at.rows row → ⊥)
     → IsOutside Reached (lines ++ line ∷ [])
 none_has lines evening due at line written none other text reached =
     let ends =
     ends_with (filter is_written lines) line reached.rows (sym (written_push lines line written) ∙ reached.spelled) in
     let step = (evening_step ends.front ends.last).0 (subst IsEvening ends.parts reached.follow) in
     let same : ends.front ≡ at.rows = one_evening ends.front at.rows step.0 at.follow (sym ends.before ∙ at.spelled) in
-    none ends.last ends.spelled (subst (λ (rows : List Row). MayFollow rows ends.last) same step.1)
+    none ends.last ends.spelled (subst (λ (rows : List Row). RowMayFollow rows ends.last) same step.1)
 
 -- ---- the laws of the lines
 
-row_short : (before : List Row) (row : Row) → MayFollow before row → length (line_of row) ≤ most_line_bytes
+row_short : (before : List Row) (row : Row) → RowMayFollow before row → length (line_of row) ≤ most_line_bytes
 row_short before (Seats seat made) h = h.short.0
 row_short before (Comes line made bytes memory) h = h.short.0
 
@@ -236,5 +236,5 @@ line_short lines (byte ∷ line) evening due at =
     let step = (evening_step ends.front ends.last).0 (subst IsEvening ends.parts at.follow) in
     subst (λ (l : List ℕ). length l ≤ most_line_bytes) (sym ends.spelled) (row_short ends.front ends.last step.1)
 
-pub reached_lines : AreLines Reached
+pub reached_lines : AreLinesOfRun Reached
 reached_lines = record { empty = empty_line; fronts = front_of; short = line_short }

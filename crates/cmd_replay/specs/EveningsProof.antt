@@ -12,7 +12,7 @@ use Rattle.replay_core.specs.Order.{Arrival}
 use Rattle.replay_core.proofs.Events.{one_line}
 use Rattle.replay_core.proofs.Seats.{one_seat_line, seat_apart}
 use Rattle.session_core.specs.Memory.{MemoryState, newcomer}
-use Rattle.cmd_replay.specs.Evening.{Row, Seats, Comes, Does, line_of, entries_of, text_of_row, history_of, transcript_of, arrivals_of, opening_parts, parts_after, quit_of, remembered, remembered_after, seated_by, seating_acts, IsSeating, IsComing, MayFollow, FollowInOrder, IsEvening, asked_of}
+use Rattle.cmd_replay.specs.Evening.{Row, Seats, Comes, EventDoes, line_of, entries_of, text_of_row, history_of, transcript_of, arrivals_of, opening_parts, parts_after, quit_of, remembered, remembered_after, seated_by, seating_acts, IsSeating, IsComing, RowMayFollow, FollowInOrder, IsEvening, asked_of}
 use Rattle.cmd_replay.specs.FollowingProof.{one_doing, one_asking}
 
 -- ---- rows one after another
@@ -71,27 +71,28 @@ parts-append rows more =
 -- ---- one row more at the end
 
 pub follow_step : (before later : List Row) (row : Row)
-    → FollowInOrder before (later ++ row ∷ []) ↔ (FollowInOrder before later × MayFollow (before ++ later) row)
+    → FollowInOrder before (later ++ row ∷ []) ↔ (FollowInOrder before later × RowMayFollow (before ++ later) row)
 follow_step before [] row =
     let none : before ++ [] ≡ before = append-nil before in (
-      λ h. (tt, subst (λ (rows : List Row). MayFollow rows row) (sym none) h.0),
-      λ h. (subst (λ (rows : List Row). MayFollow rows row) none h.1, tt),
+      λ h. (tt, subst (λ (rows : List Row). RowMayFollow rows row) (sym none) h.0),
+      λ h. (subst (λ (rows : List Row). RowMayFollow rows row) none h.1, tt),
     )
 follow_step before (first ∷ later) row =
     let step = follow_step (before ++ first ∷ []) later row in
     let same : before ++ first ∷ [] ++ later ≡ before ++ (first ∷ later) = append_assoc before (first ∷ []) later in (
-      λ h. let rest = step.0 h.1 in ((h.0, rest.0), subst (λ (rows : List Row). MayFollow rows row) same rest.1),
-      λ h. (h.0.0, step.1 (h.0.1, subst (λ (rows : List Row). MayFollow rows row) (sym same) h.1)),
+      λ h. let rest = step.0 h.1 in ((h.0, rest.0), subst (λ (rows : List Row). RowMayFollow rows row) same rest.1),
+      λ h. (h.0.0, step.1 (h.0.1, subst (λ (rows : List Row). RowMayFollow rows row) (sym same) h.1)),
     )
 
 -- an evening grows by a row that may follow, and by no other
-pub evening_step : (rows : List Row) (row : Row) → IsEvening (rows ++ row ∷ []) ↔ (IsEvening rows × MayFollow rows row)
+pub evening_step : (rows : List Row) (row : Row)
+    → IsEvening (rows ++ row ∷ []) ↔ (IsEvening rows × RowMayFollow rows row)
 evening_step rows row = follow_step [] rows row
 
 -- ---- the history is legal
 
 -- what a row made is legal in the state before it
-pub row_legal : (before : List Row) (row : Row) → MayFollow before row
+pub row_legal : (before : List Row) (row : Row) → RowMayFollow before row
     → Legal house (parts_after before) (entries_of row)
 row_legal before (Seats seat made) h =
     subst (λ (rows : List Row). Legal house (parts_after rows) made) (sym h.first) h.legal
@@ -131,8 +132,8 @@ same_comes : (before : List Row) (line line' : ScriptLine) (made made' : Log) (b
     → Comes line made bytes memory ≡ Comes line' made' bytes' memory'
 same_comes before line line' made made' bytes bytes' memory memory' h k e =
     let one : line ≡ line' = one_line line line' h.spelled k.spelled e in
-    let other : Does line.event (remembered before line.session) line.session line.moment made' bytes' memory' =
-    subst (λ (l : ScriptLine). Does l.event (remembered before l.session) l.session l.moment made' bytes' memory')
+    let other : EventDoes line.event (remembered before line.session) line.session line.moment made' bytes' memory' =
+    subst (λ (l : ScriptLine). EventDoes l.event (remembered before l.session) l.session l.moment made' bytes' memory')
     (sym one) k.does in
     let same =
     one_doing line.event (remembered before line.session) line.session line.moment (parts_after before) made made' bytes
@@ -143,7 +144,7 @@ same_comes before line line' made made' bytes bytes' memory memory' h k e =
     ∙ ap (Comes line' made' bytes') same.2
 
 -- behind the same rows one line makes one row
-pub one_row : (before : List Row) (row other : Row) → MayFollow before row → MayFollow before other
+pub one_row : (before : List Row) (row other : Row) → RowMayFollow before row → RowMayFollow before other
     → line_of row ≡ line_of other → row ≡ other
 one_row before (Seats seat made) (Seats other made') h k e = same_seats before seat other made made' h k e
 one_row before (Seats seat made) (Comes line made' bytes memory) h k e =

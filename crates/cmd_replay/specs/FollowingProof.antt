@@ -14,7 +14,7 @@ use Rattle.session_core.specs.Course.{Course, Done, Asks, Writes, Follows}
 use Rattle.session_core.specs.Memory.{MemoryState}
 use Rattle.session_core.specs.Going.{departing}
 use Rattle.replay_core.specs.declared.script.ScriptEvent.{ScriptEvent}
-use Rattle.cmd_replay.specs.Evening.{Does, LeaveInOrder, asked_of, bytes_of, course_of}
+use Rattle.cmd_replay.specs.Evening.{EventDoes, LeaveInOrder, asked_of, bytes_of, course_of}
 
 -- an entry is fixed by its session, its act and its reply
 same_entry : (one other : Entry Timed Reply) → one.session ≡ other.session → one.act ≡ other.act
@@ -70,7 +70,7 @@ one_following (Asks act rest) session moment parts (e ∷ made) (d ∷ other) te
 -- what an event does in one state is the same
 pub one_doing : (what : ScriptEvent) (before : MemoryState) (session moment : ℕ) (parts : List Part) (made other : Log)
     (bytes bytes' : List ℕ) (after after' : MemoryState)
-    → Does what before session moment made bytes after → Does what before session moment other bytes' after'
+    → EventDoes what before session moment made bytes after → EventDoes what before session moment other bytes' after'
     → Legal house parts made → Legal house parts other
     → (made ≡ other) × (bytes ≡ bytes') × (after ≡ after')
 one_doing what before session moment parts made other bytes bytes' after after' h k l m =

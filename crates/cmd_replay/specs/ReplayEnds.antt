@@ -6,7 +6,7 @@ use Rattle.edge_traits.specs.Source.{most_reads}
 use Rattle.one_server.specs.House.{house}
 use Rattle.one_server.specs.Running.{Log}
 use Rattle.cmd_lines.specs.Ends.{HasRead}
-use Rattle.cmd_replay.specs.Evening.{Row, Reached, IsEvening, LeaveInOrder, line_of, history_of, transcript_of, arrivals_of, final_moment, left_by, opening_parts, remembered}
+use Rattle.cmd_replay.specs.Evening.{Row, Reached, IsEvening, LeaveInOrder, line_of, history_of, transcript_of, arrivals_of, final_moment, sessions_left, opening_parts, remembered}
 use Rattle.cmd_lines.specs.HandlerEnds.{ArePartAnswered, AreStopped}
 use Rattle.cmd_lines.specs.Lines.{is_written, lines_come}
 use Rattle.cmd_lines.specs.declared.end.End.{End}
@@ -36,7 +36,7 @@ pub record IsReplayed (left left' written written' : Option (List ℕ)) : Type 0
   pub replayed : AreReplayed left left' written written' true
   pub leaving : Log
   pub leave : LeaveInOrder (remembered replayed.rows) (final_moment (arrivals_of replayed.rows))
-      (left_by replayed.rows) leaving
+      (sessions_left replayed.rows) leaving
   pub legal : Legal house opening_parts (history_of replayed.rows ++ leaving)
 
 -- at least 2^40 bytes came, and their whole lines were answered

@@ -5,7 +5,7 @@ ghost use Rattle.clock_ledger.specs.Charges.{last_moment};
 ghost use Rattle.replay_core.specs.Script.{IsScriptLine};
 ghost use Rattle.session_core.specs.Inputs.{FitsInput};
 ghost use Rattle.session_core.specs.Memory.{is_gone};
-ghost use Rattle.cmd_replay.specs.Evening.{HasAnswered, HasDone, HasGone, HasTaken, quit_of};
+ghost use Rattle.cmd_replay.specs.Evening.{EventAnswered, HasDone, HasGone, HasTaken, quit_of};
 
 use crate::tagged::put_tagged;
 use clock_ledger::Moment;
@@ -43,7 +43,7 @@ pub fn do_event(
     session: &mut Session,
 ) -> Result<Wrote, NoMemory>
     requires { IsScriptLine line.now }
-    ensures done { IfOk result (λ wrote. HasAnswered line.now.event line.now.session line.now.moment
+    ensures done { IfOk result (λ wrote. EventAnswered line.now.event line.now.session line.now.moment
         server.old session.old server.new session.new wrote.bytes.items) }
     ensures quit { IfOk result (λ wrote. wrote.quit ≡ quit_of line.now.event session.new) }
 {

@@ -3,7 +3,7 @@
 ghost use Rattle.std.specs.Prelude.{◌≡◌, ◌≢◌, ◌≤◌, ◌<◌, [], IfOk, IfNone, IfSome, OnOk, length, replicate};
 ghost use Rattle.clock_ledger.specs.Charges.{last_moment};
 ghost use Rattle.session_core.specs.Memory.{newcomer};
-ghost use Rattle.cmd_replay.specs.Evening.{AfterLeaving, IsNext, IsNoNext, seated_from};
+ghost use Rattle.cmd_replay.specs.Evening.{AfterLeaving, IsNextLine, IsNoNext, seated_from};
 
 use crate::answering::{answer_event, leave_server};
 use crate::seating::{players, seat};
@@ -56,7 +56,7 @@ impl Model for Evening {
 impl Evening {
     ghost use Rattle.std.specs.Prelude.{◌≡◌, ◌≢◌, ◌<◌, [], None, Some, IfOk, OnOk, length};
     ghost use Rattle.fics_words.specs.Line.{IsLine};
-    ghost use Rattle.cmd_lines.specs.Handling.{AfterAnswering, Takes};
+    ghost use Rattle.cmd_lines.specs.Handling.{AfterAnswering, TakesLine};
     ghost use Rattle.replay_core.specs.SeatLine.{IsSeatLine, seat_text};
     ghost use Rattle.replay_core.specs.declared.seat_line.SeatLine.{SeatLine};
     ghost use Rattle.cmd_replay.specs.Evening.{KeepsOrder, Reached};
@@ -96,7 +96,7 @@ impl Evening {
         requires spelled { IsSeatLine seats.now }
         requires some { 0 < length (seat_text seats.now) }
         requires short { IsLine (seat_text seats.now) }
-        ensures { OnOk result (Takes Reached self.old (seat_text seats.now) self.new []) }
+        ensures { OnOk result (TakesLine Reached self.old (seat_text seats.now) self.new []) }
     {
         seat(&mut self.server, seats)?;
         let _history = self.server.history();
@@ -173,7 +173,7 @@ impl LineHandler for Evening {
 
 /// Reads the line of a session that may come next; none where the line isn't in the grammar here.
 fn read_next(alloc: Global, order: &Attendance, line: &Line) -> Result<Option<ScriptLine>, NoMemory>
-    ensures next { IfOk result (λ read. IfSome read (IsNext order.now line.now)) }
+    ensures next { IfOk result (λ read. IfSome read (IsNextLine order.now line.now)) }
     ensures none { IfOk result (λ read. IfNone read (IsNoNext order.now line.now)) }
 {
     let Some(next) = read_script(alloc, line)? else {

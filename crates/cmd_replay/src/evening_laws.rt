@@ -2,7 +2,7 @@
 
 ghost use Rattle.std.specs.Prelude.{◌≡◌, ℕ, List, map};
 ghost use Rattle.cmd_replay.specs.Examples.{EveningExamples};
-ghost use Rattle.cmd_lines.specs.Handling.{AreLines};
+ghost use Rattle.cmd_lines.specs.Handling.{AreLinesOfRun};
 ghost use Rattle.cmd_replay.specs.Evening.{LeaveInOrder, Reached, Row, IsEvening, line_of, history_of, opening_parts, parts_after, remembered};
 ghost use Rattle.histories.specs.History.{Legal};
 ghost use Rattle.one_server.specs.House.{house};
@@ -21,7 +21,7 @@ pub fn one_evening()
 /// The lines of an evening: an empty line changes nothing, and a prefix of an evening is an evening.
 #[tactic(auto, using(crate::specs::EveningLinesProof::reached_lines))]
 pub fn lines_of_evenings()
-    ensures { AreLines Reached }
+    ensures { AreLinesOfRun Reached }
 {}
 
 /// What the definitions of an evening give in a few cases.

@@ -3,9 +3,9 @@
 ghost use Rattle.std.specs.Prelude.{◌≡◌, ◌≤◌, ◌∷◌, [], OnOk, length};
 ghost use Rattle.lobby_state.specs.Terms.{AreTerms};
 ghost use Rattle.one_server.specs.Acts.{FitsAct};
-ghost use Rattle.replay_core.specs.SeatLine.{IsSeatLine, players_of};
-ghost use Rattle.session_core.specs.Course.{timed};
-ghost use Rattle.cmd_replay.specs.Evening.{HasMade, accepting, asking, challenging, entering, fetching, seating_acts};
+ghost use Rattle.replay_core.specs.SeatLine.{IsSeatLine, players_wanted};
+ghost use Rattle.session_core.specs.Course.{act_at};
+ghost use Rattle.cmd_replay.specs.Evening.{HasMade, second_accepts, asks_partner, challenging, enters_as, fetching, seating_acts};
 
 use chess_model::{Terms, Variant};
 use fics_words::Handle;
@@ -16,7 +16,7 @@ use replay_core::SeatLine;
 
 /// How many players a game of the variant has: two at each board.
 pub(crate) fn players(variant: Variant) -> u32
-    ensures count { result ≡ players_of variant }
+    ensures count { result ≡ players_wanted variant }
     ensures few { result ≤ 4 }
 {
     match variant {
@@ -86,7 +86,7 @@ fn enter_four(
     four: Handle,
 ) -> Result<(), NoMemory>
     ensures opening { server.new.opening ≡ server.old.opening }
-    ensures made { OnOk result (HasMade (entering 1 one ∷ entering 2 two ∷ entering 3 three ∷ entering 4 four ∷ [])
+    ensures made { OnOk result (HasMade (enters_as 1 one ∷ enters_as 2 two ∷ enters_as 3 three ∷ enters_as 4 four ∷ [])
         server.old.log server.new.log) }
 {
     enter(server, 1, one)?;
@@ -104,7 +104,8 @@ fn link_four(
     four: Handle,
 ) -> Result<(), NoMemory>
     ensures opening { server.new.opening ≡ server.old.opening }
-    ensures made { OnOk result (HasMade (asking 1 four ∷ asking 4 one ∷ asking 2 three ∷ asking 3 two ∷ [])
+    ensures made { OnOk result (HasMade
+        (asks_partner 1 four ∷ asks_partner 4 one ∷ asks_partner 2 three ∷ asks_partner 3 two ∷ [])
         server.old.log server.new.log) }
 {
     ask(server, 1, four)?;
@@ -129,7 +130,8 @@ fn fetch_four(server: &mut OneServer) -> Result<(), NoMemory>
 fn start(server: &mut OneServer, second: Handle, terms: Terms) -> Result<(), NoMemory>
     requires { AreTerms terms }
     ensures opening { server.new.opening ≡ server.old.opening }
-    ensures made { OnOk result (HasMade (challenging second terms ∷ accepting ∷ []) server.old.log server.new.log) }
+    ensures made { OnOk result
+        (HasMade (challenging second terms ∷ second_accepts ∷ []) server.old.log server.new.log) }
 {
     let to = second.key();
     make(server, 1, Act::Lobby(LobbyAct::Match { to, terms }))?;
@@ -139,7 +141,7 @@ fn start(server: &mut OneServer, second: Handle, terms: Terms) -> Result<(), NoM
 /// A session enters under the name.
 fn enter(server: &mut OneServer, session: u32, name: Handle) -> Result<(), NoMemory>
     ensures opening { server.new.opening ≡ server.old.opening }
-    ensures made { OnOk result (HasMade (entering session name ∷ []) server.old.log server.new.log) }
+    ensures made { OnOk result (HasMade (enters_as session name ∷ []) server.old.log server.new.log) }
 {
     let act = LobbyAct::Enter {
         name: Some(name),
@@ -151,7 +153,7 @@ fn enter(server: &mut OneServer, session: u32, name: Handle) -> Result<(), NoMem
 /// A session asks the player of the name to be its partner.
 fn ask(server: &mut OneServer, session: u32, name: Handle) -> Result<(), NoMemory>
     ensures opening { server.new.opening ≡ server.old.opening }
-    ensures made { OnOk result (HasMade (asking session name ∷ []) server.old.log server.new.log) }
+    ensures made { OnOk result (HasMade (asks_partner session name ∷ []) server.old.log server.new.log) }
 {
     let key = name.key();
     make(
@@ -173,7 +175,7 @@ fn fetch(server: &mut OneServer, session: u32) -> Result<(), NoMemory>
 fn make(server: &mut OneServer, session: u32, act: Act) -> Result<(), NoMemory>
     requires { FitsAct act }
     ensures opening { server.new.opening ≡ server.old.opening }
-    ensures made { OnOk result (HasMade ((session, timed 0 act) ∷ []) server.old.log server.new.log) }
+    ensures made { OnOk result (HasMade ((session, act_at 0 act) ∷ []) server.old.log server.new.log) }
 {
     let _reply = server.run(session, 0, act)?;
     Ok(())

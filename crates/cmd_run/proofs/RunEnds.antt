@@ -14,7 +14,7 @@ use Rattle.cmd_lines.specs.Ends as read
 use Rattle.cmd_job.specs.Usage.{UsageEnds}
 use Rattle.cmd_check.specs.CheckEnds.{CheckEnds}
 use Rattle.cmd_run.specs.RunEnds.{CommandEnds, IsGood, IsToldGood, WritesPart}
-use Rattle.cmd_run.specs.Words.{Does, IsCommand, IsOverStore, Names}
+use Rattle.cmd_run.specs.Words.{Does, IsCommand, IsOverStore, NamesCommand}
 use Rattle.cmd_run.proofs.Named.{is_command, one_command}
 use Rattle.cmd_lines.specs.declared.end.End.{End}
 use Rattle.cmd_lines.specs.declared.end.End.TheVariants.{Done, ReadFault, WriteFault, Memory, BadLine, Spent}
@@ -30,7 +30,7 @@ use Rattle.cmd_lines.proofs.ClosingEnds.{AnswersOrClosesPart-none}
 use Rattle.cmd_lines.proofs.Completeness.{is_complete, is_complete-closing}
 use Rattle.cmd_lines.proofs.LineCommandEnds.{AnswersPart-none}
 use Rattle.cmd_pgn.specs.PgnEnds.{PgnEnds}
-use Rattle.examine_board.specs.Exam.{opened}
+use Rattle.examine_board.specs.Exam.{exam_opened}
 use Rattle.cmd_examine.specs.ExamineEnds.{EndsBeforeInput, ExamineEnds, StandsUnder}
 use Rattle.cmd_examine.specs.Texts.{examine_lines}
 use Rattle.game_records.proofs.ReadBack.{one_spelled}
@@ -117,7 +117,8 @@ usage_listed written written' status (inr (inr e, front)) = subst (Contains stat
 
 -- ---- what a status tells
 
-module _ (words : List (String Global)) (command : RunCommand) (names : Names words command) (table : Option Records)
+module _ (words : List (String Global)) (command : RunCommand) (names : NamesCommand words command)
+    (table : Option Records)
     (left left' written written' : Option (List ℕ)) (outcome : Outcome)
     (ends : CommandEnds table left left' written written' outcome command) where
   -- a status tells how the command ended
@@ -207,7 +208,7 @@ usage_part words table left written written' outcome status none (inr front) not
 
 -- what stays unless the command is of this kind
 pub stays_unless : (words : List (String Global)) (command : RunCommand) (Kind : RunCommand → Type 0) (P : Type 0)
-    → Names words command → ((Kind command → ⊥) → P) → (Does words Kind → ⊥) → P
+    → NamesCommand words command → ((Kind command → ⊥) → P) → (Does words Kind → ⊥) → P
 stays_unless words command Kind P names stays none = stays (λ of. none (command, names, of))
 
 -- the statuses that tell that the input wasn't reached
@@ -358,14 +359,15 @@ from_lines : (game : StoredGame) (table : Option Records) (number : ℕ) (left :
     → IfSome table (StandsUnder number game)
     → IfSome left
     (λ text.
-    length text < 2 ^ 40 → bad_in (examine_lines (opened game)) (lines_of text) ≡ None → (status ≡ 0) ⊎ (status ≡ 6))
+    length text < 2 ^ 40 → bad_in (examine_lines (exam_opened game)) (lines_of text) ≡ None
+    → (status ≡ 0) ⊎ (status ≡ 6))
     → WentWell table left (Examine number) status
 from_lines game None number None status stands f = tt
 from_lines game None number (Some text) status stands f = λ short good. absurd good
 from_lines game (Some told) number None status stands f = tt
 from_lines game (Some told) number (Some text) status stands f = λ short good.
     f short
-    (subst (λ (g : StoredGame). bad_in (examine_lines (opened g)) (lines_of text) ≡ None)
+    (subst (λ (g : StoredGame). bad_in (examine_lines (exam_opened g)) (lines_of text) ≡ None)
     (one_under number good.game game told good.stands stands) good.lines)
 
 -- an examination of a game that is there
@@ -379,10 +381,12 @@ module _ (number : ℕ) (left left' written written' : Option (List ℕ)) (P Q R
   is_complete-examine table (Read WriteFault) h p q r = absurd (no_write q)
   is_complete-examine table (Read Memory) h p q r = any_input table left (Examine number) 6 (λ text good. inr refl)
   is_complete-examine table (Read BadLine) h p q r = from_lines h.game table number left 7 h.stored.stands
-      (is_complete (examine_lines (opened h.game)) left left' h.answers.shown written' P Q BadLine h.answers.answers p q
+      (is_complete (examine_lines (exam_opened h.game)) left left' h.answers.shown written' P Q BadLine
+      h.answers.answers p q
       no_read no_write)
   is_complete-examine table (Read Spent) h p q r = from_lines h.game table number left 9 h.stored.stands
-      (is_complete (examine_lines (opened h.game)) left left' h.answers.shown written' P Q Spent h.answers.answers p q
+      (is_complete (examine_lines (exam_opened h.game)) left left' h.answers.shown written' P Q Spent h.answers.answers
+      p q
       no_read no_write)
   is_complete-examine None BadRecord h p q r = any_input None left (Examine number) 5 (λ text good. absurd good)
   is_complete-examine (Some told) BadRecord h p q r =
@@ -428,7 +432,7 @@ module _ (table : Option Records) (left left' written written' : Option (List �
       is_complete-examine number left left' written written' P Q R no_read no_write (no_keeper tt) table outcome h p q r
 
   pub complete_at : (words : List (String Global)) (command other : RunCommand) (outcome : Outcome) (status : ℕ)
-      → Names words command → Names words other → status ≡ status_of_outcome outcome
+      → NamesCommand words command → NamesCommand words other → status ≡ status_of_outcome outcome
       → CommandEnds table left left' written written' outcome command → OnReadFault outcome P → OnWriteFault outcome Q
       → OnKeeperFault outcome R → (IsOverStore other → R → ⊥)
       → WentWell table left other status

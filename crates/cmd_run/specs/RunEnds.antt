@@ -8,24 +8,24 @@ use Rattle.cmd_bot.specs.BotLines.{bot_lines}
 use Rattle.cmd_check.specs.CheckEnds.{CheckEnds}
 use Rattle.cmd_demo.specs.DemoEnds.{DemoEnds}
 use Rattle.edge_traits.specs.Pairs.{Records}
-use Rattle.examine_board.specs.Exam.{opened}
+use Rattle.examine_board.specs.Exam.{exam_opened}
 use Rattle.cmd_examine.specs.ExamineEnds.{ExamineEnds, StandsUnder}
 use Rattle.cmd_examine.specs.Texts.{examine_lines}
 use Rattle.game_records.specs.declared.stored_game.StoredGame.{StoredGame}
 use Rattle.cmd_replay.specs.ReplayEnds.{AreEvening, ReplayEnds}
-use Rattle.cmd_board.specs.Transcript.{bad_in}
+use Rattle.cmd_board.specs.Transcript.{bad_line_in}
 use Rattle.cmd_lines.specs.LineCommand as each
 use Rattle.cmd_lines.specs.Lines.{lines_of}
 use Rattle.lobby_load.specs.BadRows.{IsGoodStore}
 use Rattle.pgn_book.specs.declared.game.PgnGame.{PgnGame}
-use Rattle.pgn_book.specs.Games.{Reads}
+use Rattle.pgn_book.specs.Games.{ReadsGames}
 use Rattle.cmd_pgn.specs.PgnEnds.{PgnEnds}
 use Rattle.cmd_store.specs.Outcomes.{AsRead}
 use Rattle.cmd_store.specs.declared.outcome.Outcome.{Outcome}
 use Rattle.cmd_tidy.specs.TidyEnds.{TidyEnds}
 use Rattle.cmd_tourney.specs.Texts.{tourney_lines}
 use Rattle.cmd_tourney.specs.TourneyEnds.{TourneyEnds}
-use Rattle.cmd_run.specs.Words.{IsCommand, Names, UsagePart}
+use Rattle.cmd_run.specs.Words.{IsCommand, NamesCommand, UsagePart}
 use Rattle.cmd_run.specs.declared.command.RunCommand.{RunCommand}
 use Rattle.cmd_run.specs.declared.command.RunCommand.TheVariants.{Board, Replay, Tourney, Tidy, Bot, Demo, Check, Pgn, Examine}
 
@@ -54,7 +54,8 @@ CommandEnds table left left' written written' outcome (Examine game) =
 abbrev pub WritesPart : List (String Global) → Option Records → Option (List ℕ) → Option (List ℕ) → Option (List ℕ)
     → Option (List ℕ) → Outcome → Type 0
 WritesPart words table left left' written written' outcome =
-    ((command : RunCommand) → Names words command → CommandEnds table left left' written written' outcome command)
+    ((command : RunCommand) → NamesCommand words command
+    → CommandEnds table left left' written written' outcome command)
     × (¬ (IsCommand words) → UsagePart left left' written written')
 
 -- the table is told, and each of its records is good
@@ -67,7 +68,7 @@ pub record CanBeExamined (number : ℕ) (text : List ℕ) (table : Records) : Ty
   pub good : IsGoodStore table
   pub game : StoredGame
   pub stands : StandsUnder number game table
-  pub lines : each.bad_in (examine_lines (opened game)) (lines_of text) ≡ None
+  pub lines : each.bad_in (examine_lines (exam_opened game)) (lines_of text) ≡ None
 
 -- the table is told, and this holds of it
 abbrev pub IsExaminable : Option Records → ℕ → List ℕ → Type 0
@@ -77,10 +78,10 @@ IsExaminable (Some table) number text = CanBeExamined number text table
 -- the input is in the command's grammar: none of its lines is bad, or they are those of an evening, or games are read
 -- in its text; `demo` reads none, `check` and `pgn` read a good store, and `examine` one with the game
 abbrev pub IsGood : Option Records → List ℕ → RunCommand → Type 0
-IsGood table text Board = bad_in (lines_of text) ≡ None
+IsGood table text Board = bad_line_in (lines_of text) ≡ None
 IsGood table text Replay = AreEvening (lines_of text)
 IsGood table text Tourney = each.bad_in tourney_lines (lines_of text) ≡ None
-IsGood table text Tidy = (games : List PgnGame) × Reads text games
+IsGood table text Tidy = (games : List PgnGame) × ReadsGames text games
 IsGood table text (Bot depth) = each.bad_in (bot_lines depth) (lines_of text) ≡ None
 IsGood table text (Demo number) = ⊤
 IsGood table text Check = IsToldGood table

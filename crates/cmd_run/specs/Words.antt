@@ -11,21 +11,21 @@ use Rattle.cmd_run.specs.declared.command.RunCommand.{RunCommand}
 use Rattle.cmd_run.specs.declared.command.RunCommand.TheVariants.{Board, Replay, Tourney, Tidy, Bot, Demo, Check, Pgn, Examine}
 
 -- the command that is run for a job; players are served by another call
-abbrev pub command_of : Job → Option RunCommand
-command_of job.Board = Some Board
-command_of job.Replay = Some Replay
-command_of job.Tourney = Some Tourney
-command_of job.Tidy = Some Tidy
-command_of (job.Bot depth) = Some (Bot depth)
-command_of (job.Demo number) = Some (Demo number)
-command_of (job.Check store) = Some Check
-command_of (job.Pgn store) = Some Pgn
-command_of (job.Examine store game) = Some (Examine game)
-command_of _ = None
+abbrev pub command_of_job : Job → Option RunCommand
+command_of_job job.Board = Some Board
+command_of_job job.Replay = Some Replay
+command_of_job job.Tourney = Some Tourney
+command_of_job job.Tidy = Some Tidy
+command_of_job (job.Bot depth) = Some (Bot depth)
+command_of_job (job.Demo number) = Some (Demo number)
+command_of_job (job.Check store) = Some Check
+command_of_job (job.Pgn store) = Some Pgn
+command_of_job (job.Examine store game) = Some (Examine game)
+command_of_job _ = None
 
 -- the words name this command
-abbrev pub Names : List (String Global) → RunCommand → Type 0
-Names words command = (job : Job) × jobs.Names words job × (command_of job ≡ Some command)
+abbrev pub NamesCommand : List (String Global) → RunCommand → Type 0
+NamesCommand words command = (job : Job) × jobs.NamesJob words job × (command_of_job job ≡ Some command)
 
 -- the bot looks 4 half-moves ahead at most
 abbrev pub IsWithin : RunCommand → Type 0
@@ -48,11 +48,11 @@ ReadsInput _ = ⊤
 
 -- the words name a command
 abbrev pub IsCommand : List (String Global) → Type 0
-IsCommand words = (command : RunCommand) × Names words command
+IsCommand words = (command : RunCommand) × NamesCommand words command
 
 -- the words name a command, of which this holds
 abbrev pub Does : List (String Global) → (RunCommand → Type 0) → Type 0
-Does words P = (command : RunCommand) × Names words command × P command
+Does words P = (command : RunCommand) × NamesCommand words command × P command
 
 -- nothing was read, and a prefix of the usage line was written
 abbrev pub UsagePart : Option (List ℕ) → Option (List ℕ) → Option (List ℕ) → Option (List ℕ) → Type 0

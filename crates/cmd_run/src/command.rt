@@ -2,7 +2,7 @@
 
 ghost use Rattle.std.specs.Prelude.{◌≡◌, IfOk, IfErr};
 ghost use Rattle.cmd_job.specs.Jobs.{OnUsage};
-ghost use Rattle.cmd_run.specs.Words.{IsCommand, IsWithin, Names, command_of};
+ghost use Rattle.cmd_run.specs.Words.{IsCommand, IsWithin, NamesCommand, command_of_job};
 
 use cmd_job::{Job, JobFail, read_job};
 use std::alloc::Global;
@@ -42,7 +42,7 @@ pub enum RunCommand {
 /// Reads the words. Those of a job that isn't done here are `Usage` too.
 #[tactic(auto, using(crate::proofs::Named::on_fail))]
 pub(crate) fn read_command(alloc: Global, words: &[String]) -> Result<RunCommand, JobFail>
-    ensures command { IfOk result (Names words.now) }
+    ensures command { IfOk result (NamesCommand words.now) }
     ensures within { IfOk result IsWithin }
     ensures usage { IfErr result (λ fail. OnUsage fail (¬ (IsCommand words.now))) }
 {
@@ -57,7 +57,7 @@ pub(crate) fn read_command(alloc: Global, words: &[String]) -> Result<RunCommand
 
 /// The command that is run for a job; none where it isn't done here.
 fn command_of(job: &Job) -> Option<RunCommand>
-    ensures { result ≡ command_of job.now }
+    ensures { result ≡ command_of_job job.now }
 {
     match job {
         Job::Board => Some(RunCommand::Board),

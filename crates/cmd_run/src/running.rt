@@ -10,7 +10,7 @@ ghost use Rattle.lobby_load.specs.Calling.{LoadsOnce};
 ghost use Rattle.cmd_run.specs.RunEnds.{CommandEnds, IsGood, WritesPart};
 ghost use Rattle.cmd_job.specs.Usage.{usage_line};
 ghost use Rattle.cmd_examine.specs.ExamineEnds.{EndsBeforeInput};
-ghost use Rattle.cmd_run.specs.Words.{Does, IsCommand, IsOverStore, IsWithin, Names, ReadsInput};
+ghost use Rattle.cmd_run.specs.Words.{Does, IsCommand, IsOverStore, IsWithin, NamesCommand, ReadsInput};
 ghost use Rattle.cmd_store.specs.Outcomes.{EndsAt, OnKeeperFault, OnReadFault, OnWriteFault};
 ghost use Rattle.cmd_lines.specs.declared.end.End.{End};
 ghost use Rattle.cmd_store.specs.declared.outcome.Outcome.{Outcome};
@@ -69,7 +69,7 @@ pub fn run<S: Source, K: Sink, P: Keeper>(
         (S.left source.new) (K.written sink.old) (K.written sink.new) (Outcome.Read End.Spent)) }
     ensures no_game { result ≡ 10 → Does words.now (CommandEnds (P.table keeper.old) (S.left source.old)
         (S.left source.new) (K.written sink.old) (K.written sink.new) Outcome.NoGame) }
-    ensures complete { (command : RunCommand) → Names words.now command
+    ensures complete { (command : RunCommand) → NamesCommand words.now command
         → ¬ (Rose (S.faults source.old) (S.faults source.new)) → ¬ (Rose (K.faults sink.old) (K.faults sink.new))
         → (IsOverStore command → ¬ (Rose (P.faults keeper.old) (P.faults keeper.new)))
         → IfSome (S.left source.old) (λ text. length text < most_reads → IsGood (P.table keeper.old) text command

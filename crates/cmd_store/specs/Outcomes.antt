@@ -20,11 +20,11 @@ status_of_outcome BadRecord = unopened_status store.BadRecord
 status_of_outcome NoGame = 10
 
 -- how a command ends whose store couldn't be opened
-abbrev pub outcome_of : StoreFault → Outcome
-outcome_of store.BadRecord = BadRecord
-outcome_of store.KeeperFault = KeeperFault
-outcome_of store.WriteFault = Read WriteFault
-outcome_of store.Memory = Read Memory
+abbrev pub outcome_of_fault : StoreFault → Outcome
+outcome_of_fault store.BadRecord = BadRecord
+outcome_of_fault store.KeeperFault = KeeperFault
+outcome_of_fault store.WriteFault = Read WriteFault
+outcome_of_fault store.Memory = Read Memory
 
 -- the command ended as one without a store, in a way of which this holds
 abbrev pub AsRead : (End → Type 0) → Outcome → Type 0
@@ -56,5 +56,5 @@ EndsAt outcome answer = answer ≢ Failed
 example_read_to_its_end : status_of_outcome (Read Done) ≡ 0
 example_read_to_its_end = refl
 
-example_out_of_memory : status_of_outcome (outcome_of store.Memory) ≡ 6
+example_out_of_memory : status_of_outcome (outcome_of_fault store.Memory) ≡ 6
 example_out_of_memory = refl

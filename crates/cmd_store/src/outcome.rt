@@ -1,7 +1,7 @@
 //! The ways in which a command over a store ends.
 
 ghost use Rattle.std.specs.Prelude.{◌≡◌};
-ghost use Rattle.cmd_store.specs.Outcomes.{outcome_of, status_of_outcome};
+ghost use Rattle.cmd_store.specs.Outcomes.{outcome_of_fault, status_of_outcome};
 
 use cmd_lines::{End, status};
 use lobby_load::StoreFault;
@@ -34,7 +34,7 @@ pub fn status_of_outcome(outcome: Outcome) -> u8
 
 /// How a command ends whose store couldn't be opened.
 pub fn outcome_of(fault: StoreFault) -> Outcome
-    ensures { result ≡ outcome_of fault }
+    ensures { result ≡ outcome_of_fault fault }
 {
     match fault {
         StoreFault::BadRecord => Outcome::BadRecord,

@@ -6,16 +6,17 @@ use Rattle.cmd_lines.specs.FeederEnds.{IsSpent, IsStopped}
 use Rattle.cmd_lines.specs.declared.end.End.{End}
 use Rattle.cmd_lines.specs.declared.end.End.TheVariants.{Done, ReadFault, WriteFault, Memory, BadLine, Spent}
 use Rattle.pgn_book.specs.declared.game.PgnGame.{PgnGame}
-use Rattle.pgn_book.specs.Games.{Reads}
+use Rattle.pgn_book.specs.Games.{ReadsGames}
 use Rattle.cmd_tidy.specs.Tidying.{tidying}
 use Rattle.cmd_tidy.specs.TidyEnds.{TidyEnds}
 
 -- a text that is read isn't left
 never_stopped : (text : List ℕ) (left' written written' : Option (List ℕ))
-    → IsStopped tidying (Some text) left' written written' → (games : List PgnGame) × Reads text games → ⊥
+    → IsStopped tidying (Some text) left' written written' → (games : List PgnGame) × ReadsGames text games → ⊥
 never_stopped text None written written' h read = absurd h.came.0
 never_stopped text (Some rest) written written' h read =
-    (h.bad.left rest (λ ended. h.came.1 ended)).unread read.0 (subst (λ (t : List ℕ). Reads t read.0) h.came.0 read.1)
+    (h.bad.left rest (λ ended. h.came.1 ended)).unread read.0
+    (subst (λ (t : List ℕ). ReadsGames t read.0) h.came.0 read.1)
 
 -- fewer than 2^40 bytes spend no reads
 never_spent : (text : List ℕ) (left' written written' : Option (List ℕ))
@@ -31,7 +32,7 @@ pub is_complete-tidied : (left left' written written' : Option (List ℕ)) (P Q 
     → OnReadFault end P → OnWriteFault end Q → ¬ P → ¬ Q
     → IfSome left
     (λ text.
-    length text < 2 ^ 40 → (games : List PgnGame) × Reads text games → (status_of end ≡ 0) ⊎ (status_of end ≡ 6))
+    length text < 2 ^ 40 → (games : List PgnGame) × ReadsGames text games → (status_of end ≡ 0) ⊎ (status_of end ≡ 6))
 is_complete-tidied None left' written written' P Q end h p q no_read no_write = tt
 is_complete-tidied (Some text) left' written written' P Q Done h p q no_read no_write = λ few read. inl refl
 is_complete-tidied (Some text) left' written written' P Q ReadFault h p q no_read no_write = absurd (no_read p)

@@ -19,7 +19,7 @@ use Rattle.pgn_book.specs.Runs.{AreWhole, EndsSo, HasGiven, outcome_of}
 use Rattle.pgn_book.proofs.WholeGames.{whole_told}
 use Rattle.pgn_book.proofs.WholeRuns.{all_read, begins_end, fed_more, game_more, last_lost, next_given, next_lost, next_none, none_given}
 use Rattle.cmd_tidy.specs.Tidying.{HasTidied, HasTidiedAll, exports, tidying}
-use Rattle.cmd_tidy.specs.Putting.{AfterLast, AfterPut, HasPut, HasPutLast, PutsStep}
+use Rattle.cmd_tidy.specs.Putting.{AfterLast, AfterPut, HasPutGames, HasPutLast, PutsStep}
 
 -- ---- texts
 
@@ -138,7 +138,7 @@ last_put taken base games (Bad line) old new out out' (Err Memory) h e is put = 
 -- ---- after the last step
 
 pub put_more : (taken due : List ℕ) (r : Reader) (more : Bool) → more ≡ true → AfterPut taken due r (Ok more)
-    → HasPut taken due r
+    → HasPutGames taken due r
 put_more taken due r more e h = subst (λ (x : Bool). AfterPut taken due r (Ok x)) e h
 
 pub put_all : (taken due : List ℕ) (r : Reader) (more : Bool) → more ≡ false → AfterPut taken due r (Ok more)

@@ -24,14 +24,14 @@ PutsStep (Bad line) out out' (Err BadLine) = out' ≡ out ++ bad_line (codes "\n
 PutsStep (Bad line) out out' (Err Memory) = ⊤
 
 -- what is due was put up to a game, behind which more may be whole
-pub record HasPut (taken due : List ℕ) (r : Reader) : Type 0 where
+pub record HasPutGames (taken due : List ℕ) (r : Reader) : Type 0 where
   pub games : List PgnGame
   pub given : HasGiven taken games r
   pub text : due ≡ exports games
 
 -- after the next step in the midst of a text
 abbrev pub AfterPut : List ℕ → List ℕ → Reader → Result Bool Stop → Type 0
-AfterPut taken due r (Ok true) = HasPut taken due r
+AfterPut taken due r (Ok true) = HasPutGames taken due r
 AfterPut taken due r (Ok false) = HasTidied taken r due
 AfterPut taken due r (Err BadLine) = IsRefused false taken due
 AfterPut taken due r (Err Memory) = ⊤

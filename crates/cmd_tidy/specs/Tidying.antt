@@ -4,7 +4,7 @@ use Rattle.std.specs.List.{flat_map}
 use Rattle.cmd_lines.specs.Feeding.{Feeding}
 use Rattle.cmd_lines.specs.Handling.{bad_line}
 use Rattle.pgn_book.specs.declared.game.PgnGame.{PgnGame}
-use Rattle.pgn_book.specs.Games.{Reads}
+use Rattle.pgn_book.specs.Games.{ReadsGames}
 use Rattle.pgn_book.specs.Export.{export_text}
 use Rattle.pgn_book.specs.Reader.{Reader}
 use Rattle.pgn_book.specs.BadLines.{IsLeftOn}
@@ -31,7 +31,7 @@ pub record HasTidied (taken : List ℕ) (r : Reader) (due : List ℕ) : Type 0 w
 -- these bytes are the whole input: the grammar reads games in them, and the exports of exactly these are due
 pub record HasTidiedAll (taken due : List ℕ) : Type 0 where
   pub games : List PgnGame
-  pub read : Reads taken games
+  pub read : ReadsGames taken games
   pub text : due ≡ exports games
 
 -- the bytes leave the grammar on a line, whatever follows them where the input hasn't ended: due are the exports of the

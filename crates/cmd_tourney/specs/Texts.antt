@@ -7,7 +7,7 @@ use Rattle.fics_words.specs.declared.refusal.Refusal.{Refusal}
 use Rattle.cmd_lines.specs.LineCommand.{LineCommand}
 use Rattle.cmd_lines.specs.Words.{refusal_text}
 use Rattle.tourney_desk.specs.declared.score.ScoreRow.{ScoreRow}
-use Rattle.tourney_desk.specs.Tourney.{TourneyState, joining, no_tourney, pairs_told, reporting, starting, table_told}
+use Rattle.tourney_desk.specs.Tourney.{TourneyState, joining_tourney, no_tourney, pairs_told, reporting, starting_tourney, table_told}
 use Rattle.cmd_tourney.specs.Lines.{tourney_line}
 use Rattle.cmd_tourney.specs.declared.line.TourneyLine.{TourneyLine}
 use Rattle.cmd_tourney.specs.declared.line.TourneyLine.TheVariants.{Join, Start, Round, Report, Table}
@@ -40,21 +40,21 @@ rows_text names place [] = []
 rows_text names place (row ∷ rows) = row_text names place row ++ rows_text names (place + 1) rows
 
 -- the text of an answer: of what was asked for, or of the refusal
-abbrev pub answer_text : {T : Type 0} → (T → List ℕ) → Result T Refusal → List ℕ
-answer_text text (Ok value) = text value
-answer_text text (Err cause) = refusal_text cause
+abbrev pub told_text : {T : Type 0} → (T → List ℕ) → Result T Refusal → List ℕ
+told_text text (Ok value) = text value
+told_text text (Err cause) = refusal_text cause
 
 -- an act on the tourney: what stands afterwards, and the text of its answer
 abbrev pub acted : {T : Type 0} → (T → List ℕ) → TourneyState → Effect TourneyState T → TourneyState × List ℕ
-acted text t effect = (state_of t effect, answer_text text (answer_of effect))
+acted text t effect = (state_of t effect, told_text text (answer_of effect))
 
 -- what a line makes of the tourney, and what is written for it
 abbrev pub line_done : TourneyState → TourneyLine → TourneyState × List ℕ
-line_done t (Join name) = acted done_text t (joining t name)
-line_done t Start = acted rounds_text t (starting t)
-line_done t (Round round) = (t, answer_text (flat_map (pair_text t.players)) (pairs_told t round))
+line_done t (Join name) = acted done_text t (joining_tourney t name)
+line_done t Start = acted rounds_text t (starting_tourney t)
+line_done t (Round round) = (t, told_text (flat_map (pair_text t.players)) (pairs_told t round))
 line_done t (Report white black score) = acted done_text t (reporting t (key_of white) (key_of black) score)
-line_done t Table = (t, answer_text (rows_text t.players 1) (table_told t))
+line_done t Table = (t, told_text (rows_text t.players 1) (table_told t))
 
 -- what a line that isn't empty makes of the tourney, and what is written for it; nothing where it is outside the
 -- grammar

@@ -6,9 +6,9 @@ ghost use Rattle.edge_traits.specs.Faults.{Rose};
 ghost use Rattle.fics_words.specs.Effect.{answer_of, state_of};
 ghost use Rattle.fics_words.specs.Handle.{key_of};
 ghost use Rattle.cmd_lines.specs.Ends.{OnReadFault, OnWriteFault};
-ghost use Rattle.cmd_lines.specs.LineCommand.{IsAnswer};
-ghost use Rattle.tourney_desk.specs.Tourney.{joining, pairs_told, reporting, starting, table_told};
-ghost use Rattle.cmd_tourney.specs.Texts.{answer_line, answer_text, line_done, done_text, pair_text, rounds_text, rows_text};
+ghost use Rattle.cmd_lines.specs.LineCommand.{IsLineAnswer};
+ghost use Rattle.tourney_desk.specs.Tourney.{joining_tourney, pairs_told, reporting, starting_tourney, table_told};
+ghost use Rattle.cmd_tourney.specs.Texts.{answer_line, told_text, line_done, done_text, pair_text, rounds_text, rows_text};
 ghost use Rattle.cmd_tourney.specs.TourneyEnds.{TourneyEnds};
 
 use crate::line::TourneyLine;
@@ -66,7 +66,7 @@ pub fn tourney<S: Source, K: Sink>(alloc: Global, source: &mut S, sink: &mut K) 
 /// Makes the answer of a line, and appends what is written for it; false where the line is outside the grammar. After
 /// running out of memory nothing is known of the tourney and of what was appended.
 fn answer_line(tourney: &mut Tourney, line: &[u8], out: &mut Vec<u8>) -> Result<bool, NoMemory>
-    ensures { IfOk result (λ good. IsAnswer (answer_line tourney.old line.now) out.old.items tourney.new
+    ensures { IfOk result (λ good. IsLineAnswer (answer_line tourney.old line.now) out.old.items tourney.new
         out.new.items good) }
 {
     let Some(line) = read_line(line) else {
@@ -92,9 +92,9 @@ fn do_line(tourney: &mut Tourney, line: TourneyLine, out: &mut Vec<u8>) -> Resul
 
 /// A player joins.
 fn do_join(tourney: &mut Tourney, name: Handle, out: &mut Vec<u8>) -> Result<(), NoMemory>
-    ensures after { OnOk result (tourney.new ≡ state_of tourney.old (joining tourney.old name)) }
+    ensures after { OnOk result (tourney.new ≡ state_of tourney.old (joining_tourney tourney.old name)) }
     ensures text { OnOk result (out.new.items ≡ out.old.items
-        ++ answer_text done_text (answer_of (joining tourney.old name))) }
+        ++ told_text done_text (answer_of (joining_tourney tourney.old name))) }
 {
     match tourney.join(name) {
         Ok(()) => put_done(out),
@@ -105,9 +105,9 @@ fn do_join(tourney: &mut Tourney, name: Handle, out: &mut Vec<u8>) -> Result<(),
 
 /// The tourney starts.
 fn do_start(tourney: &mut Tourney, out: &mut Vec<u8>) -> Result<(), NoMemory>
-    ensures after { OnOk result (tourney.new ≡ state_of tourney.old (starting tourney.old)) }
+    ensures after { OnOk result (tourney.new ≡ state_of tourney.old (starting_tourney tourney.old)) }
     ensures text { OnOk result (out.new.items ≡ out.old.items
-        ++ answer_text rounds_text (answer_of (starting tourney.old))) }
+        ++ told_text rounds_text (answer_of (starting_tourney tourney.old))) }
 {
     match tourney.start() {
         Ok(rounds) => put_rounds(rounds, out),
@@ -127,7 +127,7 @@ fn do_report(
     ensures after { OnOk result (tourney.new
         ≡ state_of tourney.old (reporting tourney.old (key_of white) (key_of black) score)) }
     ensures text { OnOk result (out.new.items ≡ out.old.items
-        ++ answer_text done_text (answer_of (reporting tourney.old (key_of white) (key_of black) score))) }
+        ++ told_text done_text (answer_of (reporting tourney.old (key_of white) (key_of black) score))) }
 {
     match tourney.report(white.key(), black.key(), score) {
         Ok(()) => put_done(out),
@@ -138,7 +138,7 @@ fn do_report(
 /// Tells the pairs of a round.
 fn tell_pairs(tourney: &Tourney, round: u8, out: &mut Vec<u8>) -> Result<(), NoMemory>
     ensures { OnOk result (out.new.items ≡ out.old.items
-        ++ answer_text (flat_map (pair_text tourney.now.players)) (pairs_told tourney.now round)) }
+        ++ told_text (flat_map (pair_text tourney.now.players)) (pairs_told tourney.now round)) }
 {
     match tourney.pairs(round) {
         Ok(pairs) => put_pairs(tourney, pairs.as_slice(), out),
@@ -150,7 +150,7 @@ fn tell_pairs(tourney: &Tourney, round: u8, out: &mut Vec<u8>) -> Result<(), NoM
 /// Tells the table.
 fn tell_table(tourney: &Tourney, out: &mut Vec<u8>) -> Result<(), NoMemory>
     ensures { OnOk result (out.new.items ≡ out.old.items
-        ++ answer_text (rows_text tourney.now.players 1) (table_told tourney.now)) }
+        ++ told_text (rows_text tourney.now.players 1) (table_told tourney.now)) }
 {
     match tourney.table() {
         Ok(rows) => put_rows(tourney, rows.as_slice(), out),

@@ -5,7 +5,7 @@ use Rattle.fics_words.specs.Effect.{Gives}
 use Rattle.fics_words.specs.declared.fail.Fail.{Fail}
 use Rattle.command_words.specs.declared.aliases.Alias.{Alias}
 use Rattle.command_words.specs.declared.command.Command.{Command}
-use Rattle.command_words.specs.Blanks.{trimmed, first_word, rest_of}
+use Rattle.command_words.specs.Blanks.{trimmed, first_word, rest_behind_word}
 use Rattle.command_words.specs.Aliases.{alias_of, expanded}
 use Rattle.command_words.specs.Commands.{command_after, command_in, command_made}
 
@@ -21,10 +21,10 @@ read_after_is aliases line bytes text word alias result b t w a gives =
 
 -- what an alias makes of a line is read
 pub made_is : (alias_text text bytes rest made slice : List ℕ) (result : Result Command Fail)
-    → bytes ≡ alias_text → rest ≡ rest_of text → made ≡ expanded bytes rest → slice ≡ made
-    → Gives (command_made slice) result → Gives (command_made (expanded alias_text (rest_of text))) result
+    → bytes ≡ alias_text → rest ≡ rest_behind_word text → made ≡ expanded bytes rest → slice ≡ made
+    → Gives (command_made slice) result → Gives (command_made (expanded alias_text (rest_behind_word text))) result
 made_is alias_text text bytes rest made slice result b r m s gives =
-    subst (λ (x : List ℕ). Gives (command_made (expanded x (rest_of text))) result) b
+    subst (λ (x : List ℕ). Gives (command_made (expanded x (rest_behind_word text))) result) b
     (subst (λ (x : List ℕ). Gives (command_made (expanded bytes x)) result) r
     (subst (λ (x : List ℕ). Gives (command_made x) result) m
     (subst (λ (x : List ℕ). Gives (command_made x) result) s gives)))

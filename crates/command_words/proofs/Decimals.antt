@@ -7,7 +7,7 @@ use Rattle.std.proofs.lemmas.Bool.Decides.{nat_tests}
 use Rattle.std.proofs.lemmas.Fmt.{decimal_digit, decimal_is_IsNumeral, first_decimal, decimal-digits_value}
 use Rattle.std.proofs.lemmas.Str.Parse.{IsNumeralModel, numerals_by_value, tells_all_ascii_digits}
 use Rattle.fics_words.specs.Number.{IsDecimal}
-use Rattle.command_words.specs.Numbers.{is_decimal, number_of}
+use Rattle.command_words.specs.Numbers.{is_decimal, number_within}
 use Rattle.fics_words.proofs.HandleTests.{at_least, is_at_least}
 use Rattle.std.proofs.lemmas.Bool.{and_parts, and_from}
 
@@ -46,8 +46,8 @@ decimal_is_decimal n small =
     is_decimal_of (decimal n) numeral.0.0 (own.from (decimal n) numeral.0.1) (first_digit n small)
 
 -- a decimal within the limit is read as its number
-pub number_of-decimal : (most n : ℕ) → n ≤ most → most < 2 ^ 64 → number_of most (decimal n) ≡ Some n
-unfolding number_of
+pub number_of-decimal : (most n : ℕ) → n ≤ most → most < 2 ^ 64 → number_within most (decimal n) ≡ Some n
+unfolding number_within
 number_of-decimal most n within small =
     let value : digits_value 10 (decimal n) ≡ n = (decimal_is_IsNumeral n (omega arith)).1 in
     let yes : (is_decimal (decimal n) && nat_le (digits_value 10 (decimal n)) most) ≡ true =
@@ -55,9 +55,9 @@ number_of-decimal most n within small =
     ap (λ (t : Bool). cond t (Some (digits_value 10 (decimal n))) None) yes ∙ ap (λ (m : ℕ). Some m) value
 
 -- what is read as a number is its decimal, within the limit
-pub number_of-spelled : (most : ℕ) (word : List ℕ) (n : ℕ) → most < 2 ^ 64 → number_of most word ≡ Some n
+pub number_of-spelled : (most : ℕ) (word : List ℕ) (n : ℕ) → most < 2 ^ 64 → number_within most word ≡ Some n
     → IsDecimal most word n
-unfolding number_of
+unfolding number_within
 number_of-spelled most word n small e =
     elim (is_decimal word && nat_le (digits_value 10 word) most)
     as (λ t.
@@ -72,13 +72,14 @@ number_of-spelled most word n small e =
       | false ↦ λ is e. absurd (let bad : None ≡ Some n = e in cc)
     ] refl e
 
-pub read_is : (most : ℕ) (word : List ℕ) (n : ℕ) → most < 2 ^ 64 → IsDecimal most word n → Some n ≡ number_of most word
-read_is most word n small is = sym (ap (number_of most) is.0 ∙ number_of-decimal most n is.1 small)
+pub read_is : (most : ℕ) (word : List ℕ) (n : ℕ) → most < 2 ^ 64 → IsDecimal most word n
+    → Some n ≡ number_within most word
+read_is most word n small is = sym (ap (number_within most) is.0 ∙ number_of-decimal most n is.1 small)
 
 pub unread_is : (most : ℕ) (word : List ℕ) → most < 2 ^ 64 → ((n : ℕ) → n ≤ most → word ≢ decimal n)
-    → None ≡ number_of most word
+    → None ≡ number_within most word
 unread_is most word small none =
-    elim (number_of most word) as (λ o. number_of most word ≡ o → None ≡ o) [
+    elim (number_within most word) as (λ o. number_within most word ≡ o → None ≡ o) [
       | None ↦ λ e. refl
       | Some n ↦ λ e. let is = number_of-spelled most word n small e in absurd (none n is.1 is.0)
     ] refl

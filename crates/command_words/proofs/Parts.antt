@@ -5,7 +5,7 @@ use Rattle.std.specs.List.{prefix_len, position_or_len, slice_split, filter, ont
 use Rattle.std.proofs.lemmas.Bool.{eqb-true}
 use Rattle.std.proofs.lemmas.Bool.Decides.{nat_tests}
 use Rattle.std.proofs.lemmas.List.Sums.{prefix_len-le-length}
-use Rattle.command_words.specs.Blanks.{is_blank, behind_blanks, word_length, first_word, rest_of, is_word, Words, words_of}
+use Rattle.command_words.specs.Blanks.{is_blank, behind_blanks, word_length, first_word, rest_behind_word, is_word, Words, words_of}
 use Rattle.std.proofs.Math.Bool.{not-not}
 
 -- how far a first place is, or the whole length
@@ -120,13 +120,13 @@ word_length-is text = place_or_length is_blank text
 
 -- a text that begins with a word has that word, and then the words of the rest
 pub words_of-first : (text : List ℕ) → StartsWord text → 0 < length text
-    → words_of text ≡ first_word text ∷ words_of (rest_of text)
+    → words_of text ≡ first_word text ∷ words_of (rest_behind_word text)
 unfolding words_of
 words_of-first [] starts some = absurd (omega arith)
 words_of-first (b ∷ text) starts some =
     let split = parted (b ∷ text) in
     let one = prefix_yes Letter b text (ap not starts) in
-    let rest : words_of (rest_of (b ∷ text)) ≡ words_of (drop (prefix_len Letter (b ∷ text)) (b ∷ text)) =
+    let rest : words_of (rest_behind_word (b ∷ text)) ≡ words_of (drop (prefix_len Letter (b ∷ text)) (b ∷ text)) =
     words_of-behind_blanks (drop (word_length (b ∷ text)) (b ∷ text))
     ∙ ap (λ (n : ℕ). words_of (drop n (b ∷ text))) (word_length-is (b ∷ text)) in
     let word : first_word (b ∷ text) ≡ take (prefix_len Letter (b ∷ text)) (b ∷ text) =
@@ -153,8 +153,9 @@ none_is text behind b e =
     sym (words_of-behind_blanks text) ∙ is_empty (behind_blanks text) (subst (λ (x : List ℕ). length x == 0 ≡ true) b e)
 
 pub cut_is : (text behind word rest : List ℕ) → behind ≡ behind_blanks text → length behind == 0 ≡ false
-    → word ≡ first_word behind → rest ≡ rest_of behind → words_of text ≡ word ∷ words_of rest
+    → word ≡ first_word behind → rest ≡ rest_behind_word behind → words_of text ≡ word ∷ words_of rest
 cut_is text behind word rest b e w r =
     sym (words_of-behind_blanks text) ∙ ap words_of (sym b)
     ∙ words_of-first behind (subst StartsWord (sym b) (behind_blanks-starts text)) (is_long behind e)
-    ∙ ap (λ (x : List ℕ). x ∷ words_of (rest_of behind)) (sym w) ∙ ap (λ (x : List ℕ). word ∷ words_of x) (sym r)
+    ∙ ap (λ (x : List ℕ). x ∷ words_of (rest_behind_word behind)) (sym w)
+    ∙ ap (λ (x : List ℕ). word ∷ words_of x) (sym r)

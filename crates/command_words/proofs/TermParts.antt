@@ -10,9 +10,9 @@ use Rattle.chess_model.specs.declared.variant.Variant.TheVariants.{Chess, Crazyh
 use Rattle.chess_model.specs.VariantWord.{IsNumbered, word_of}
 use Rattle.command_words.specs.declared.terms.Time.{Time}
 use Rattle.command_words.specs.Blanks.{Words}
-use Rattle.command_words.specs.Numbers.{number_of}
-use Rattle.command_words.specs.TermWords.{OneOf, SpellsTime, Spells, unrated_words, variant_words, colour_words, time_of}
-use Rattle.command_words.specs.TermReading.{told, in_one_word, array_named, from_array, leading_variant, leading, timed, leading_time, behind_unrated, meaning_in, variants, colours, variant_of, colour_of, asked_colour, with_none_left, agreed, terms_of, AreReadAsSpelled}
+use Rattle.command_words.specs.Numbers.{number_within}
+use Rattle.command_words.specs.TermWords.{OneOfWords, SpellsTime, SpellsTerms, unrated_words, variant_words, colour_words, time_of}
+use Rattle.command_words.specs.TermReading.{told_or_default, in_one_word, array_named, from_array, leading_variant, leading, times_read, leading_time, behind_unrated, meaning_in, variants, colours, variant_of, colour_of, asked_colour, with_none_left, agreed_terms, terms_of, AreReadAsSpelled}
 use Rattle.command_words.proofs.Decimals.{number_of-decimal, number_of-spelled}
 
 same : (word other : List ℕ) → bytes_eq word other ≡ true → word ≡ other
@@ -70,19 +70,20 @@ leading-front meaning absent P none some (word ∷ words) =
     elim (meaning word)
     as (λ o.
     meaning word ≡ o
-    → Front (word ∷ words) (told absent o (word ∷ words) words).1 (P (told absent o (word ∷ words) words).0)) [
+    → Front (word ∷ words) (told_or_default absent o (word ∷ words) words).1
+    (P (told_or_default absent o (word ∷ words) words).0)) [
       | None ↦ λ e. record { front = []; split = refl; fits = none }
       | Some v ↦ λ e. record { front = word ∷ []; split = refl; fits = some word v e }
     ] refl
 
-variant_word : (word : List ℕ) (v : Variant) → variant_of word ≡ Some v → OneOf (variant_words v) (word ∷ [])
+variant_word : (word : List ℕ) (v : Variant) → variant_of word ≡ Some v → OneOfWords (variant_words v) (word ∷ [])
 variant_word word v e =
-    meaning_in-all (λ word v. OneOf (variant_words v) (word ∷ [])) variants word v
+    meaning_in-all (λ word v. OneOfWords (variant_words v) (word ∷ [])) variants word v
     (inr (inl refl), (inl refl, (inl refl, tt))) e
 
 -- the words spell the variant
 abbrev SpellsVariant : Variant → Words → Type 0
-SpellsVariant v words = OneOf (variant_words v) words × IsNumbered v
+SpellsVariant v words = OneOfWords (variant_words v) words × IsNumbered v
 
 numbered_word : (word : List ℕ) (v : Variant) → variant_of word ≡ Some v → IsNumbered v
 numbered_word word v e = meaning_in-all (λ word v. IsNumbered v) variants word v (tt, (tt, (tt, tt))) e
@@ -99,7 +100,7 @@ array-front : (word number : List ℕ) (words : Words) (o : Option ℕ) → arra
 array-front word number words None e = named-front (word ∷ number ∷ words)
 array-front word number words (Some n) e =
     elim (bytes_eq word
-    (codes "fischer")) as (λ t. bytes_eq word (codes "fischer") ≡ t → cond t (number_of 959 number) None ≡ Some n →
+    (codes "fischer")) as (λ t. bytes_eq word (codes "fischer") ≡ t → cond t (number_within 959 number) None ≡ Some n →
     Front (word ∷ number ∷ words) words (SpellsVariant (Fischer n))) [
       | true ↦ λ is read.
           let spelled = number_of-spelled 959 number n (omega arith) read in
@@ -115,9 +116,9 @@ variant-front [] = record { front = []; split = refl; fits = (inl refl, tt) }
 variant-front (word ∷ []) = named-front (word ∷ [])
 variant-front (word ∷ number ∷ words) = array-front word number words (array_named word number) refl
 
-colour_word : (word : List ℕ) (c : Colour) → colour_of word ≡ Some c → OneOf (colour_words (Some c)) (word ∷ [])
+colour_word : (word : List ℕ) (c : Colour) → colour_of word ≡ Some c → OneOfWords (colour_words (Some c)) (word ∷ [])
 colour_word word c e =
-    meaning_in-all (λ word c. OneOf (colour_words (Some c)) (word ∷ [])) colours word c
+    meaning_in-all (λ word c. OneOfWords (colour_words (Some c)) (word ∷ [])) colours word c
     (inl refl, (inr (inl refl), (inl refl, (inr (inl refl), tt)))) e
 
 asked_from : (found : Option Colour) (asked : Option Colour) (P : Option Colour → Type 0)
@@ -127,21 +128,23 @@ asked_from None asked P e holds = absurd (let bad : None ≡ Some asked = e in c
 asked_from (Some c) asked P e holds = let inner : Some c ≡ asked = cc in subst P inner (holds c refl)
 
 asked_word : (word : List ℕ) (asked : Option Colour) → asked_colour word ≡ Some asked
-    → OneOf (colour_words asked) (word ∷ [])
+    → OneOfWords (colour_words asked) (word ∷ [])
 asked_word word asked e =
-    asked_from (colour_of word) asked (λ k. OneOf (colour_words k) (word ∷ [])) e (colour_word word)
+    asked_from (colour_of word) asked (λ k. OneOfWords (colour_words k) (word ∷ [])) e (colour_word word)
 
 colour-front : (words : Words)
-    → Front words (leading asked_colour None words).1 (OneOf (colour_words (leading asked_colour None words).0))
-colour-front words = leading-front asked_colour None (λ k ws. OneOf (colour_words k) ws) (inl refl) asked_word words
+    → Front words (leading asked_colour None words).1 (OneOfWords (colour_words (leading asked_colour None words).0))
+colour-front words =
+    leading-front asked_colour None (λ k ws. OneOfWords (colour_words k) ws) (inl refl) asked_word words
 
-unrated-front : (words : Words) → Front words (behind_unrated words) (OneOf unrated_words)
+unrated-front : (words : Words) → Front words (behind_unrated words) (OneOfWords unrated_words)
 unrated-front [] = record { front = []; split = refl; fits = inl refl }
 unrated-front (word ∷ words) =
     elim (bytes_eq word
     (codes "unrated"))
     as (λ t.
-    bytes_eq word (codes "unrated") ≡ t → Front (word ∷ words) (cond t words (word ∷ words)) (OneOf unrated_words)) [
+    bytes_eq word
+    (codes "unrated") ≡ t → Front (word ∷ words) (cond t words (word ∷ words)) (OneOfWords unrated_words)) [
       | true ↦ λ is.
           record {
             front = word ∷ [];
@@ -151,10 +154,11 @@ unrated-front (word ∷ words) =
       | false ↦ λ is. record { front = []; split = refl; fits = inl refl }
     ] refl
 
-timed-front : (usual : Time) (minutes increment : List ℕ) (words : Words) (m i : Option ℕ) → number_of 600 minutes ≡ m
-    → number_of 600 increment ≡ i
-    → Front (minutes ∷ increment ∷ words) (timed usual m i (minutes ∷ increment ∷ words) words).1
-    (λ front. SpellsTime usual front (timed usual m i (minutes ∷ increment ∷ words) words).0)
+timed-front : (usual : Time) (minutes increment : List ℕ) (words : Words) (m i : Option ℕ)
+    → number_within 600 minutes ≡ m
+    → number_within 600 increment ≡ i
+    → Front (minutes ∷ increment ∷ words) (times_read usual m i (minutes ∷ increment ∷ words) words).1
+    (λ front. SpellsTime usual front (times_read usual m i (minutes ∷ increment ∷ words) words).0)
 timed-front usual minutes increment words (Some m) (Some i) e f =
     let first = number_of-spelled 600 minutes m (omega arith) e in
     let second = number_of-spelled 600 increment i (omega arith) f in
@@ -177,7 +181,7 @@ time-front : (usual : Time) (words : Words)
 time-front usual [] = record { front = []; split = refl; fits = inr (refl, refl) }
 time-front usual (word ∷ []) = record { front = []; split = refl; fits = inr (refl, refl) }
 time-front usual (minutes ∷ increment ∷ words) =
-    timed-front usual minutes increment words (number_of 600 minutes) (number_of 600 increment) refl refl
+    timed-front usual minutes increment words (number_within 600 minutes) (number_within 600 increment) refl refl
 
 none_left : (terms wanted : Terms) (words : Words) → with_none_left terms words ≡ Some wanted
     → (words ≡ []) × (terms ≡ wanted)
@@ -185,7 +189,7 @@ none_left terms wanted [] e = (refl, let same : terms ≡ wanted = cc in same)
 none_left terms wanted (word ∷ words) e = absurd (let bad : None ≡ Some wanted = e in cc)
 
 read-spells : (usual : Time) (words : Words) (terms : Terms) → terms_of usual words ≡ Some terms
-    → Spells usual words terms
+    → SpellsTerms usual words terms
 unfolding terms_of
 read-spells usual words terms e =
     let t = time-front usual words in
@@ -193,8 +197,8 @@ read-spells usual words terms e =
     let v = variant-front (behind_unrated (leading_time usual words).1) in
     let c = colour-front (leading_variant (behind_unrated (leading_time usual words).1)).1 in
     let ended = none_left _ terms _ e in
-    let spelled : Spells usual words
-    (agreed (leading_time usual words).0 (leading_variant (behind_unrated (leading_time usual words).1)).0
+    let spelled : SpellsTerms usual words
+    (agreed_terms (leading_time usual words).0 (leading_variant (behind_unrated (leading_time usual words).1)).0
     (leading asked_colour None (leading_variant (behind_unrated (leading_time usual words).1)).1).0) = record {
       time = t.front;
       unrated = u.front;
@@ -211,11 +215,11 @@ read-spells usual words terms e =
       spells_variant = v.fits.0;
       spells_colour = c.fits;
     } in
-    subst (Spells usual words) ended.1 spelled
+    subst (SpellsTerms usual words) ended.1 spelled
 
 -- ---- what words spell is read
 
-colour_cases : (P : Words → Type 0) (asked : Option Colour) (words : Words) → OneOf (colour_words asked) words
+colour_cases : (P : Words → Type 0) (asked : Option Colour) (words : Words) → OneOfWords (colour_words asked) words
     → P [] → P (codes "white" ∷ []) → P (codes "w" ∷ []) → P (codes "black" ∷ []) → P (codes "b" ∷ []) → P words
 colour_cases P None words (inl e) none white w black b = subst P (sym e) none
 colour_cases P None words (inr e) none white w black b = absurd e
@@ -226,7 +230,7 @@ colour_cases P (Some Black) words (inl e) none white w black b = subst P (sym e)
 colour_cases P (Some Black) words (inr (inl e)) none white w black b = subst P (sym e) b
 colour_cases P (Some Black) words (inr (inr e)) none white w black b = absurd e
 
-variant_cases : (P : Words → Type 0) (v : Variant) (words : Words) → OneOf (variant_words v) words
+variant_cases : (P : Words → Type 0) (v : Variant) (words : Words) → OneOfWords (variant_words v) words
     → P [] → P (word_of Chess ∷ []) → P (word_of Crazyhouse ∷ []) → P (word_of Bughouse ∷ [])
     → ((n : ℕ) → P (codes "fischer" ∷ decimal n ∷ [])) → P words
 variant_cases P Chess words (inl e) none chess crazyhouse bughouse fischer = subst P (sym e) none
@@ -239,13 +243,13 @@ variant_cases P Bughouse words (inr e) none chess crazyhouse bughouse fischer = 
 variant_cases P (Fischer n) words (inl e) none chess crazyhouse bughouse fischer = subst P (sym e) (fischer n)
 variant_cases P (Fischer n) words (inr e) none chess crazyhouse bughouse fischer = absurd e
 
-unrated_cases : (P : Words → Type 0) (words : Words) → OneOf unrated_words words → P [] → P (codes "unrated" ∷ [])
+unrated_cases : (P : Words → Type 0) (words : Words) → OneOfWords unrated_words words → P [] → P (codes "unrated" ∷ [])
     → P words
 unrated_cases P words (inl e) none unrated = subst P (sym e) none
 unrated_cases P words (inr (inl e)) none unrated = subst P (sym e) unrated
 unrated_cases P words (inr (inr e)) none unrated = absurd e
 
-colour-again : (asked : Option Colour) (words : Words) → OneOf (colour_words asked) words
+colour-again : (asked : Option Colour) (words : Words) → OneOfWords (colour_words asked) words
     → leading asked_colour None words ≡ (asked, [])
 colour-again None words (inl e) = ap (leading asked_colour None) e
 colour-again None words (inr e) = absurd e
@@ -261,11 +265,11 @@ by_itself : (word : List ℕ) (words : Words)
     → bytes_eq word (codes "fischer") ≡ false → leading_variant (word ∷ words) ≡ leading variant_of Chess (word ∷ words)
 by_itself word [] other = refl
 by_itself word (next ∷ words) other =
-    ap (λ (t : Bool). from_array (cond t (number_of 959 next) None) (word ∷ next ∷ words) words) other
+    ap (λ (t : Bool). from_array (cond t (number_within 959 next) None) (word ∷ next ∷ words) words) other
 
 -- a colour's word is no variant's
 variant-again : (v : Variant) (asked : Option Colour) (words colour : Words) → IsNumbered v
-    → OneOf (variant_words v) words → OneOf (colour_words asked) colour
+    → OneOfWords (variant_words v) words → OneOfWords (colour_words asked) colour
     → leading_variant (words ++ colour) ≡ (v, colour)
 variant-again Chess asked words colour small (inl e) c =
     ap (λ (w : Words). leading_variant (w ++ colour)) e
@@ -286,9 +290,9 @@ variant-again (Fischer n) asked words colour small (inl e) c =
 variant-again (Fischer n) asked words colour small (inr e) c = absurd e
 
 -- a variant's word and a colour's aren't `unrated`
-unrated-again : (v : Variant) (asked : Option Colour) (words variant colour : Words) → OneOf unrated_words words
-    → OneOf (variant_words v) variant
-    → OneOf (colour_words asked) colour → behind_unrated (words ++ (variant ++ colour)) ≡ variant ++ colour
+unrated-again : (v : Variant) (asked : Option Colour) (words variant colour : Words) → OneOfWords unrated_words words
+    → OneOfWords (variant_words v) variant
+    → OneOfWords (colour_words asked) colour → behind_unrated (words ++ (variant ++ colour)) ≡ variant ++ colour
 unrated-again v asked words variant colour u vs c =
     unrated_cases (λ w. behind_unrated (w ++ (variant ++ colour)) ≡ variant ++ colour) words u
     (variant_cases (λ w. behind_unrated (w ++ colour) ≡ w ++ colour) v variant vs
@@ -296,17 +300,17 @@ unrated-again v asked words variant colour u vs c =
     refl
 
 -- none of these words is a number
-no_number : (usual : Time) (word : List ℕ) (words : Words) → number_of 600 word ≡ None
+no_number : (usual : Time) (word : List ℕ) (words : Words) → number_within 600 word ≡ None
     → leading_time usual (word ∷ words) ≡ (usual, word ∷ words)
 no_number usual word [] e = refl
 no_number usual word (next ∷ words) e =
-    ap (λ (o : Option ℕ). timed usual o (number_of 600 next) (word ∷ next ∷ words) words) e
+    ap (λ (o : Option ℕ). times_read usual o (number_within 600 next) (word ∷ next ∷ words) words) e
 
 no_time : (usual : Time) (v : Variant) (asked : Option Colour) (words variant colour : Words)
-    → OneOf unrated_words words → OneOf (variant_words v) variant
-    → OneOf (colour_words asked) colour
+    → OneOfWords unrated_words words → OneOfWords (variant_words v) variant
+    → OneOfWords (colour_words asked) colour
     → leading_time usual (words ++ (variant ++ colour)) ≡ (usual, words ++ (variant ++ colour))
-unfolding number_of
+unfolding number_within
 no_time usual v asked words variant colour u vs c =
     unrated_cases (λ w. leading_time usual (w ++ (variant ++ colour)) ≡ (usual, w ++ (variant ++ colour))) words u
     (variant_cases (λ w. leading_time usual (w ++ colour) ≡ (usual, w ++ colour)) v variant vs
@@ -323,10 +327,12 @@ time-again usual time words rest (inl (m, i, e)) none =
     ap (λ (w : Words). leading_time usual (w ++ rest)) e
     ∙ ap
     (λ (o : Option ℕ).
-    timed usual o (number_of 600 (decimal time.increment)) (decimal time.minutes ∷ decimal time.increment ∷ rest) rest)
+    times_read usual o (number_within 600 (decimal time.increment))
+    (decimal time.minutes ∷ decimal time.increment ∷ rest) rest)
     (number_of-decimal 600 time.minutes m (omega arith))
     ∙ ap
-    (λ (o : Option ℕ). timed usual (Some time.minutes) o (decimal time.minutes ∷ decimal time.increment ∷ rest) rest)
+    (λ (o : Option ℕ).
+    times_read usual (Some time.minutes) o (decimal time.minutes ∷ decimal time.increment ∷ rest) rest)
     (number_of-decimal 600 time.increment i (omega arith))
 time-again usual time words rest (inr (e, usually)) none =
     ap (λ (w : Words). leading_time usual (w ++ rest)) e ∙ none ∙ ap (λ (t : Time). (t, rest)) (sym usually)
@@ -337,23 +343,23 @@ pub parts_are_terms : (usual time : Time) (words unrated variant_words' colour_w
     → (time, unrated) ≡ leading_time usual words → variant_words' ≡ behind_unrated unrated
     → (variant, colour_words') ≡ leading_variant variant_words'
     → (colour, left) ≡ leading asked_colour None colour_words'
-    → with_none_left (agreed time variant colour) left ≡ terms_of usual words
+    → with_none_left (agreed_terms time variant colour) left ≡ terms_of usual words
 unfolding terms_of
 parts_are_terms usual time words unrated variant_words' colour_words' left variant colour t u v c =
-    ap (λ (p : Option Colour × Words). with_none_left (agreed time variant p.0) p.1) c
+    ap (λ (p : Option Colour × Words). with_none_left (agreed_terms time variant p.0) p.1) c
     ∙ ap
     (λ (p : Variant × Words).
-    with_none_left (agreed time p.0 (leading asked_colour None p.1).0) (leading asked_colour None p.1).1)
+    with_none_left (agreed_terms time p.0 (leading asked_colour None p.1).0) (leading asked_colour None p.1).1)
     v
     ∙ ap
     (λ (w : Words).
-    with_none_left (agreed time (leading_variant w).0 (leading asked_colour None (leading_variant w).1).0)
+    with_none_left (agreed_terms time (leading_variant w).0 (leading asked_colour None (leading_variant w).1).0)
     (leading asked_colour None (leading_variant w).1).1) u
-    ∙ ap (λ (p : Time × Words). with_none_left (agreed p.0 (leading_variant (behind_unrated p.1)).0
+    ∙ ap (λ (p : Time × Words). with_none_left (agreed_terms p.0 (leading_variant (behind_unrated p.1)).0
     (leading asked_colour None (leading_variant (behind_unrated p.1)).1).0)
     (leading asked_colour None (leading_variant (behind_unrated p.1)).1).1) t
 
-spelled-read : (usual : Time) (words : Words) (terms : Terms) → Spells usual words terms
+spelled-read : (usual : Time) (words : Words) (terms : Terms) → SpellsTerms usual words terms
     → terms_of usual words ≡ Some terms
 spelled-read usual words terms s =
     let whole : Words = s.time ++ (s.unrated ++ (s.variant ++ s.colour)) in

@@ -5,14 +5,14 @@ use Rattle.fics_words.specs.declared.refusal.Refusal.TheVariants.{BadArguments}
 use Rattle.command_words.specs.declared.command.Command.{Command}
 use Rattle.command_words.specs.declared.command.Command.TheVariants.{Alias, Unalias}
 use Rattle.command_words.specs.Aliases.{is_alias_name}
-use Rattle.command_words.specs.Blanks.{first_word, rest_of}
-use Rattle.command_words.specs.Texts.{is_text}
+use Rattle.command_words.specs.Blanks.{first_word, rest_behind_word}
+use Rattle.command_words.specs.Texts.{is_message_text}
 
 abbrev pub alias_from : List ℕ → List ℕ → Result Command Refusal
-alias_from name text = if is_alias_name name && is_text text then Ok (Alias name text) else Err BadArguments
+alias_from name text = if is_alias_name name && is_message_text text then Ok (Alias name text) else Err BadArguments
 
 abbrev pub alias_command : List ℕ → Result Command Refusal
-alias_command rest = alias_from (first_word rest) (rest_of rest)
+alias_command rest = alias_from (first_word rest) (rest_behind_word rest)
 
 abbrev pub unalias_command : List ℕ → Result Command Refusal
 unalias_command rest = if is_alias_name rest then Ok (Unalias rest) else Err BadArguments

@@ -4,8 +4,8 @@ use Rattle.std.specs.List.{list_all, list_any}
 use Rattle.fics_words.specs.Effect.{Effect}
 use Rattle.fics_words.specs.declared.refusal.Refusal.TheVariants.{BadArguments, ListFull, NotOnList}
 use Rattle.command_words.specs.declared.aliases.Alias.{Alias}
-use Rattle.command_words.specs.Blanks.{word_at}
-use Rattle.command_words.specs.Texts.{is_text}
+use Rattle.command_words.specs.Blanks.{word_numbered}
+use Rattle.command_words.specs.Texts.{is_message_text}
 
 -- an alias's name is 1 to 15 lower-case letters
 abbrev pub is_alias_name : List ℕ → Bool
@@ -28,7 +28,7 @@ with_alias aliases alias (Some place) = slice_set aliases place alias
 abbrev pub setting : List Alias → List ℕ → List ℕ → Effect (List Alias) (Unit {0})
 setting aliases name text = record {
   causes =
-      (not (is_alias_name name && is_text text), BadArguments)
+      (not (is_alias_name name && is_message_text text), BadArguments)
       ∷ (is_none (position (has_name name) aliases) && nat_le 32 (length aliases), ListFull) ∷ [];
   memory = true;
   reply = tt;
@@ -55,7 +55,7 @@ is_place b = b == 64 || (nat_le 49 b && nat_le b 57)
 
 -- what is put into such a place: the argument word of that number, or all of the rest of the line
 abbrev pub placed : ℕ → List ℕ → List ℕ
-placed b rest = if b == 64 then rest else word_at (b - 49) rest
+placed b rest = if b == 64 then rest else word_numbered (b - 49) rest
 
 -- the alias's text with its places filled
 abbrev pub filled : List ℕ → List ℕ → List ℕ

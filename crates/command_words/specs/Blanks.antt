@@ -30,13 +30,13 @@ abbrev pub first_word : List ℕ → List ℕ
 first_word text = take (word_length text) text
 
 -- the rest of the text, from the next byte behind its first word that isn't a blank
-abbrev pub rest_of : List ℕ → List ℕ
-rest_of text = behind_blanks (drop (word_length text) text)
+abbrev pub rest_behind_word : List ℕ → List ℕ
+rest_behind_word text = behind_blanks (drop (word_length text) text)
 
 -- the word of that number, from 0; empty where there are fewer. The text begins with no blank.
-abbrev pub word_at : ℕ → List ℕ → List ℕ
-word_at zero text = first_word text
-word_at (suc n) text = word_at n (rest_of text)
+abbrev pub word_numbered : ℕ → List ℕ → List ℕ
+word_numbered zero text = first_word text
+word_numbered (suc n) text = word_numbered n (rest_behind_word text)
 
 example_trimmed : trimmed (codes "  a b  ") ≡ codes "a b"
 example_trimmed = refl
@@ -44,13 +44,13 @@ example_trimmed = refl
 example_blanks : trimmed (codes "   ") ≡ codes ""
 example_blanks = refl
 
-example_word : word_at 1 (codes "tell  bob hi") ≡ codes "bob"
+example_word : word_numbered 1 (codes "tell  bob hi") ≡ codes "bob"
 example_word = refl
 
-example_rest : rest_of (codes "tell  bob hi") ≡ codes "bob hi"
+example_rest : rest_behind_word (codes "tell  bob hi") ≡ codes "bob hi"
 example_rest = refl
 
-example_no_word : word_at 3 (codes "tell  bob hi") ≡ codes ""
+example_no_word : word_numbered 3 (codes "tell  bob hi") ≡ codes ""
 example_no_word = refl
 
 -- some words, in their order

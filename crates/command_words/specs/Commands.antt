@@ -10,18 +10,18 @@ use Rattle.move_reader.specs.Reading.{reading}
 use Rattle.command_words.specs.declared.aliases.Alias.{Alias}
 use Rattle.command_words.specs.declared.command.Command.{Command}
 use Rattle.command_words.specs.declared.command.Command.TheVariants as command
-use Rattle.command_words.specs.Blanks.{trimmed, first_word, rest_of}
+use Rattle.command_words.specs.Blanks.{trimmed, first_word, rest_behind_word}
 use Rattle.command_words.specs.Aliases.{alias_of, expanded}
 use Rattle.command_words.specs.Alias.{alias_command, unalias_command}
 use Rattle.command_words.specs.Match.{match_of}
-use Rattle.command_words.specs.Seek.{seek_of}
+use Rattle.command_words.specs.Seek.{seek_command}
 use Rattle.command_words.specs.Takeback.{takeback_of}
 use Rattle.command_words.specs.Unseek.{unseek_of}
 use Rattle.command_words.specs.Set.{set_of}
 use Rattle.command_words.specs.Tell.{tell_of}
-use Rattle.command_words.specs.Naming.{named_by}
+use Rattle.command_words.specs.Naming.{takes_named_by}
 use Rattle.command_words.specs.Observe.{observe_of}
-use Rattle.command_words.specs.Shapes.{maybe_named, named, nothing, numbered, on_channel, with_text}
+use Rattle.command_words.specs.Shapes.{maybe_named, command_named, nothing, numbered, on_channel, with_text}
 use Rattle.command_words.specs.declared.rows.Bare.TheVariants.{Quit}
 use Rattle.command_words.specs.declared.rows.MaybeByName.TheVariants.{Accept}
 use Rattle.command_words.specs.declared.rows.Takes.{Takes}
@@ -32,7 +32,7 @@ use Rattle.command_words.specs.Style.{style_of}
 -- what the rest of the line says, as each command reads its arguments
 abbrev pub arguments_of : Takes → List ℕ → Result Command Refusal
 arguments_of (takes.Nothing which) rest = nothing which rest
-arguments_of (takes.Name which) rest = named which rest
+arguments_of (takes.Name which) rest = command_named which rest
 arguments_of (takes.MaybeName which) rest = maybe_named which rest
 arguments_of (takes.Text which) rest = with_text which rest
 arguments_of (takes.Number which) rest = numbered which rest
@@ -40,7 +40,7 @@ arguments_of (takes.Channel which) rest = on_channel which rest
 arguments_of takes.Alias rest = alias_command rest
 arguments_of takes.Challenge rest = match_of rest
 arguments_of takes.Look rest = observe_of rest
-arguments_of takes.Seek rest = seek_of rest
+arguments_of takes.Seek rest = seek_command rest
 arguments_of takes.Setting rest = set_of rest
 arguments_of takes.Style rest = style_of rest
 arguments_of takes.Takeback rest = takeback_of rest
@@ -48,9 +48,9 @@ arguments_of takes.Telling rest = tell_of rest
 arguments_of takes.Unalias rest = unalias_command rest
 arguments_of takes.Unseek rest = unseek_of rest
 
-abbrev pub asked : Result Takes Refusal → List ℕ → Result Command Refusal
-asked (Ok found) rest = arguments_of found rest
-asked (Err cause) rest = Err cause
+abbrev pub command_asked : Result Takes Refusal → List ℕ → Result Command Refusal
+command_asked (Ok found) rest = arguments_of found rest
+command_asked (Err cause) rest = Err cause
 
 -- the move word that a text is
 unfoldable pub move_in : List ℕ → Option MoveWord
@@ -59,7 +59,7 @@ move_in text = reading text
 -- a move, where the text is one; else the command of its first word, of which the case of letters doesn't count
 abbrev pub move_or : Option MoveWord → List ℕ → Result Command Refusal
 move_or (Some word) text = Ok (command.Move word)
-move_or None text = asked (named_by (map to_ascii_lowercase (first_word text))) (rest_of text)
+move_or None text = command_asked (takes_named_by (map to_ascii_lowercase (first_word text))) (rest_behind_word text)
 
 -- what a line asks for after its alias, without blanks at its ends
 abbrev pub command_of : List ℕ → Result Command Refusal
@@ -72,7 +72,7 @@ command_made made = if nat_lt most_line_bytes (length made) then Err TooLong els
 
 abbrev pub command_after : Option Alias → List ℕ → Result Command Refusal
 command_after None text = command_of text
-command_after (Some alias) text = command_made (expanded alias.text (rest_of text))
+command_after (Some alias) text = command_made (expanded alias.text (rest_behind_word text))
 
 -- what a line asks for: its first word is replaced by its alias, once
 abbrev pub command_in : List Alias → List ℕ → Result Command Refusal

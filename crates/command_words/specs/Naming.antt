@@ -23,9 +23,9 @@ abbrev pub is_called : List ℕ → CommandRow → Bool
 is_called word row = is_name word row || bytes_eq word (row.1 ∷ [])
 
 -- the command of a row
-abbrev pub taken : Option CommandRow → Option Takes
-taken None = None
-taken (Some row) = Some row.2
+abbrev pub taken_by_row : Option CommandRow → Option Takes
+taken_by_row None = None
+taken_by_row (Some row) = Some row.2
 
 abbrev pub or_unknown : Option Takes → Result Takes Refusal
 or_unknown None = Err Unknown
@@ -40,33 +40,33 @@ abbrev pub called_or : Option Takes → Result Takes Refusal → Result Takes Re
 called_or None other = other
 called_or (Some takes) other = Ok takes
 
-abbrev pub named_by : List ℕ → Result Takes Refusal
-named_by word =
-    called_or (taken (find (is_called word) commands))
-    (one_by_front (count_by (begins word) commands) (taken (find (begins word) commands)))
+abbrev pub takes_named_by : List ℕ → Result Takes Refusal
+takes_named_by word =
+    called_or (taken_by_row (find (is_called word) commands))
+    (one_by_front (count_by (begins word) commands) (taken_by_row (find (begins word) commands)))
 
-example_name : named_by (codes "quit") ≡ Ok (Nothing Quit)
+example_name : takes_named_by (codes "quit") ≡ Ok (Nothing Quit)
 example_name = refl
 
-example_short : named_by (codes "a") ≡ Ok (MaybeName Accept)
+example_short : takes_named_by (codes "a") ≡ Ok (MaybeName Accept)
 example_short = refl
 
-example_front : named_by (codes "resi") ≡ Ok (Nothing Resign)
+example_front : takes_named_by (codes "resi") ≡ Ok (Nothing Resign)
 example_front = refl
 
-example_two : named_by (codes "re") ≡ Err AmbiguousWord
+example_two : takes_named_by (codes "re") ≡ Err AmbiguousWord
 example_two = refl
 
-example_none : named_by (codes "zz") ≡ Err Unknown
+example_none : takes_named_by (codes "zz") ≡ Err Unknown
 example_none = refl
 
-example_one_of_a_simul : named_by (codes "simo") ≡ Ok (Nothing SimOpen)
+example_one_of_a_simul : takes_named_by (codes "simo") ≡ Ok (Nothing SimOpen)
 example_one_of_a_simul = refl
 
 -- `a` is short for `accept`; `ad` begins `adjourn` alone
-example_adjourn : named_by (codes "ad") ≡ Ok (Nothing Adjourn)
+example_adjourn : takes_named_by (codes "ad") ≡ Ok (Nothing Adjourn)
 example_adjourn = refl
 
 -- `res` begins `resign` and `resume`
-example_resign_or_resume : named_by (codes "res") ≡ Err AmbiguousWord
+example_resign_or_resume : takes_named_by (codes "res") ≡ Err AmbiguousWord
 example_resign_or_resume = refl

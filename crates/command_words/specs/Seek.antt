@@ -8,7 +8,7 @@ use Rattle.command_words.specs.declared.command.Command.{Command}
 use Rattle.command_words.specs.declared.command.Command.TheVariants.{Seek}
 use Rattle.command_words.specs.declared.terms.Time.{Time}
 use Rattle.command_words.specs.Blanks.{words_of}
-use Rattle.command_words.specs.Numbers.{number_of}
+use Rattle.command_words.specs.Numbers.{number_within}
 use Rattle.command_words.specs.Shapes.{read_as}
 use Rattle.command_words.specs.TermReading.{terms_of}
 
@@ -16,33 +16,33 @@ use Rattle.command_words.specs.TermReading.{terms_of}
 abbrev pub five_nothing : Time
 five_nothing = record { minutes = 5; increment = 0 }
 
-abbrev pub seek_of : List ℕ → Result Command Refusal
-seek_of rest = read_as Seek (terms_of five_nothing (words_of rest))
+abbrev pub seek_command : List ℕ → Result Command Refusal
+seek_command rest = read_as Seek (terms_of five_nothing (words_of rest))
 
-example_usual : seek_of [] ≡ Ok (Seek (record { minutes = 5; increment = 0; variant = Chess; colour = None }))
-unfolding words_of terms_of number_of
+example_usual : seek_command [] ≡ Ok (Seek (record { minutes = 5; increment = 0; variant = Chess; colour = None }))
+unfolding words_of terms_of number_within
 example_usual = refl
 
 example_all :
-    seek_of (codes "3 2 unrated crazyhouse white")
+    seek_command (codes "3 2 unrated crazyhouse white")
     ≡ Ok (Seek (record { minutes = 3; increment = 2; variant = Crazyhouse; colour = Some White }))
-unfolding words_of terms_of number_of
+unfolding words_of terms_of number_within
 example_all = refl
 
 example_fischer :
-    seek_of (codes "5 0 fischer 518")
+    seek_command (codes "5 0 fischer 518")
     ≡ Ok (Seek (record { minutes = 5; increment = 0; variant = Fischer 518; colour = None }))
-unfolding words_of terms_of number_of
+unfolding words_of terms_of number_within
 example_fischer = refl
 
-example_no_array : seek_of (codes "5 0 fischer") ≡ Err BadArguments
-unfolding words_of terms_of number_of
+example_no_array : seek_command (codes "5 0 fischer") ≡ Err BadArguments
+unfolding words_of terms_of number_within
 example_no_array = refl
 
-example_array_too_great : seek_of (codes "5 0 fischer 960") ≡ Err BadArguments
-unfolding words_of terms_of number_of
+example_array_too_great : seek_command (codes "5 0 fischer 960") ≡ Err BadArguments
+unfolding words_of terms_of number_within
 example_array_too_great = refl
 
-example_rated : seek_of (codes "5 0 rated") ≡ Err BadArguments
-unfolding words_of terms_of number_of
+example_rated : seek_command (codes "5 0 rated") ≡ Err BadArguments
+unfolding words_of terms_of number_within
 example_rated = refl

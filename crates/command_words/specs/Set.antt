@@ -7,8 +7,8 @@ use Rattle.command_words.specs.declared.command.Command.TheVariants.{SetOpen, Se
 use Rattle.command_words.specs.Blanks.{Words, words_of}
 
 -- 0 is off and 1 is on
-abbrev pub is_on : List ℕ → Option Bool
-is_on value =
+abbrev pub on_or_off : List ℕ → Option Bool
+on_or_off value =
     if bytes_eq value (codes "0") then Some false
     else if bytes_eq value (codes "1") then Some true
     else None
@@ -23,7 +23,7 @@ set_to name (Some on) =
 
 -- two words, the variable's name and its value
 abbrev pub setting_of : Words → Result Command Refusal
-setting_of (name ∷ value ∷ []) = set_to name (is_on value)
+setting_of (name ∷ value ∷ []) = set_to name (on_or_off value)
 setting_of words = Err BadArguments
 
 abbrev pub set_of : List ℕ → Result Command Refusal

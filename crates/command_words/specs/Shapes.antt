@@ -15,9 +15,9 @@ use Rattle.command_words.specs.declared.rows.ByNumber.TheVariants.{Play}
 use Rattle.command_words.specs.declared.rows.OnChannel.{OnChannel}
 use Rattle.command_words.specs.declared.rows.OnChannel.TheVariants.{Ask, Join}
 use Rattle.command_words.specs.Blanks.{first_word}
-use Rattle.command_words.specs.Numbers.{is_no_channel, number_of}
+use Rattle.command_words.specs.Numbers.{is_no_channel, number_within}
 use Rattle.fics_words.specs.HandleTest.{handle_of}
-use Rattle.command_words.specs.Texts.{is_text}
+use Rattle.command_words.specs.Texts.{is_message_text}
 
 -- the command of what was read, if it could be read
 abbrev pub read_as : {V : Type 0} → (V → Command) → Option V → Result Command Refusal
@@ -28,8 +28,8 @@ abbrev pub nothing : Bare → List ℕ → Result Command Refusal
 nothing which [] = Ok (command.Bare which)
 nothing which (b ∷ rest) = Err BadArguments
 
-abbrev pub named : ByName → List ℕ → Result Command Refusal
-named which rest = read_as (command.ByName which) (handle_of rest)
+abbrev pub command_named : ByName → List ℕ → Result Command Refusal
+command_named which rest = read_as (command.ByName which) (handle_of rest)
 
 -- a handle or nothing
 abbrev pub maybe_named : MaybeByName → List ℕ → Result Command Refusal
@@ -37,16 +37,17 @@ maybe_named which [] = Ok (command.MaybeByName which None)
 maybe_named which (b ∷ rest) = read_as (λ name. command.MaybeByName which (Some name)) (handle_of (b ∷ rest))
 
 abbrev pub with_text : WithText → List ℕ → Result Command Refusal
-with_text which rest = if is_text rest then Ok (command.WithText which rest) else Err BadArguments
+with_text which rest = if is_message_text rest then Ok (command.WithText which rest) else Err BadArguments
 
 -- a decimal up to 65,535
 abbrev pub numbered : ByNumber → List ℕ → Result Command Refusal
-numbered which rest = read_as (command.ByNumber which) (number_of 65535 rest)
+numbered which rest = read_as (command.ByNumber which) (number_within 65535 rest)
 
 -- a channel: a decimal above 255 is refused as such, also where more stands behind it
 abbrev pub on_channel : OnChannel → List ℕ → Result Command Refusal
 on_channel which rest =
-    if is_no_channel (first_word rest) then Err BadChannel else read_as (command.OnChannel which) (number_of 255 rest)
+    if is_no_channel (first_word rest) then Err BadChannel
+    else read_as (command.OnChannel which) (number_within 255 rest)
 
 example_player : maybe_named Accept (codes "Bob") ≡ Ok (command.MaybeByName Accept (Some (codes "Bob")))
 example_player = refl
@@ -54,17 +55,17 @@ example_player = refl
 example_nobody : maybe_named Accept (codes "") ≡ Ok (command.MaybeByName Accept None)
 example_nobody = refl
 
-example_two : named GoBoard (codes "Bob Ann") ≡ Err BadArguments
+example_two : command_named GoBoard (codes "Bob Ann") ≡ Err BadArguments
 example_two = refl
 
 example_join : on_channel Join (codes "255") ≡ Ok (command.OnChannel Join 255)
-unfolding number_of
+unfolding number_within
 example_join = refl
 
 example_no_channel : on_channel Ask (codes "256 x") ≡ Err BadChannel
-unfolding number_of
+unfolding number_within
 example_no_channel = refl
 
 example_number : numbered Play (codes "1") ≡ Ok (command.ByNumber Play 1)
-unfolding number_of
+unfolding number_within
 example_number = refl

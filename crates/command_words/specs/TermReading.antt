@@ -10,28 +10,30 @@ use Rattle.chess_model.specs.declared.variant.Variant.TheVariants.{Chess, Crazyh
 use Rattle.chess_model.specs.VariantWord.{word_of}
 use Rattle.command_words.specs.declared.terms.Time.{Time}
 use Rattle.command_words.specs.Blanks.{Words}
-use Rattle.command_words.specs.Numbers.{number_of}
-use Rattle.command_words.specs.TermWords.{Spells}
+use Rattle.command_words.specs.Numbers.{number_within}
+use Rattle.command_words.specs.TermWords.{SpellsTerms}
 
 -- what the first word means, and the words behind it; where it means nothing, what holds without it, and all the words
-abbrev pub told : {V : Type 0} → V → Option V → Words → Words → V × Words
-told absent None words behind = (absent, words)
-told absent (Some value) words behind = (value, behind)
+abbrev pub told_or_default : {V : Type 0} → V → Option V → Words → Words → V × Words
+told_or_default absent None words behind = (absent, words)
+told_or_default absent (Some value) words behind = (value, behind)
 
 abbrev pub leading : {V : Type 0} → (List ℕ → Option V) → V → Words → V × Words
 leading meaning absent [] = (absent, [])
-leading meaning absent (word ∷ words) = told absent (meaning word) (word ∷ words) words
+leading meaning absent (word ∷ words) = told_or_default absent (meaning word) (word ∷ words) words
 
 -- two numbers, and the words behind them; where one of them is none, the usual time, and all the words
-abbrev pub timed : Time → Option ℕ → Option ℕ → Words → Words → Time × Words
-timed usual (Some minutes) (Some increment) words behind = (record { minutes = minutes; increment = increment }, behind)
-timed usual minutes increment words behind = (usual, words)
+abbrev pub times_read : Time → Option ℕ → Option ℕ → Words → Words → Time × Words
+times_read usual (Some minutes) (Some increment) words behind =
+    (record { minutes = minutes; increment = increment }, behind)
+times_read usual minutes increment words behind = (usual, words)
 
 abbrev pub leading_time : Time → Words → Time × Words
 leading_time usual [] = (usual, [])
 leading_time usual (word ∷ []) = (usual, word ∷ [])
 leading_time usual (minutes ∷ increment ∷ words) =
-    timed usual (number_of most_time minutes) (number_of most_time increment) (minutes ∷ increment ∷ words) words
+    times_read usual (number_within most_time minutes) (number_within most_time increment) (minutes ∷ increment ∷ words)
+    words
 
 -- the words behind `unrated`, if it stands first
 abbrev pub behind_unrated : Words → Words
@@ -62,7 +64,7 @@ in_one_word (Fischer number) = None
 
 -- the number of the array of Fischer random that these two words name
 abbrev pub array_named : List ℕ → List ℕ → Option ℕ
-array_named word number = if bytes_eq word (codes "fischer") then number_of (arrays - 1) number else None
+array_named word number = if bytes_eq word (codes "fischer") then number_within (arrays - 1) number else None
 
 -- Fischer random from that array, and the words behind its two; else what the first word means
 abbrev pub from_array : Option ℕ → Words → Words → Variant × Words
@@ -89,8 +91,8 @@ with_none_left terms [] = Some terms
 with_none_left terms (word ∷ words) = None
 
 -- the terms of what was read
-abbrev pub agreed : Time → Variant → Option Colour → Terms
-agreed time variant colour =
+abbrev pub agreed_terms : Time → Variant → Option Colour → Terms
+agreed_terms time variant colour =
     record { minutes = time.minutes; increment = time.increment; variant = variant; colour = colour }
 
 -- the terms that the words are read as, where the time is usually this
@@ -99,9 +101,9 @@ terms_of usual words =
     let time = leading_time usual words in
     let variant = leading_variant (behind_unrated time.1) in
     let colour = leading asked_colour None variant.1 in
-    with_none_left (agreed time.0 variant.0 colour.0) colour.1
+    with_none_left (agreed_terms time.0 variant.0 colour.0) colour.1
 
 -- words are read as terms exactly where they spell them; so no words spell two terms
 abbrev pub AreReadAsSpelled : Type 0
 AreReadAsSpelled =
-    (usual : Time) (words : Words) (terms : Terms) → (terms_of usual words ≡ Some terms) ↔ Spells usual words terms
+    (usual : Time) (words : Words) (terms : Terms) → (terms_of usual words ≡ Some terms) ↔ SpellsTerms usual words terms

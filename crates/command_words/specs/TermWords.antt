@@ -17,9 +17,9 @@ abbrev pub UsualTime : Type 0
 UsualTime = Time
 
 -- the words are one of these lists of words
-abbrev pub OneOf : List Words → Words → Type 0
-OneOf [] words = ⊥
-OneOf (choice ∷ choices) words = (words ≡ choice) ⊎ OneOf choices words
+abbrev pub OneOfWords : List Words → Words → Type 0
+OneOfWords [] words = ⊥
+OneOfWords (choice ∷ choices) words = (words ≡ choice) ⊎ OneOfWords choices words
 
 -- the minutes at the start and the seconds of increment as decimals, each at most 600; or neither, where the time is
 -- the usual one
@@ -51,15 +51,15 @@ abbrev pub time_of : Terms → Time
 time_of terms = record { minutes = terms.minutes; increment = terms.increment }
 
 -- the words spell the terms of a game, where its time is usually this: they are four parts in a row
-pub record Spells (usual : Time) (words : Words) (terms : Terms) : Type 0 where
+pub record SpellsTerms (usual : Time) (words : Words) (terms : Terms) : Type 0 where
   pub time : Words
   pub unrated : Words
   pub variant : Words
   pub colour : Words
   pub parts : words ≡ time ++ (unrated ++ (variant ++ colour))
   pub spells_time : SpellsTime usual time (time_of terms)
-  pub may_be_unrated : OneOf unrated_words unrated
+  pub may_be_unrated : OneOfWords unrated_words unrated
   -- the number of an array is from 0 to 959
   pub numbered : IsNumbered terms.variant
-  pub spells_variant : OneOf (variant_words terms.variant) variant
-  pub spells_colour : OneOf (colour_words terms.colour) colour
+  pub spells_variant : OneOfWords (variant_words terms.variant) variant
+  pub spells_colour : OneOfWords (colour_words terms.colour) colour

@@ -16,13 +16,13 @@ abbrev pub in_nine : List ℕ → List ℕ
 in_nine name = take 9 (name ++ codes "         ")
 
 -- a short form as the table has it: its one letter, or a blank where there is none
-abbrev pub letter_of : List ℕ → ℕ
-letter_of [] = 32
-letter_of (letter ∷ more) = letter
+abbrev pub short_letter : List ℕ → ℕ
+short_letter [] = 32
+short_letter (letter ∷ more) = letter
 
 -- a command of this name and short form, which takes this
 abbrev pub row : List ℕ → List ℕ → Takes → CommandRow
-row name letter takes = record { 0 = in_nine name; 1 = letter_of letter; 2 = takes }
+row name letter takes = record { 0 = in_nine name; 1 = short_letter letter; 2 = takes }
 
 -- the commands
 abbrev pub commands : List CommandRow

@@ -2,7 +2,7 @@
 
 ghost use Rattle.std.specs.Prelude.{◌≡◌, ◌<◌, IfOk, IfSome, OnOk, OnErr, length, position, option_copied, true};
 ghost use Rattle.command_words.specs.Aliases.{has_name, is_alias_name, alias_of, with_alias};
-ghost use Rattle.command_words.specs.Texts.{is_text};
+ghost use Rattle.command_words.specs.Texts.{is_message_text};
 
 use crate::arguments::{are_within, is_text};
 use collections::Listed;
@@ -134,7 +134,7 @@ fn place_of(rows: &[Alias], name: &[u8]) -> Option<usize>
 /// The alias of a name and a text of the right forms.
 fn new_alias(alloc: Global, name: &[u8], text: &[u8]) -> Result<Alias, NoMemory>
     requires name { is_alias_name name.now ≡ true }
-    requires text { is_text text.now ≡ true }
+    requires text { is_message_text text.now ≡ true }
     ensures { IfOk result (λ alias. alias ≡ record { name = name.now; text = text.now }) }
 {
     Ok(Alias {

@@ -3,7 +3,7 @@
 ghost use Rattle.std.specs.Prelude.{◌≡◌, ◌&&◌, nat_le, IfOk, Some, None, if◌then◌else◌};
 ghost use Rattle.std.specs.List.{list_all};
 ghost use Rattle.fics_words.specs.HandleTest.{handle_of};
-ghost use Rattle.command_words.specs.Texts.{is_text};
+ghost use Rattle.command_words.specs.Texts.{is_message_text};
 
 use fics_words::{Handle, Line, MOST_TEXT_BYTES};
 use memory::NoMemory;
@@ -19,7 +19,7 @@ pub(crate) fn handle_of(bytes: &[u8]) -> Option<Handle>
 
 /// Whether the bytes are a text: 1 to 800 printable ones.
 pub(crate) fn is_text(bytes: &[u8]) -> bool
-    ensures { result ≡ is_text bytes.now }
+    ensures { result ≡ is_message_text bytes.now }
 {
     if bytes.is_empty() {
         return false;
@@ -46,7 +46,7 @@ fn is_within(byte: u8, least: u8, most: u8) -> bool
 
 /// The text of these bytes, if they are one.
 pub(crate) fn text_of(alloc: Global, bytes: &[u8]) -> Result<Option<Line>, NoMemory>
-    ensures { IfOk result (λ text. text ≡ (if is_text bytes.now then Some bytes.now else None)) }
+    ensures { IfOk result (λ text. text ≡ (if is_message_text bytes.now then Some bytes.now else None)) }
 {
     if !is_text(bytes) {
         return Ok(None);

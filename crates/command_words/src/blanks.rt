@@ -1,7 +1,7 @@
 //! Words of a line, between its blanks.
 
 ghost use Rattle.std.specs.Prelude.{◌≡◌, ◌≤◌, ◌<◌, IfSome, IfNone, ◌∷◌, [], not, length, position, reverse};
-ghost use Rattle.command_words.specs.Blanks.{is_blank, blanks_of, behind_blanks, before_blanks, trimmed, word_length, first_word, rest_of, word_at, words_of};
+ghost use Rattle.command_words.specs.Blanks.{is_blank, blanks_of, behind_blanks, before_blanks, trimmed, word_length, first_word, rest_behind_word, word_numbered, words_of};
 
 /// The text without blanks at its ends.
 pub(crate) fn trimmed(text: &[u8]) -> &[u8]
@@ -20,7 +20,7 @@ pub(crate) fn first_word(text: &[u8]) -> &[u8]
 
 /// The rest of the text, from the next byte behind its first word that isn't a blank.
 pub(crate) fn rest_of(text: &[u8]) -> &[u8]
-    ensures { result.now ≡ rest_of text.now }
+    ensures { result.now ≡ rest_behind_word text.now }
 {
     let (_, rest) = text.split_at(word_length(text));
     behind_blanks(rest)
@@ -28,7 +28,7 @@ pub(crate) fn rest_of(text: &[u8]) -> &[u8]
 
 /// The word of that number, from 0, of a text that begins with no blank; empty where there are fewer.
 pub(crate) fn word_at(number: u8, text: &[u8]) -> &[u8]
-    ensures { result.now ≡ word_at number text.now }
+    ensures { result.now ≡ word_numbered number text.now }
 {
     let mut rest = text;
     let mut left = number;

@@ -2,7 +2,7 @@
 
 ghost use Rattle.std.specs.Prelude.{◌≡◌, count_by, find};
 ghost use Rattle.command_words.specs.declared.rows.TheConstants.{ROWS};
-ghost use Rattle.command_words.specs.Naming.{begins, is_called, is_name, named_by, one_by_front, taken};
+ghost use Rattle.command_words.specs.Naming.{begins, is_called, is_name, takes_named_by, one_by_front, taken_by_row};
 
 use crate::rows::{CommandRow, ROWS, Takes};
 use fics_words::Refusal;
@@ -10,7 +10,7 @@ use fics_words::Refusal;
 /// The command that a word in lower case names: the one whose name or short form it is, and else the one whose name it
 /// begins. Refuses with `Unknown` where it begins none, and with `AmbiguousWord` where it begins several.
 pub(crate) fn named_by(word: &[u8]) -> Result<Takes, Refusal>
-    ensures { result ≡ named_by word.now }
+    ensures { result ≡ takes_named_by word.now }
 {
     match called(word) {
         Some(takes) => Ok(takes),
@@ -33,7 +33,7 @@ fn one_by_front(count: usize, begun: Option<Takes>) -> Result<Takes, Refusal>
 
 /// The command whose name or short form the word is.
 fn called(word: &[u8]) -> Option<Takes>
-    ensures { result ≡ taken (find (is_called word.now) ROWS.now) }
+    ensures { result ≡ taken_by_row (find (is_called word.now) ROWS.now) }
 {
     let row = ROWS.iter().find(|row| is_called(row, word))?;
     Some(row.2)
@@ -41,7 +41,7 @@ fn called(word: &[u8]) -> Option<Takes>
 
 /// The first command whose name begins with the word.
 fn first_begun(word: &[u8]) -> Option<Takes>
-    ensures { result ≡ taken (find (begins word.now) ROWS.now) }
+    ensures { result ≡ taken_by_row (find (begins word.now) ROWS.now) }
 {
     let row = ROWS.iter().find(|row| begins(row, word))?;
     Some(row.2)

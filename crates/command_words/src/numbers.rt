@@ -2,14 +2,14 @@
 
 ghost use Rattle.std.specs.Prelude.{◌≡◌};
 ghost use Rattle.std.specs.Str.{all_ascii_digits};
-ghost use Rattle.command_words.specs.Numbers.{is_decimal, is_no_channel, number_of};
+ghost use Rattle.command_words.specs.Numbers.{is_decimal, is_no_channel, number_within};
 
 use crate::arguments::are_within;
 use fics_words::read_number;
 
 /// The number of which the word is the decimal, without leading zeros, if it is at most `most`.
 pub(crate) fn number_of(most: u16, word: &[u8]) -> Option<u16>
-    ensures { result ≡ number_of most word.now }
+    ensures { result ≡ number_within most word.now }
 {
     match read_number(word, most as u64) {
         Some(number) => Some(number as u16),
@@ -19,7 +19,7 @@ pub(crate) fn number_of(most: u16, word: &[u8]) -> Option<u16>
 
 /// The channel of which the word is the decimal.
 pub(crate) fn channel_of(word: &[u8]) -> Option<u8>
-    ensures { result ≡ number_of 255 word.now }
+    ensures { result ≡ number_within 255 word.now }
 {
     match read_number(word, 255) {
         Some(number) => Some(number as u8),

@@ -4,8 +4,8 @@ ghost use Rattle.std.specs.Prelude.{◌≡◌, IfOk, map, option_copied};
 ghost use Rattle.std.specs.Char.{to_ascii_lowercase};
 ghost use Rattle.fics_words.specs.Effect.{Gives};
 ghost use Rattle.command_words.specs.Aliases.{expanded};
-ghost use Rattle.command_words.specs.Blanks.{rest_of};
-ghost use Rattle.command_words.specs.Commands.{command_in, command_after, command_made, command_of, move_in, move_or, asked, arguments_of};
+ghost use Rattle.command_words.specs.Blanks.{rest_behind_word};
+ghost use Rattle.command_words.specs.Commands.{command_in, command_after, command_made, command_of, move_in, move_or, command_asked, arguments_of};
 
 use crate::aliases::{Alias, Aliases};
 use crate::blanks::{first_word, rest_of, trimmed};
@@ -44,7 +44,7 @@ fn read_after(alloc: Global, alias: Option<&Alias>, text: &[u8]) -> Result<Comma
 
 /// Reads a line, without blanks at its ends, whose first word is this alias.
 fn read_aliased(alloc: Global, alias: &Alias, text: &[u8]) -> Result<Command, Fail>
-    ensures { Gives (command_made (expanded alias.now.text (rest_of text.now))) result }
+    ensures { Gives (command_made (expanded alias.now.text (rest_behind_word text.now))) result }
 {
     let made = expanded(alloc, alias.text.bytes(), rest_of(text))?;
     read_made(alloc, made.as_slice())
@@ -93,7 +93,7 @@ fn move_or(alloc: Global, word: Option<MoveWord>, text: &[u8]) -> Result<Command
 
 /// Reads the arguments of the command that was found, if one was.
 fn read_asked(alloc: Global, takes: Result<Takes, Refusal>, rest: &[u8]) -> Result<Command, Fail>
-    ensures { Gives (asked takes rest.now) result }
+    ensures { Gives (command_asked takes rest.now) result }
 {
     match takes {
         Ok(takes) => read_arguments(alloc, takes, rest),

@@ -2,7 +2,7 @@
 
 ghost use Rattle.std.specs.Prelude.{◌≡◌};
 ghost use Rattle.fics_words.specs.Effect.{Gives};
-ghost use Rattle.command_words.specs.Shapes.{maybe_named, named, nothing, numbered, on_channel, with_text};
+ghost use Rattle.command_words.specs.Shapes.{maybe_named, command_named, nothing, numbered, on_channel, with_text};
 
 use crate::arguments::{handle_of, text_of};
 use crate::blanks::first_word;
@@ -25,7 +25,7 @@ pub(crate) fn nothing(which: Bare, rest: &[u8]) -> Result<Command, Refusal>
 
 /// A handle; refuses others with `BadArguments`.
 pub(crate) fn named(which: ByName, rest: &[u8]) -> Result<Command, Refusal>
-    ensures { result ≡ named which rest.now }
+    ensures { result ≡ command_named which rest.now }
 {
     match handle_of(rest) {
         Some(name) => Ok(Command::ByName(which, name)),

@@ -10,7 +10,7 @@ use Rattle.chess_model.specs.MoveList.{HalfMove}
 use Rattle.game_board.specs.declared.played.Played.{Played}
 use Rattle.game_board.specs.Board.{Board, half_moves, position_of}
 use Rattle.game_board.specs.Scoresheet.{IsTrueScore}
-use Rattle.game_board.specs.TakeBack.{has_too_few, take_back_after, taken_back}
+use Rattle.game_board.specs.TakeBack.{has_too_few, take_back_after, board_taken_back}
 use Rattle.game_board.proofs.ScoreTakenBack.{IsTrueScore-take_back_after, take_and_drop, enough_some, enough_within}
 use Rattle.game_records.specs.declared.stored_game.Half.{Half}
 use Rattle.game_records.specs.Bounds.{IsHalf}
@@ -146,12 +146,12 @@ record IsBack (t : Terms) (b c : Board) : Type 0 where
 
 back_either : (t : Terms) (b : Board) (n moment : ℕ) → AreSoundBoards t (b ∷ [])
     → IsTrueScore (take_back_after b n moment) → (few : Bool) → has_too_few b n ≡ few →
-    IsBack t b (if few then b else taken_back b n moment)
+    IsBack t b (if few then b else board_taken_back b n moment)
 back_either t b n moment s score true e = record { sound = s; goes = λ h. h }
 back_either t b n moment s score false e =
-    let is : take_back_after b n moment ≡ taken_back b n moment =
-    ap (λ (few : Bool). if few then b else taken_back b n moment) e in
-    let cut : IsCut t b (taken_back b n moment) = record {
+    let is : take_back_after b n moment ≡ board_taken_back b n moment =
+    ap (λ (few : Bool). if few then b else board_taken_back b n moment) e in
+    let cut : IsCut t b (board_taken_back b n moment) = record {
       left = length b.list - n;
       number = refl;
       terms = refl;
@@ -162,8 +162,8 @@ back_either t b n moment s score false e =
     let some : 1 ≤ n = enough_some n (length b.list) e in
     let within : n ≤ length b.list = enough_within n (length b.list) e in
     record {
-      sound = sound_cut t b (taken_back b n moment) s cut;
-      goes = λ h. goes_cut t b (taken_back b n moment) s cut (omega (arith, some, within));
+      sound = sound_cut t b (board_taken_back b n moment) s cut;
+      goes = λ h. goes_cut t b (board_taken_back b n moment) s cut (omega (arith, some, within));
     }
 
 back_alone : (t : Terms) (b : Board) (n moment : ℕ) → AreSoundBoards t (b ∷ []) → b.begin ≤ moment

@@ -7,7 +7,7 @@ use Rattle.chess_model.specs.MoveList.{taken}
 use Rattle.chess_model.specs.Position.{Position, position_after}
 use Rattle.game_board.specs.Board.{Board, position_of}
 use Rattle.game_board.specs.Learn.{partner_position, captured_there, learnt}
-use Rattle.game_board.specs.Play.{captured, with_half_move}
+use Rattle.game_board.specs.Play.{captured_in, with_half_move}
 use Rattle.game_board.specs.declared.played.Played.{Played}
 use Rattle.game_board.specs.Put.{with_put}
 use Rattle.desk_boards.specs.Linked.{AreLinked}
@@ -26,7 +26,7 @@ pub learn_allowed : (own other : Board) (m : Move) → AreLinked own other → A
     → Allowed (partner_position other) m
 learn_allowed own other m h allowed = subst (λ (p : Position). Allowed p m) (position_there own other h) allowed
 
-pub learn_captured : (own other : Board) (m : Move) → AreLinked own other → captured own m ≡ captured_there other m
+pub learn_captured : (own other : Board) (m : Move) → AreLinked own other → captured_in own m ≡ captured_there other m
 learn_captured own other m h = ap (λ (p : Position). taken p.men m) (position_there own other h)
 
 -- and there is room for it there

@@ -19,7 +19,7 @@ use Rattle.game_board.specs.declared.played.Played.{Played}
 use Rattle.game_board.specs.Board.{Board, has_moved, position_of, to_move}
 use Rattle.game_board.specs.Charges.{is_timed}
 use Rattle.game_board.specs.Learn.{learnt}
-use Rattle.game_board.specs.Put.{is_next_charged, takes_played, with_put}
+use Rattle.game_board.specs.Put.{next_is_charged, takes_played, with_put}
 use Rattle.game_board.specs.Scoresheet.{IsTrueScore}
 use Rattle.game_board.proofs.ScorePut.{IsTrueScore-with_put}
 use Rattle.game_board.proofs.Scoresheet.{has_moved-mover}
@@ -33,7 +33,7 @@ use Rattle.desk_boards.specs.Boards.{board_numbers, changed_at, new_boards}
 use Rattle.fics_words.specs.declared.board_number.BoardNumber.{BoardNumber}
 use Rattle.fics_words.specs.declared.board_number.BoardNumber.TheVariants.{First, Second}
 use Rattle.desk_boards.specs.Halves.{halves_of, played_of}
-use Rattle.desk_boards.specs.Laws.{IsFresh}
+use Rattle.desk_boards.specs.Laws.{IsFreshlyPut}
 use Rattle.desk_boards.specs.Replaying.{boards_put, boards_with, goes_on, other_goes_on, own_takes, played_on, replayed, takes_half}
 use Rattle.desk_boards.specs.Sound.{AreSoundBoards}
 use Rattle.desk_boards.proofs.BoardLists.{All-at, All-changed_at}
@@ -92,7 +92,7 @@ put_more own p score takes charge =
       charge = charge;
     }
 
-fresh_put : (moment : ℕ) (b : Board) (p : Played) → IsFresh moment b → IsFresh moment (with_put b p)
+fresh_put : (moment : ℕ) (b : Board) (p : Played) → IsFreshlyPut moment b → IsFreshlyPut moment (with_put b p)
 fresh_put moment b p f =
     let many = length-append b.list (p ∷ []) in
     let played = f.played in
@@ -106,17 +106,17 @@ fresh_put moment b p f =
 -- boards that are sound and have these half-moves, and are new but for them
 record AreAt (t : Terms) (moment : ℕ) (halves : List Half) (boards : List Board) : Type 0 where
   known : AreSoundWith t halves boards
-  fresh : All (IsFresh moment) boards
+  fresh : All (IsFreshlyPut moment) boards
 
 -- what a board keeps where the other one learns
-fresh_learnt : (moment : ℕ) (boards : List Board) (board : BoardNumber) (p : Played) → All (IsFresh moment) boards
-    → All (IsFresh moment) (boards_put boards board p)
+fresh_learnt : (moment : ℕ) (boards : List Board) (board : BoardNumber) (p : Played) → All (IsFreshlyPut moment) boards
+    → All (IsFreshlyPut moment) (boards_put boards board p)
 fresh_learnt moment boards board p f =
-    All-changed_at (IsFresh moment) (changed_at boards (board_place board) (λ b. with_put b p))
+    All-changed_at (IsFreshlyPut moment) (changed_at boards (board_place board) (λ b. with_put b p))
     (board_place (other_number board))
     (λ b. learnt b p.what)
     (λ b there h. record { begin = h.begin; kept = h.kept; played = h.played; resumed = h.resumed })
-    (All-changed_at (IsFresh moment) boards (board_place board) (λ b. with_put b p)
+    (All-changed_at (IsFreshlyPut moment) boards (board_place board) (λ b. with_put b p)
     (λ b there h. fresh_put moment b p h) f)
 
 step_at : (t : Terms) (moment : ℕ) (boards : List Board) (before : List Half) (board : BoardNumber) (n : ℕ)
@@ -205,7 +205,7 @@ begun : (t : Terms) (moment : ℕ) → AreAt t moment [] (new_boards t moment)
 begun t moment = record {
   known = record { sound = sound_start t moment; made = halves_of-from (board_numbers t.variant) t moment };
   fresh =
-      All-from (IsFresh moment) (board_numbers t.variant) t moment
+      All-from (IsFreshlyPut moment) (board_numbers t.variant) t moment
       (λ n. record { begin = refl; kept = refl; played = refl; resumed = refl });
 }
 
@@ -217,7 +217,7 @@ replayed_at t halves moment boards each e =
 
 pub replayed_fresh : (t : Terms) (halves : List Half) (moment : ℕ) (boards : List Board)
     → AllByRecursion (IsHalf t.variant) halves → replayed t halves moment ≡ Some boards →
-    All (IsFresh moment) boards
+    All (IsFreshlyPut moment) boards
 replayed_fresh t halves moment boards each e =
     (run t moment [] halves (new_boards t moment) boards (begun t moment) each e).fresh
 
@@ -248,7 +248,7 @@ own_may t own before h score played terms all number comes =
     let charged : IsSome h.charge ↔ (AreTimed t × (2 ≤ length own.list)) =
     subst (λ (k : ℕ). IsSome h.charge ↔ (AreTimed t × (2 ≤ k))) made follows.charged in
     four_true (not (is_end (result (position_of own)))) (nat_lt own.played 1200) (is_allowed (position_of own) h.what)
-    (beq (is_some h.charge) (is_next_charged own))
+    (beq (is_some h.charge) (next_is_charged own))
     (going_says (position_of own) (subst GoesOn there follows.going))
     ((Decides-ltb own.played 1200).1 room)
     ((Decides-allowed (position_of own) h.what).1 (subst (λ (q : Position). Allowed q h.what) there follows.allowed))
@@ -279,7 +279,7 @@ may_take t moment (b ∷ []) before h at half comes =
     let P : Board → Type 0 = λ x. half_moves (halves_of (b ∷ [])) ≡ x.all in
     let all : half_moves before ≡ b.all =
     ap half_moves (sym at.known.made) ∙ All-at P (b ∷ []) 0 b (all_of t (b ∷ []) s) refl in
-    let fresh = All-at (IsFresh moment) (b ∷ []) 0 b at.fresh refl in
+    let fresh = All-at (IsFreshlyPut moment) (b ∷ []) 0 b at.fresh refl in
     let own =
     own_may t b before h (All-at IsTrueScore (b ∷ []) 0 b s.scores refl) fresh.played
     (All-at (λ (x : Board). x.terms ≡ t) (b ∷ []) 0 b s.terms refl) all (one.1 ∙ sym number) comes in
@@ -299,13 +299,15 @@ may_take t moment (b ∷ c ∷ []) before h at half comes =
       | inl first ↦
           let own =
           own_may t b before h (All-at IsTrueScore (b ∷ c ∷ []) 0 b s.scores refl)
-          (All-at (IsFresh moment) (b ∷ c ∷ []) 0 b at.fresh refl).played terms_b all_b (two.1 ∙ sym first) comes in
+          (All-at (IsFreshlyPut moment) (b ∷ c ∷ []) 0 b at.fresh refl).played terms_b all_b (two.1 ∙ sym first)
+          comes in
           let other = other_pair t before h.board c two.0 (omega (arith, first, two.2)) terms_c all_c comes.other in
           (First, ap numbered_board first, λ i. own i && other i)
       | inr second ↦
           let own =
           own_may t c before h (All-at IsTrueScore (b ∷ c ∷ []) 1 c s.scores refl)
-          (All-at (IsFresh moment) (b ∷ c ∷ []) 1 c at.fresh refl).played terms_c all_c (two.2 ∙ sym second) comes in
+          (All-at (IsFreshlyPut moment) (b ∷ c ∷ []) 1 c at.fresh refl).played terms_c all_c (two.2 ∙ sym second)
+          comes in
           let other = other_pair t before h.board b two.0 (omega (arith, second, two.1)) terms_b all_b comes.other in
           (Second, ap numbered_board second, λ i. own i && other i)
     ]

@@ -8,7 +8,7 @@ use Rattle.game_records.specs.declared.stored_game.Half.{Half}
 use Rattle.game_records.specs.Bounds.{IsHalf}
 use Rattle.game_records.specs.Replays.{half_moves}
 use Rattle.desk_boards.specs.Halves.{halves_of, list_on}
-use Rattle.desk_boards.specs.Laws.{AreOf, IsFresh}
+use Rattle.desk_boards.specs.Laws.{AreOf, IsFreshlyPut}
 use Rattle.desk_boards.specs.Replaying.{replayed, resumed_at}
 use Rattle.desk_boards.specs.Sound.{AreSoundBoards}
 use Rattle.desk_boards.proofs.BoardLists.{All-at}
@@ -57,7 +57,7 @@ same_at t moment new old of s k c b here there =
     sym (All-at (λ (x : Board). half_moves (halves_of new) ≡ x.all) new k c (all_of t new of.sound) here)
     ∙ ap half_moves of.made
     ∙ All-at (λ (x : Board). half_moves (halves_of old) ≡ x.all) old k b (all_of t old s) there in
-    let fresh = All-at (IsFresh moment) new k c of.fresh here in
+    let fresh = All-at (IsFreshlyPut moment) new k c of.fresh here in
     let played : c.played ≡ length b.list = fresh.played ∙ ap length list in
     let resumed : c.resumed ≡ length b.list = fresh.resumed ∙ ap length list in
     λ i. record {

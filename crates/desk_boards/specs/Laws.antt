@@ -29,7 +29,7 @@ pub record HalvesAreTheBoards : Type 0 where
 
 -- a board on which half-moves were put and nothing has happened since: the player to move is thinking from that moment
 -- and hasn't acknowledged it, no half-move was taken back, and each came with its charge
-pub record IsFresh (moment : ℕ) (b : Board) : Type 0 where
+pub record IsFreshlyPut (moment : ℕ) (b : Board) : Type 0 where
   pub begin : b.begin ≡ moment
   pub kept : b.kept ≡ None
   pub played : b.played ≡ length b.list
@@ -39,7 +39,7 @@ pub record IsFresh (moment : ℕ) (b : Board) : Type 0 where
 pub record AreOf (t : Terms) (halves : List Half) (moment : ℕ) (boards : List Board) : Type 0 where
   pub sound : AreSoundBoards t boards
   pub made : halves_of boards ≡ halves
-  pub fresh : All (IsFresh moment) boards
+  pub fresh : All (IsFreshlyPut moment) boards
 
 pub record AreReplayed : Type 0 where
   -- half-moves that a record can have are played again exactly where they can be played

@@ -21,9 +21,9 @@ use Rattle.linked_desk.specs.declared.acts.DeskReply.{DeskReply}
 use Rattle.linked_desk.specs.declared.acts.DeskReply.TheVariants.{Done}
 use Rattle.linked_desk.specs.Acts.{desk_after}
 use Rattle.linked_desk.specs.Desk.{DeskState, GameState, moment_at, seat_of}
-use Rattle.linked_desk.specs.Playing.{moved, moved_by, seat_word, with_cleared, word_by}
+use Rattle.linked_desk.specs.Playing.{game_moved, moved_by, seat_word, with_cleared, word_by}
 use Rattle.linked_desk.specs.Seats.{board_of, colour_at}
-use Rattle.linked_desk.specs.Sound.{IsSound}
+use Rattle.linked_desk.specs.Sound.{IsSoundGame}
 use Rattle.fics_words.specs.Boards.{board_place}
 use Rattle.desk_boards.specs.Boards.{boards_after, word_at}
 use Rattle.move_reader.specs.Reading.{reading}
@@ -56,8 +56,8 @@ reads b m legal allowed = reads_back b.terms.variant b.all b.number m legal allo
 
 module _ (parts : List Part) (whole : IsWhole parts) (number : ℕ) (desk : DeskState) (game : GameState)
     (stands : slice_get parts number ≡ Some (ADesk desk)) (plays : desk.game ≡ Some game) where
-  sound : IsSound game
-  sound = subst (λ (o : Option GameState). IfSome o IsSound) plays (whole.places number (ADesk desk) stands).1.sound
+  sound : IsSoundGame game
+  sound = subst (λ (o : Option GameState). IfSome o IsSoundGame) plays (whole.places number (ADesk desk) stands).1.sound
 
   few : (k : ℕ) (b : Board) → slice_get game.boards k ≡ Some b → b.played ≤ 1200
   few k b e = All-at (λ (x : Board). x.played ≤ 1200) game.boards k b sound.boards.few e
@@ -112,7 +112,8 @@ module _ (parts : List Part) (whole : IsWhole parts) (number : ℕ) (desk : Desk
       accepted_reply = reply_is ∙ (λ i. Some (desk_reply (said (sits i) (runs i) (by_seat i))))
 
       abbrev game_then : GameState
-      game_then = moved desk.number (with_cleared seat game) moment (board_of seat) stamp (seat_word game seat word)
+      game_then =
+          game_moved desk.number (with_cleared seat game) moment (board_of seat) stamp (seat_word game seat word)
 
       desk_is : desk_after desk session moment game.serial (act.Move word stamp) ≡ record desk { game = Some game_then }
       desk_is =

@@ -21,8 +21,8 @@ use Rattle.linked_desk.specs.declared.ended.Ended.{Ended}
 use Rattle.linked_desk.specs.Desk.{GameState, moment_at}
 use Rattle.linked_desk.specs.Finish.{end_at, with_end}
 use Rattle.linked_desk.specs.Hands.{hands_at, partner_hands_at}
-use Rattle.linked_desk.specs.Playing.{captured_by, held_moved, moved, shown_moved, with_hands}
-use Rattle.linked_desk.specs.Views.{views_of, with_item, with_view}
+use Rattle.linked_desk.specs.Playing.{captured_man, held_moved, game_moved, shown_moved, with_hands}
+use Rattle.linked_desk.specs.Views.{views_of, game_with_item, with_view}
 
 -- ---- what is told changes no board
 
@@ -30,7 +30,7 @@ same_with_view : (g : GameState) (view : Option BoardView) → (with_view g view
 same_with_view g None = refl
 same_with_view g (Some view) = refl
 
-same_with_item : (g : GameState) (x : Option Item) → (with_item g x).boards ≡ g.boards
+same_with_item : (g : GameState) (x : Option Item) → (game_with_item g x).boards ≡ g.boards
 same_with_item g None = refl
 same_with_item g (Some x) = refl
 
@@ -41,13 +41,14 @@ same_with_end desk g moment (Some e) = refl
 
 pub boards_moved : (desk : ℕ) (g : GameState) (moment : ℕ) (board : BoardNumber) (stamp : Option ℕ)
     (answer : Result Move Refusal)
-    → (moved desk g moment board stamp answer).boards ≡ boards_after g.boards board (moment_at g moment) stamp answer
+    → (game_moved desk g moment board stamp answer).boards
+    ≡ boards_after g.boards board (moment_at g moment) stamp answer
 boards_moved desk g moment board stamp answer =
     let after : GameState =
     record g { boards = boards_after g.boards board (moment_at g moment) stamp answer; last = moment_at g moment } in
     let shown : GameState = shown_moved desk g moment board stamp answer in
     let held : GameState = held_moved desk g moment board stamp answer in
-    let man : Option Man = captured_by (reply_at (slice_get g.boards (board_place board)) answer) in
+    let man : Option Man = captured_man (reply_at (slice_get g.boards (board_place board)) answer) in
     let own : GameState = with_hands desk board man shown in
     same_with_end desk held moment (end_at held board)
     ∙ same_with_item own (partner_hands_at desk own board man)

@@ -20,7 +20,7 @@ use Rattle.fics_words.specs.declared.board_number.BoardNumber.TheVariants.{First
 use Rattle.desk_boards.specs.Halves.{list_on, played_of}
 use Rattle.desk_boards.specs.Replaying.{boards_put}
 use Rattle.desk_boards.proofs.Halved.{list_on-own, list_on-else}
-use Rattle.examine_board.specs.Exam.{board_after, boards_after}
+use Rattle.examine_board.specs.Exam.{board_after, boards_of_halves}
 
 -- ---- the half-moves of one board
 
@@ -150,7 +150,7 @@ boards_more Bughouse t halves h board own last = two_boards t halves h board own
 -- a half-move more is laid on the boards
 pub boards_laid : (t : Terms) (halves : List Half) (h : Half) (board : BoardNumber) → h.board ≡ board_number board
     → h.board ≤ bounds.boards t.variant →
-    boards_put (boards_after t halves) board (played_of h) ≡ boards_after t (halves ++ h ∷ [])
+    boards_put (boards_of_halves t halves) board (played_of h) ≡ boards_of_halves t (halves ++ h ∷ [])
 boards_laid t halves h board own last = boards_more t.variant t halves h board own last
 
 -- a board in its place
@@ -168,7 +168,7 @@ board_in (Fischer number) t halves Second last = absurd (omega (arith, last))
 
 pub board_there : (t : Terms) (halves : List Half) (board : BoardNumber)
     → board_number board ≤ bounds.boards t.variant →
-    slice_get (boards_after t halves) (board_place board) ≡ Some (board_after t halves (board_number board))
+    slice_get (boards_of_halves t halves) (board_place board) ≡ Some (board_after t halves (board_number board))
 board_there t halves board last = board_in t.variant t halves board last
 
 -- the boards at the start of the game
@@ -179,5 +179,5 @@ rewound_in Crazyhouse t halves = refl
 rewound_in (Fischer number) t halves = refl
 rewound_in Bughouse t halves = refl
 
-pub boards_rewound : (t : Terms) (halves : List Half) → map rewound (boards_after t halves) ≡ boards_after t []
+pub boards_rewound : (t : Terms) (halves : List Half) → map rewound (boards_of_halves t halves) ≡ boards_of_halves t []
 boards_rewound t halves = rewound_in t.variant t halves

@@ -12,7 +12,7 @@ use Rattle.game_records.specs.Bounds as bounds
 use Rattle.game_records.specs.Replays.{Replays}
 use Rattle.desk_boards.specs.Boards.{new_boards}
 use Rattle.examine_board.specs.declared.exam.Exam.TheInside.{Inside}
-use Rattle.examine_board.specs.Exam.{boards_after}
+use Rattle.examine_board.specs.Exam.{boards_of_halves}
 use Rattle.examine_board.specs.Holds.{HoldsExam}
 use Rattle.examine_board.specs.Laid.{CanBeLaid}
 use Rattle.examine_board.proofs.Laying.{CanBeLaid-played, CanBeLaid-take}
@@ -48,7 +48,7 @@ holds_opened g e replays terms names stored shared branch point boards =
           let same = ap length stored in let few = few_boards g.terms.variant (length g.halves) game.halves.few in
           omega (arith, same, few);
       point = omega (arith, point);
-      boards = boards ∙ (λ i. boards_after (sym terms i) (take (sym point i) (take e.shared e.stored ++ e.branch)));
+      boards = boards ∙ (λ i. boards_of_halves (sym terms i) (take (sym point i) (take e.shared e.stored ++ e.branch)));
       stored = laid;
       list = subst (CanBeLaid e.terms) (sym list) laid;
       names = ap length names ∙ players ∙ ap (λ (t : Terms). 2 * bounds.boards t.variant) (sym terms);
@@ -123,17 +123,17 @@ cut_there shared point stored branch left within high are =
 pub record IsCut (t : Terms) (boards : List Board) (list left : List Half) (point : ℕ) : Type 0 where
   pub within : point ≤ length left
   pub end : point ≡ length left
-  pub are : boards ≡ boards_after t (take point left)
+  pub are : boards ≡ boards_of_halves t (take point left)
   pub laid : CanBeLaid t left
 
 pub is_cut : (t : Terms) (boards : List Board) (list left : List Half) (point : ℕ) → point ≤ length list
-    → boards ≡ boards_after t (take point list) → CanBeLaid t list → left ≡ take point list →
+    → boards ≡ boards_of_halves t (take point list) → CanBeLaid t list → left ≡ take point list →
     IsCut t boards list left point
 is_cut t boards list left point within are laid cut =
     let many : length left ≡ point = ap length cut ∙ length-take-le point list within in
     record {
       within = omega (arith, many);
       end = sym many;
-      are = are ∙ ap (boards_after t) (sym cut ∙ sym (take_all point left (omega (arith, many))));
+      are = are ∙ ap (boards_of_halves t) (sym cut ∙ sym (take_all point left (omega (arith, many))));
       laid = subst (CanBeLaid t) (sym cut) (CanBeLaid-take t list point laid);
     }

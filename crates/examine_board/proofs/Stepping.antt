@@ -11,7 +11,7 @@ use Rattle.desk_boards.specs.Halves.{played_of}
 use Rattle.desk_boards.specs.Replaying.{boards_put}
 use Rattle.desk_boards.proofs.Pairs.{number_of-numbered}
 use Rattle.game_records.specs.Bounds as bounds
-use Rattle.examine_board.specs.Exam.{board_after, boards_after}
+use Rattle.examine_board.specs.Exam.{board_after, boards_of_halves}
 use Rattle.examine_board.specs.Laid.{MayLie}
 use Rattle.examine_board.proofs.Boards.{board_there, boards_laid}
 use Rattle.examine_board.proofs.Lists.{take-next}
@@ -30,7 +30,7 @@ allowed_on t halves h lies = lies.allowed
 
 module _ (t : Terms) (halves : List Half) (h : Half) (board : BoardNumber) (boards : List Board)
     (on : numbered_board h.board ≡ Some board) (lies : MayLie t halves h)
-    (are : boards ≡ boards_after t halves) where
+    (are : boards ≡ boards_of_halves t halves) where
   own : board_number board ≡ h.board
   own = number_of-numbered h.board board on
 
@@ -59,7 +59,8 @@ module _ (t : Terms) (halves : List Half) (h : Half) (board : BoardNumber) (boar
       there_if (λ b. length b.list < 1200) (slice_get boards (board_place board)) (board_after t halves h.board) there
       lies.room
 
-  pub laid : (new : List Board) → new ≡ boards_put boards board (played_of h) → new ≡ boards_after t (halves ++ h ∷ [])
+  pub laid : (new : List Board) → new ≡ boards_put boards board (played_of h)
+      → new ≡ boards_of_halves t (halves ++ h ∷ [])
   laid new put =
       put ∙ ap (λ (bs : List Board). boards_put bs board (played_of h)) are
       ∙ boards_laid t halves h board (sym own) lies.last

@@ -22,7 +22,7 @@ use Rattle.game_records.specs.Bounds as bounds
 use Rattle.desk_boards.specs.Boards.{board_numbers}
 use Rattle.fics_words.specs.declared.board_number.BoardNumber.TheVariants.{First}
 use Rattle.desk_boards.specs.Halves.{list_on}
-use Rattle.examine_board.specs.Exam.{ExamState, board_after, board_on, boards_after, present}
+use Rattle.examine_board.specs.Exam.{ExamState, board_after, board_on, boards_of_halves, present}
 use Rattle.examine_board.specs.Laid.{CanBeLaid, MayLie}
 use Rattle.examine_board.specs.Play.{is_pair, play_answer, position, uncharged}
 use Rattle.examine_board.proofs.Boards.{all_on}
@@ -60,7 +60,7 @@ first_in (Fischer number) t halves b rest e = cc
 first_in Bughouse t halves b rest e = cc
 
 -- the first board is that of the number 1
-pub first_is : (t : Terms) (halves : List Half) (b : Board) (rest : List Board) → b ∷ rest ≡ boards_after t halves
+pub first_is : (t : Terms) (halves : List Half) (b : Board) (rest : List Board) → b ∷ rest ≡ boards_of_halves t halves
     → b ≡ board_after t halves 1
 first_is t halves b rest e = first_in t.variant t halves b rest e
 
@@ -123,7 +123,7 @@ pub record Going (e : ExamState) (b : Board) : Type 0 where
   pub count : length (list_on 1 (present e)) ≡ e.point
 
 pub going : (e : ExamState) (b : Board) (rest : List Board) → is_pair e.terms.variant ≡ false
-    → is_end (result (position_of b)) ≡ false → b ∷ rest ≡ boards_after e.terms (present e)
+    → is_end (result (position_of b)) ≡ false → b ∷ rest ≡ boards_of_halves e.terms (present e)
     → CanBeLaid e.terms e.list → e.point ≤ length e.list → Going e b
 going e b rest single on boards laid within =
     let is = first_is e.terms (present e) b rest boards in

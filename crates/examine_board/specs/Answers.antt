@@ -7,6 +7,6 @@ abbrev pub answer : Result ExamState Refusal → Result Unit Refusal
 answer (Ok after) = Ok tt
 answer (Err cause) = Err cause
 
-abbrev pub left_by : ExamState → Result ExamState Refusal → ExamState
-left_by e (Ok after) = after
-left_by e (Err cause) = e
+abbrev pub exam_left_by : ExamState → Result ExamState Refusal → ExamState
+exam_left_by e (Ok after) = after
+exam_left_by e (Err cause) = e

@@ -22,8 +22,8 @@ pub record ExamState : Type 0 where
   pub point : ℕ
 
 -- a stored game before its first half-move
-abbrev pub opened : StoredGame → ExamState
-opened g = record { terms = g.terms; names = g.names; stored = g.halves; list = g.halves; point = 0 }
+abbrev pub exam_opened : StoredGame → ExamState
+exam_opened g = record { terms = g.terms; names = g.names; stored = g.halves; list = g.halves; point = 0 }
 
 -- the half-moves on the boards
 abbrev pub present : ExamState → List Half
@@ -43,8 +43,8 @@ board_after t halves number = record {
 }
 
 -- all boards of the game after these half-moves
-abbrev pub boards_after : Terms → List Half → List Board
-boards_after t halves = map (board_after t halves) (board_numbers t.variant)
+abbrev pub boards_of_halves : Terms → List Half → List Board
+boards_of_halves t halves = map (board_after t halves) (board_numbers t.variant)
 
 -- a board where the exam is
 abbrev pub board_on : ExamState → BoardNumber → Board

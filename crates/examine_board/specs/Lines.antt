@@ -18,7 +18,7 @@ use Rattle.style12_writer.specs.declared.view.BoardView.{BoardView}
 use Rattle.style12_writer.specs.declared.view.Viewer.{Viewer}
 use Rattle.style12_writer.specs.HoldingsLine.{holdings_text}
 use Rattle.style12_writer.specs.Line12.{line12_text}
-use Rattle.examine_board.specs.Exam.{ExamState, board_on, boards_after, present}
+use Rattle.examine_board.specs.Exam.{ExamState, board_on, boards_of_halves, present}
 
 -- the board that is shown behind some half-moves: that of the last one, or the first before any
 abbrev pub shown_behind : List Half → BoardNumber
@@ -56,7 +56,7 @@ hands_line b = holdings_text b.number (hand_of_side (position_of b) White) (hand
 
 -- and of each board, where the variant has men in hand
 abbrev pub hands_lines : ExamState → List (List ℕ)
-hands_lines e = if has_drops e.terms.variant then map hands_line (boards_after e.terms (present e)) else []
+hands_lines e = if has_drops e.terms.variant then map hands_line (boards_of_halves e.terms (present e)) else []
 
 -- all lines
 abbrev pub exam_lines : ExamState → List (List ℕ)

@@ -51,10 +51,10 @@ with_move e m = record e {
   point = e.point + 1;
 }
 
-abbrev pub going_on : ExamState → Result Move Refusal → Result ExamState Refusal
-going_on e (Ok m) = Ok (with_move e m)
-going_on e (Err cause) = Err cause
+abbrev pub exam_going_on : ExamState → Result Move Refusal → Result ExamState Refusal
+exam_going_on e (Ok m) = Ok (with_move e m)
+exam_going_on e (Err cause) = Err cause
 
 -- what a word makes of an exam
 abbrev pub played : ExamState → MoveWord → Result ExamState Refusal
-played e w = going_on e (play_answer e w)
+played e w = exam_going_on e (play_answer e w)

@@ -1,7 +1,7 @@
 //! The exam of a stored game, and its half-moves.
 ghost use Rattle.std.specs.Prelude.{◌≡◌, ◌++◌, ◌↔◌, ◌<◌, IfOk, IfSome, IsSome, Some, length, slice_get, take};
 ghost use Rattle.game_records.specs.Replays.{Replays};
-ghost use Rattle.examine_board.specs.Exam.{opened};
+ghost use Rattle.examine_board.specs.Exam.{exam_opened};
 ghost use Rattle.examine_board.specs.Laid.{MayLie};
 
 use chess_model::{MOST_HALVES, Terms};
@@ -51,7 +51,7 @@ impl Exam {
     /// Opens a stored game before its first half-move. None exactly where it doesn't replay.
     pub fn open(alloc: Global, game: &StoredGame) -> Result<Option<Exam>, NoMemory>
         ensures replays { IfOk result (λ exam. IsSome exam ↔ Replays game.now) }
-        ensures opened { IfOk result (λ found. IfSome found (λ exam. exam ≡ opened game.now)) }
+        ensures opened { IfOk result (λ found. IfSome found (λ exam. exam ≡ exam_opened game.now)) }
     {
         if !replays(alloc, game)? {
             return Ok(None);
@@ -62,7 +62,7 @@ impl Exam {
     /// The exam of a game that replays, before its first half-move.
     fn new(alloc: Global, game: &StoredGame) -> Result<Exam, NoMemory>
         requires { Replays game.now }
-        ensures { IfOk result (λ exam. exam ≡ opened game.now) }
+        ensures { IfOk result (λ exam. exam ≡ exam_opened game.now) }
     {
         let names = copied(alloc, game.names.as_slice())?;
         let stored = unpacked(alloc, game.halves.as_slice())?;

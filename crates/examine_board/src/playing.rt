@@ -1,7 +1,7 @@
 //! Half-moves that are played on from where the exam is.
 ghost use Rattle.std.specs.Prelude.{◌≡◌, ◌∷◌, ◌++◌, [], ◌<◌, IfOk, OnOk, length};
 ghost use Rattle.chess_model.specs.Limits.{most_halves};
-ghost use Rattle.examine_board.specs.Answers.{answer, left_by};
+ghost use Rattle.examine_board.specs.Answers.{answer, exam_left_by};
 ghost use Rattle.examine_board.specs.Exam.{present};
 ghost use Rattle.examine_board.specs.Laid.{MayLie};
 ghost use Rattle.examine_board.specs.Play.{is_pair, play_answer, played, uncharged, with_move};
@@ -17,7 +17,7 @@ impl Exam {
     /// stalemate, `TooManyMoves` at 1,200 half-moves, then as the rules answer the word; a refusal changes nothing.
     pub fn play(&mut self, word: &MoveWord) -> Result<(), Refusal>
         ensures answer { result ≡ answer (played self.old word.now) }
-        ensures after { self.new ≡ left_by self.old (played self.old word.now) }
+        ensures after { self.new ≡ exam_left_by self.old (played self.old word.now) }
     {
         let what = self.resolve(word)?;
         self.add(what);

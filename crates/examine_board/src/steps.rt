@@ -1,6 +1,6 @@
 //! To and fro along the half-moves, and back to the stored game.
 ghost use Rattle.std.specs.Prelude.{◌≡◌, ◌+◌, ◌<◌, ◌≤◌, Ok, OnOk, length, take};
-ghost use Rattle.examine_board.specs.Answers.{answer, left_by};
+ghost use Rattle.examine_board.specs.Answers.{answer, exam_left_by};
 ghost use Rattle.examine_board.specs.Exam.{present};
 ghost use Rattle.examine_board.specs.Same.{shared_length};
 ghost use Rattle.examine_board.specs.Steps.{backed, forwarded, reverted};
@@ -14,7 +14,7 @@ impl Exam {
     /// Goes `n` half-moves on. Refuses with `NoMoreMoves` where fewer follow; a refusal changes nothing.
     pub fn forward(&mut self, n: u16) -> Result<(), Refusal>
         ensures answer { result ≡ answer (forwarded self.old n) }
-        ensures after { self.new ≡ left_by self.old (forwarded self.old n) }
+        ensures after { self.new ≡ exam_left_by self.old (forwarded self.old n) }
         ensures undone { OnOk result (backed self.new n ≡ Ok self.old) }
         ensures list { self.new.list ≡ self.old.list }
     {
@@ -31,7 +31,7 @@ impl Exam {
     /// nothing.
     pub fn back(&mut self, n: u16) -> Result<(), Refusal>
         ensures answer { result ≡ answer (backed self.old n) }
-        ensures after { self.new ≡ left_by self.old (backed self.old n) }
+        ensures after { self.new ≡ exam_left_by self.old (backed self.old n) }
         ensures undone { OnOk result (forwarded self.new n ≡ Ok self.old) }
         ensures list { self.new.list ≡ self.old.list }
     {

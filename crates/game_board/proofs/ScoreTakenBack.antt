@@ -11,7 +11,7 @@ use Rattle.chess_model.specs.MoveList.{HalfMove, moves_of}
 use Rattle.game_board.specs.declared.played.Played.{Played}
 use Rattle.game_board.specs.Board.{Board, half_moves}
 use Rattle.game_board.specs.Scoresheet.{DontFall, IsTrueScore}
-use Rattle.game_board.specs.TakeBack.{has_too_few, taken_back, take_back_after}
+use Rattle.game_board.specs.TakeBack.{has_too_few, board_taken_back, take_back_after}
 use Rattle.game_board.proofs.Movers.{moves_of-half_moves}
 use Rattle.game_board.proofs.TakenBack.{half_moves_shorter}
 use Rattle.game_board.proofs.LastPlayed.{at_or_last}
@@ -66,7 +66,7 @@ IsLegal-take : (v : Variant) (n : ℕ) (T : List HalfMove) → IsLegal v T → I
 IsLegal-take v n T legal = legal_front v (take n T) (drop n T) (subst (IsLegal v) (sym (take_and_drop n T)) legal)
 
 pub IsTrueScore-taken_back : (b : Board) (n moment : ℕ) → b.terms.variant ≢ Bughouse → 1 ≤ n → n ≤ length b.list
-    → b.begin ≤ moment → IsTrueScore b → IsTrueScore (taken_back b n moment)
+    → b.begin ≤ moment → IsTrueScore b → IsTrueScore (board_taken_back b n moment)
 IsTrueScore-taken_back b n moment single some few order s =
     let left : ℕ = length b.list - n in
     let list : List Played = take left b.list in
@@ -118,7 +118,7 @@ IsTrueScore-taken_back b n moment single some few order s =
       legal = IsLegal-take b.terms.variant (length b.all - n) b.all s.legal;
       own = ap (moves_of b.number) alone ∙ moves_of-half_moves b.number list;
       alone = λ h. alone;
-      clocks = λ c timed. clocks-sum (taken_back b n moment) c timed;
+      clocks = λ c timed. clocks-sum (board_taken_back b n moment) c timed;
     }
 
 pub enough_some : (n m : ℕ) → (nat_eq n 0 || nat_lt m n) ≡ false → 1 ≤ n
@@ -136,7 +136,7 @@ true_either false b new s t = t refl
 pub IsTrueScore-take_back_after : (b : Board) (n moment : ℕ) → b.terms.variant ≢ Bughouse → IsTrueScore b
     → b.begin ≤ moment → IsTrueScore (take_back_after b n moment)
 IsTrueScore-take_back_after b n moment single s order =
-    true_either (has_too_few b n) b (taken_back b n moment) s
+    true_either (has_too_few b n) b (board_taken_back b n moment) s
     (λ e.
     IsTrueScore-taken_back b n moment single (enough_some n (length b.list) e) (enough_within n (length b.list) e) order
     s)

@@ -14,7 +14,7 @@ use Rattle.game_board.specs.declared.played.Played.{Played}
 use Rattle.game_board.specs.declared.played.Step.{Step}
 use Rattle.game_board.specs.Board.{half_move, half_moves}
 use Rattle.game_board.specs.BoardFace.{before_own, last_shown}
-use Rattle.game_board.specs.Steps.{position_at, shown_at, IsStep, AreSteps}
+use Rattle.game_board.specs.Steps.{position_at, shown_at, IsKeptStep, AreSteps}
 use Rattle.game_board.proofs.OwnMoves.{before_own-own, before_own-all}
 use Rattle.game_board.proofs.LastPlayed.{at_or_last}
 use Rattle.collections.proofs.Places.{slice_get-append_end}
@@ -46,8 +46,8 @@ shown_at-append v number list p k within =
     (slice_get-append_left list (p ∷ []) k within)
 
 IsStep-append : (v : Variant) (number : ℕ) (list : List Played) (p : Played) (k : ℕ) (step : Step) → k < length list
-    → IsStep v number list k step →
-    IsStep v number (list ++ p ∷ []) k step
+    → IsKeptStep v number list k step →
+    IsKeptStep v number (list ++ p ∷ []) k step
 IsStep-append v number list p k step within is = record {
   undo =
       subst (λ (q : Position). IsUndoOf step.undo q (position_at v number (list ++ p ∷ []) (k + 1)))
@@ -75,7 +75,7 @@ IsStep-end : (v : Variant) (number : ℕ) (list : List Played) (p : Played) (ste
     IsUndoOf step.undo (position_after v (half_moves number list) number)
     (position_after v (half_moves number (list ++ p ∷ [])) number) →
     step.shown ≡ shown_of (position_after v (half_moves number list) number) p.what
-    → IsStep v number (list ++ p ∷ []) (length list) step
+    → IsKeptStep v number (list ++ p ∷ []) (length list) step
 IsStep-end v number list p step undo shown = record {
   undo =
       subst (λ (q : Position). IsUndoOf step.undo q (position_at v number (list ++ p ∷ []) (length list + 1)))
@@ -103,8 +103,8 @@ AreSteps-append v number list steps p step all undo shown = record {
         IsStep-append v number list p k s (omega (arith, slice_get_within steps k s old, all.each)) (all.kept k s old)
     | inr new ↦
         let place : length list ≡ k = omega (arith, new.0, all.each) in
-        subst (λ (n : ℕ). IsStep v number (list ++ p ∷ []) n s) place
-        (subst (λ (t : Step). IsStep v number (list ++ p ∷ []) (length list) t) new.1
+        subst (λ (n : ℕ). IsKeptStep v number (list ++ p ∷ []) n s) place
+        (subst (λ (t : Step). IsKeptStep v number (list ++ p ∷ []) (length list) t) new.1
         (IsStep-end v number list p step undo shown))
   ];
 }

@@ -23,7 +23,7 @@ use Rattle.game_board.specs.declared.played.Step.{Step}
 use Rattle.fics_words.specs.Boards.{board_number}
 use Rattle.game_board.specs.Board.{half_move, half_moves, made, mover_after}
 use Rattle.game_board.specs.Charges.{charge_to, charges_of, clock_of}
-use Rattle.game_board.specs.Steps.{position_at, IsStep, AreSteps}
+use Rattle.game_board.specs.Steps.{position_at, IsKeptStep, AreSteps}
 use Rattle.game_board.specs.TakeBack.{without_end}
 use Rattle.game_board.proofs.Charged.{charges_from-append}
 use Rattle.game_board.proofs.Grown.{half_moves-append}
@@ -71,8 +71,8 @@ IsLegal-shorter v number list p legal =
     (subst (λ (T : List HalfMove). IsLegal v T) (half_moves-append number list p) legal)
 
 IsStep-shorter : (v : Variant) (number : ℕ) (list : List Played) (p : Played) (k : ℕ) (step : Step) → k < length list
-    → IsStep v number (list ++ p ∷ []) k step →
-    IsStep v number list k step
+    → IsKeptStep v number (list ++ p ∷ []) k step →
+    IsKeptStep v number list k step
 IsStep-shorter v number list p k step within is = record {
   undo =
       subst (λ (q : Position). IsUndoOf step.undo q (position_at v number list (k + 1)))
@@ -104,8 +104,8 @@ pub last_undo : (v : Variant) (number : ℕ) (list : List Played) (p : Played) (
 last_undo v number list p steps step all =
     let each : length steps ≡ length list =
     omega (arith, length-append steps (step ∷ []), length-append list (p ∷ []), all.each) in
-    let is : IsStep v number (list ++ p ∷ []) (length list) step =
-    subst (λ (n : ℕ). IsStep v number (list ++ p ∷ []) n step) each
+    let is : IsKeptStep v number (list ++ p ∷ []) (length list) step =
+    subst (λ (n : ℕ). IsKeptStep v number (list ++ p ∷ []) n step) each
     (all.kept (length steps) step (slice_get-append_end steps step)) in
     subst (λ (q : Position). IsUndoOf step.undo q (position_after v (half_moves number (list ++ p ∷ [])) number))
     (before_end v number list p)

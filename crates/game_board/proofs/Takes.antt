@@ -10,7 +10,7 @@ use Rattle.chess_model.proofs.TestsDecide.{Decides-allowed}
 use Rattle.variant_rules.specs.States.{state_in}
 use Rattle.game_board.specs.declared.played.Played.{Played}
 use Rattle.game_board.specs.Board.{Board, position_of}
-use Rattle.game_board.specs.Put.{is_next_charged, takes_played}
+use Rattle.game_board.specs.Put.{next_is_charged, takes_played}
 
 -- a test of four parts passes where each part does
 pub four_parts : (a b c d : Bool) → (a && b && c && d) ≡ true → (a ≡ true) × (b ≡ true) × (c ≡ true) × (d ≡ true)
@@ -25,14 +25,14 @@ pub record IsTaken (b : Board) (p : Played) : Type 0 where
   pub going : not (is_end (state_in (position_of b))) ≡ true
   pub room : b.played < 1200
   pub allowed : Allowed (position_of b) p.what
-  pub charge : beq (is_some p.charge) (is_next_charged b) ≡ true
+  pub charge : beq (is_some p.charge) (next_is_charged b) ≡ true
 
 pub takes_played-parts : (b : Board) (p : Played) → IsTrue (takes_played b p) → IsTaken b p
 unfolding takes_played
 takes_played-parts b p takes =
     let t =
     four_parts (not (is_end (state_in (position_of b)))) (nat_lt b.played 1200) (is_allowed (position_of b) p.what)
-    (beq (is_some p.charge) (is_next_charged b)) takes in
+    (beq (is_some p.charge) (next_is_charged b)) takes in
     record {
       going = t.0;
       room = (Decides-ltb b.played 1200).0 t.1;

@@ -46,12 +46,12 @@ with_half_move b m moment stamp = record b {
 }
 
 -- the man that a half-move captures
-abbrev pub captured : Board → Move → Option Man
-captured b m = taken (position_of b).men m
+abbrev pub captured_in : Board → Move → Option Man
+captured_in b m = taken (position_of b).men m
 
 -- the reply to a word: the captured man, or the refusal
 abbrev pub play_reply : Board → Result Move Refusal → Result (Option Man) Refusal
-play_reply b (Ok m) = Ok (captured b m)
+play_reply b (Ok m) = Ok (captured_in b m)
 play_reply b (Err r) = Err r
 
 -- the board after a word: one half-move more, or as it was

@@ -10,8 +10,8 @@ use Rattle.game_board.specs.Charges.{is_timed}
 use Rattle.chess_model.specs.Limits.{most_halves}
 
 -- whether the next half-move is charged: the game is timed, and it isn't the first one of its colour
-abbrev pub is_next_charged : Board → Bool
-is_next_charged b = is_timed b.terms && has_moved (to_move b) b.list
+abbrev pub next_is_charged : Board → Bool
+next_is_charged b = is_timed b.terms && has_moved (to_move b) b.list
 
 -- whether a board takes a half-move with the charge that it has, if it has one: the game hasn't ended by mate or
 -- stalemate (it ends by the last half-move, if at all), there is room, the half-move is allowed, and the charge is
@@ -19,7 +19,7 @@ is_next_charged b = is_timed b.terms && has_moved (to_move b) b.list
 unfoldable pub takes_played : Board → Played → Bool
 takes_played b p =
     not (is_end (state_in (position_of b))) && nat_lt b.played most_halves && is_allowed (position_of b) p.what
-    && beq (is_some p.charge) (is_next_charged b)
+    && beq (is_some p.charge) (next_is_charged b)
 
 -- the board with one half-move more, since when nobody has acknowledged it
 abbrev pub with_played : Board → Played → Board

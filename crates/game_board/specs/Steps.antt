@@ -19,7 +19,7 @@ abbrev pub shown_at : Variant → ℕ → List Played → ℕ → Option Shown
 shown_at v number list k = option_map (λ p. shown_of (position_at v number list k) p.what) (slice_get list k)
 
 -- what is kept of the k-th half-move of a list
-pub record IsStep (v : Variant) (number : ℕ) (list : List Played) (k : ℕ) (step : Step) : Type 0 where
+pub record IsKeptStep (v : Variant) (number : ℕ) (list : List Played) (k : ℕ) (step : Step) : Type 0 where
   -- its undo takes the position after it back to that before it
   pub undo : IsUndoOf step.undo (position_at v number list k) (position_at v number list (k + 1))
   pub shown : shown_at v number list k ≡ Some step.shown
@@ -27,4 +27,4 @@ pub record IsStep (v : Variant) (number : ℕ) (list : List Played) (k : ℕ) (s
 -- what is kept of the half-moves of a list
 pub record AreSteps (v : Variant) (number : ℕ) (list : List Played) (steps : List Step) : Type 0 where
   pub each : length steps ≡ length list
-  pub kept : (k : ℕ) (step : Step) → slice_get steps k ≡ Some step → IsStep v number list k step
+  pub kept : (k : ℕ) (step : Step) → slice_get steps k ≡ Some step → IsKeptStep v number list k step

@@ -14,8 +14,8 @@ without_end end list = take (length list - length end) list
 
 -- the board without its last n half-moves and their charges, where it is the only one of its game; of those that came
 -- with their charges it has what is left
-abbrev pub without_last : Board → ℕ → Board
-without_last b n = record b {
+abbrev pub board_without_last : Board → ℕ → Board
+board_without_last b n = record b {
   list = take (length b.list - n) b.list;
   all = take (length b.all - n) b.all;
   resumed = min b.resumed (length b.list - n);
@@ -23,8 +23,8 @@ without_last b n = record b {
 
 -- the board after the last n half-moves were taken back at that moment: who is to move is thinking since then, and
 -- hasn't acknowledged it; the half-moves that were taken back still count as played
-abbrev pub taken_back : Board → ℕ → ℕ → Board
-taken_back b n moment = record (without_last b n) {
+abbrev pub board_taken_back : Board → ℕ → ℕ → Board
+board_taken_back b n moment = record (board_without_last b n) {
   begin = moment;
   kept = None;
 }
@@ -35,4 +35,4 @@ take_back_reply b n = if has_too_few b n then Err TooFewMoves else Ok tt
 
 -- and the board after it
 abbrev pub take_back_after : Board → ℕ → ℕ → Board
-take_back_after b n moment = if has_too_few b n then b else taken_back b n moment
+take_back_after b n moment = if has_too_few b n then b else board_taken_back b n moment

@@ -1,7 +1,7 @@
 //! Why a word has no move, as a refusal.
 ghost use Rattle.std.specs.Prelude.{◌≡◌, IfOk};
 ghost use Rattle.chess_model.specs.Allowed.{Allowed};
-ghost use Rattle.game_board.specs.Causes.{refusal_of, in_words};
+ghost use Rattle.game_board.specs.Causes.{refusal_of_rejection, in_words};
 ghost use Rattle.chess_model.specs.WordAnswer.{word_answer};
 
 use chess_model::{Move, MoveWord, Rejection};
@@ -10,7 +10,7 @@ use variant_rules::Position;
 
 /// The refusal that tells a player why a word has no move.
 pub fn refusal_of(cause: Rejection) -> Refusal
-    ensures { result ≡ refusal_of cause }
+    ensures { result ≡ refusal_of_rejection cause }
 {
     match cause {
         Rejection::Ambiguous => Refusal::Ambiguous,

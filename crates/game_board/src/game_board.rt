@@ -72,7 +72,7 @@ impl GameBoard {
     ghost use Rattle.game_board.specs.Board.{half_moves, made, new_board, to_move, position_of, has_moved};
     ghost use Rattle.game_board.specs.BoardFace.{board_face, last_played, last_shown, last_taken};
     ghost use Rattle.game_board.specs.Charges.{clock_of, is_timed};
-    ghost use Rattle.game_board.specs.Play.{captured, move_answer, next_charge, with_half_move, play_reply, play_after};
+    ghost use Rattle.game_board.specs.Play.{captured_in, move_answer, next_charge, with_half_move, play_reply, play_after};
     ghost use Rattle.game_board.specs.Flag.{flag_answer, running, has_fallen, cannot_win};
 
     /// The board of that number at the start of a game, whose first player begins to think at `moment`. Room
@@ -289,7 +289,7 @@ impl GameBoard {
         requires room { self.old.played < most_halves }
         requires order { self.old.begin ≤ moment }
         requires stamp { IfSome stamp IsStamp }
-        ensures captured { result ≡ captured self.old what.now }
+        ensures captured { result ≡ captured_in self.old what.now }
         ensures after { self.new ≡ with_half_move self.old what.now moment stamp }
     {
         let charge = self.next_charge(moment, stamp);

@@ -4,7 +4,7 @@ ghost use Rattle.chess_model.specs.Limits.{most_halves};
 ghost use Rattle.chess_model.specs.Allowed.{Allowed};
 ghost use Rattle.clock_ledger.specs.Charges.{IsChargeable};
 ghost use Rattle.game_board.specs.Board.{position_of};
-ghost use Rattle.game_board.specs.Play.{captured};
+ghost use Rattle.game_board.specs.Play.{captured_in};
 ghost use Rattle.game_board.specs.Put.{with_put};
 
 use crate::game_board::GameBoard;
@@ -19,7 +19,7 @@ impl GameBoard {
         requires allowed { Allowed (position_of self.old) half.what }
         requires room { self.old.played < most_halves }
         requires sound { IfSome half.charge IsChargeable }
-        ensures captured { result ≡ captured self.old half.what }
+        ensures captured { result ≡ captured_in self.old half.what }
         ensures after { self.new ≡ with_put self.old half }
     {
         let captured = self.add(&half);

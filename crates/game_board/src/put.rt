@@ -4,8 +4,8 @@ ghost use Rattle.chess_model.specs.Limits.{most_halves};
 ghost use Rattle.chess_model.specs.Allowed.{Allowed};
 ghost use Rattle.clock_ledger.specs.Charges.{IsChargeable};
 ghost use Rattle.game_board.specs.Board.{position_of};
-ghost use Rattle.game_board.specs.Play.{captured};
-ghost use Rattle.game_board.specs.Put.{is_next_charged, takes_played, with_played, with_put};
+ghost use Rattle.game_board.specs.Play.{captured_in};
+ghost use Rattle.game_board.specs.Put.{next_is_charged, takes_played, with_played, with_put};
 
 use crate::clocks::charge_clocks;
 use crate::game_board::GameBoard;
@@ -35,7 +35,7 @@ impl GameBoard {
 
     /// Whether the next half-move is charged.
     pub(crate) fn is_next_charged(&self) -> bool
-        ensures { result ≡ is_next_charged self.now }
+        ensures { result ≡ next_is_charged self.now }
     {
         self.white.is_next_charged(self.has_moved(self.to_move()))
     }
@@ -46,7 +46,7 @@ impl GameBoard {
     pub fn put(&mut self, half: Played) -> Result<Option<Man>, NoMemory>
         requires takes { IsTrue (takes_played self.old half) }
         requires sound { IfSome half.charge IsChargeable }
-        ensures captured { result ≡ Ok (captured self.old half.what) }
+        ensures captured { result ≡ Ok (captured_in self.old half.what) }
         ensures after { self.new ≡ with_put self.old half }
     {
         Ok(self.lay(half))
@@ -57,7 +57,7 @@ impl GameBoard {
         requires allowed { Allowed (position_of self.old) half.now.what }
         requires room { self.old.played < most_halves }
         requires sound { IfSome half.now.charge IsChargeable }
-        ensures captured { result ≡ captured self.old half.now.what }
+        ensures captured { result ≡ captured_in self.old half.now.what }
         ensures after { self.new ≡ with_played self.old half.now }
     {
         let mover = self.to_move();

@@ -1,6 +1,6 @@
 //! Taking half-moves back.
 ghost use Rattle.std.specs.Prelude.{◌≡◌, ◌≢◌, ◌<◌, ◌≤◌, length};
-ghost use Rattle.game_board.specs.TakeBack.{take_back_reply, take_back_after, without_last};
+ghost use Rattle.game_board.specs.TakeBack.{take_back_reply, take_back_after, board_without_last};
 
 use crate::clocks::take_charge_off;
 use crate::game_board::GameBoard;
@@ -33,7 +33,7 @@ impl GameBoard {
     fn take_last_back(&mut self)
         requires variant { self.old.terms.variant ≢ Variant.Bughouse }
         requires some { 0 < length self.old.list }
-        ensures { self.new ≡ without_last self.old 1 }
+        ensures { self.new ≡ board_without_last self.old 1 }
     {
         let mover = self.to_move().opposite();
         let Some(half) = self.list.pop() else {

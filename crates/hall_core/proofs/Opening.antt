@@ -8,7 +8,7 @@ use Rattle.lobby_state.specs.WellFormed.{IsWellFormed}
 use Rattle.one_server.specs.declared.part.Part.{Part}
 use Rattle.one_server.specs.declared.part.Part.TheVariants.{Lobby as TheLobby, Desk as ADesk}
 use Rattle.one_server.specs.Desks.{vacant}
-use Rattle.one_server.specs.Whole.{IsOpening, IsWhole, opened, parts_of, vacant_from}
+use Rattle.one_server.specs.Whole.{IsOpening, IsWhole, opened, parts_with, vacant_from}
 use Rattle.histories.specs.History.{calls_of, Legal}
 use Rattle.one_server.specs.declared.act.Timed.{Timed}
 use Rattle.one_server.specs.declared.reply.Reply.{Reply}
@@ -22,16 +22,16 @@ use Rattle.one_server.proofs.Serving.{vacant_push, whole_opening}
 
 -- one more vacant desk behind the others
 pub parts_push : (lobby : LobbyState) (slot : ℕ) (parts new : List Part) (desk : DeskState)
-    → parts ≡ parts_of lobby (vacant_from 1 slot) → desk ≡ vacant (slot + 1) → new ≡ parts ++ ADesk desk ∷ []
-    → new ≡ parts_of lobby (vacant_from 1 (slot + 1))
+    → parts ≡ parts_with lobby (vacant_from 1 slot) → desk ≡ vacant (slot + 1) → new ≡ parts ++ ADesk desk ∷ []
+    → new ≡ parts_with lobby (vacant_from 1 (slot + 1))
 parts_push lobby slot parts new desk e d n =
     let more : vacant_from 1 slot ++ desk ∷ [] ≡ vacant_from 1 (slot + 1) =
     vacant_push slot (vacant_from 1 slot) (vacant_from 1 slot ++ desk ∷ []) desk refl d refl in
     n ∙ ap (λ ps. ps ++ ADesk desk ∷ []) e
     ∙ ap (λ ps. TheLobby lobby ∷ ps) (sym (map-append ADesk (vacant_from 1 slot) (desk ∷ [])))
-    ∙ ap (parts_of lobby) more
+    ∙ ap (parts_with lobby) more
 
-pub is_opened : (lobby : LobbyState) → parts_of lobby (vacant_from 1 desk_count) ≡ opened lobby
+pub is_opened : (lobby : LobbyState) → parts_with lobby (vacant_from 1 desk_count) ≡ opened lobby
 unfolding opened
 is_opened lobby = refl
 

@@ -19,7 +19,7 @@ use Rattle.turn_table.specs.Passes.{PassStanding}
 use Rattle.turn_chain.specs.declared.tried.Tried.{Tried}
 use Rattle.turn_chain.specs.declared.tried.Tried.TheVariants as tried
 use Rattle.turn_chain.specs.Chain.{fixed, CameTo as ViewCameTo, FoundBusy as ViewBusy, HasRun, HasNotRun}
-use Rattle.hall_core.specs.Acts.{CameTo, FoundBusy, ran_of}
+use Rattle.hall_core.specs.Acts.{ActCameTo, FoundPartBusy, ran_of}
 use Rattle.hall_core.specs.Passes.{IsHallPass, pass_state, runs_of}
 
 module _ (v w : PassStanding Part Timed Reply) (same : fixed w.view ≡ fixed v.view) where
@@ -89,7 +89,7 @@ module _ (v w : PassStanding Part Timed Reply) (same : fixed w.view ≡ fixed v.
 
   -- a part that was busy
   pub busy_part : (short : Bool) (timed : Timed) (part : ℕ) → ViewBusy house v.view timed part w.view
-      → FoundBusy (pass_state v short) timed part (pass_state w short)
+      → FoundPartBusy (pass_state v short) timed part (pass_state w short)
   busy_part short timed part found = record {
     part =
         subst (λ n. Touches house (state house w.view.opening w.view.seen) n timed part) (sym number_is)
@@ -98,7 +98,8 @@ module _ (v w : PassStanding Part Timed Reply) (same : fixed w.view ≡ fixed v.
   }
 
   pub came : IsWhole v.view.opening → (short : Bool) (timed : Timed) (t : Tried Timed) (r : Reply)
-      → ViewCameTo house v.view timed t r w.view → CameTo (pass_state v short) timed (ran_of t r) (pass_state w short)
+      → ViewCameTo house v.view timed t r w.view
+      → ActCameTo (pass_state v short) timed (ran_of t r) (pass_state w short)
   came whole short timed tried.Done r ran = answered whole timed r ran
   came whole short timed (tried.Busy part act) r found =
       (unanswered found.0, ap (λ (x : Timed). x.act) found.1, busy_part short timed part found.2)

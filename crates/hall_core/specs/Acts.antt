@@ -17,15 +17,15 @@ abbrev pub OnlyRan : PassState → PassState → Type 0
 OnlyRan old new = new ≡ record old { seen = new.seen; made = new.made; busy = new.busy }
 
 -- the last try of a turn found this part with another pass, and it is a part of the act, as what is seen says
-pub record FoundBusy (old : PassState) (timed : Timed) (number : ℕ) (new : PassState) : Type 0 where
+pub record FoundPartBusy (old : PassState) (timed : Timed) (number : ℕ) (new : PassState) : Type 0 where
   pub part : Touches house (state house new.opening new.seen) new.number timed number
   pub last : new.busy ≡ old.busy ++ number ∷ []
 
 -- an act that waited for nobody was answered, or it made no entry and comes back
-abbrev pub CameTo : PassState → Timed → Ran → PassState → Type 0
-CameTo old timed (Done reply) new = IsAnswered (runs_of old) timed reply (runs_of new)
-CameTo old timed (Busy number act) new =
-    Made (runs_of old) [] (runs_of new) × (act ≡ timed.act) × FoundBusy old timed number new
+abbrev pub ActCameTo : PassState → Timed → Ran → PassState → Type 0
+ActCameTo old timed (Done reply) new = IsAnswered (runs_of old) timed reply (runs_of new)
+ActCameTo old timed (Busy number act) new =
+    Made (runs_of old) [] (runs_of new) × (act ≡ timed.act) × FoundPartBusy old timed number new
 
 -- what the chain of an act came to, with the reply where it was made, and without the moment of an act that comes back
 abbrev pub ran_of : Tried Timed → Reply → Ran

@@ -65,8 +65,8 @@ first_pass hall parts = record {
 }
 
 -- a pass was split from it
-abbrev pub divided : PassState → PassState
-divided pass = record pass { splits = pass.splits + 1 }
+abbrev pub pass_divided : PassState → PassState
+pass_divided pass = record pass { splits = pass.splits + 1 }
 
 -- the pass that was split from it: the next number's, which has seen as much and made nothing
 abbrev pub new_pass : PassState → PassState
@@ -80,13 +80,13 @@ new_pass pass = record pass {
 }
 
 -- whether memory ran out was noted on it
-abbrev pub noted : Bool → PassState → PassState
-noted short pass = record pass { short = short }
+abbrev pub pass_noted : Bool → PassState → PassState
+pass_noted short pass = record pass { short = short }
 
 -- another pass was joined into it: its number with its calls is known, and so are those that were joined into it. What
 -- is seen then begins with what either of the two had seen, and has those calls as the entries of that number; seen by
 -- the first pass, it has no entry of a number that wasn't split. The rest stays as it was
-pub record IsJoined (old other new : PassState) : Type 0 where
+pub record IsPassJoined (old other new : PassState) : Type 0 where
   pub same : new ≡ record old { joined = new.joined; seen = new.seen }
   pub joined : new.joined ≡ old.joined ++ record { number = other.number; calls = other.made } ∷ other.joined
   pub seen : IsPrefix old.seen new.seen

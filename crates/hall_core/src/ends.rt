@@ -5,7 +5,7 @@ ghost use Rattle.linked_desk.specs.Desk.{DeskState};
 ghost use Rattle.lobby_state.specs.Desks.{desks as desk_count};
 ghost use Rattle.lobby_state.specs.Lobby.{LobbyState};
 ghost use Rattle.one_server.specs.declared.part.Part.TheVariants.{Lobby as TheLobby, Desk as ADesk};
-ghost use Rattle.one_server.specs.Whole.{IsWhole, opened, parts_of};
+ghost use Rattle.one_server.specs.Whole.{IsWhole, opened, parts_with};
 
 use crate::boxed_part::BoxedPart;
 use fics_words::DeskNumber;
@@ -45,7 +45,7 @@ pub fn told_apart(parts: Vec<BoxedPart>, room: Vec<Desk>) -> HallParts
     requires whole { IsWhole parts.items }
     requires empty { room.items ≡ [] }
     requires room { desk_count ≤ vec_capacity room }
-    ensures { parts_of result.lobby result.desks.items ≡ parts.items }
+    ensures { parts_with result.lobby result.desks.items ≡ parts.items }
 {
     let mut desks = room;
     let mut rest = parts.into_iter();

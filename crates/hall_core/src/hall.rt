@@ -9,9 +9,9 @@ ghost use Rattle.one_server.specs.declared.reply.Reply.{Reply};
 ghost use Rattle.one_server.specs.Acts.{IsEvent, NeedsNoMemory};
 ghost use Rattle.one_server.specs.House.{house};
 ghost use Rattle.one_server.specs.Running.{Made, Runs, in_its_place};
-ghost use Rattle.one_server.specs.Whole.{IsOpening, opened, parts_of};
-ghost use Rattle.hall_core.specs.Passes.{EveryoneJoined, first_pass, HasLooked, IsJoined, new_pass, divided, runs_of};
-ghost use Rattle.hall_core.specs.Acts.{CameTo, OnlyRan};
+ghost use Rattle.one_server.specs.Whole.{IsOpening, opened, parts_with};
+ghost use Rattle.hall_core.specs.Passes.{EveryoneJoined, first_pass, HasLooked, IsPassJoined, new_pass, pass_divided, runs_of};
+ghost use Rattle.hall_core.specs.Acts.{ActCameTo, OnlyRan};
 
 use crate::ends::{HallParts, opening_parts, told_apart};
 use crate::hall_rules::HallRules;
@@ -65,7 +65,7 @@ impl Hall {
         requires here { pass.old.home ≡ self.now }
         requires first { pass.old.number ≡ 0 }
         requires room { pass.old.splits < 2 ^ 32 - 1 }
-        ensures counted { pass.new ≡ divided pass.old }
+        ensures counted { pass.new ≡ pass_divided pass.old }
         ensures new { result ≡ new_pass pass.old }
     {
         HallPass {
@@ -81,7 +81,7 @@ impl Hall {
         requires here { pass.old.home ≡ self.now }
         requires other_here { other.home ≡ self.now }
         requires other_not_first { other.number ≢ 0 }
-        ensures { IsJoined pass.old other pass.new }
+        ensures { IsPassJoined pass.old other pass.new }
     {
         self.turns.join(&mut pass.pass, other.pass);
     }
@@ -109,7 +109,7 @@ impl Hall {
         requires here { pass.old.home ≡ self.now }
         requires event { IsEvent (record { moment = moment; act = act }) }
         ensures only { OnlyRan pass.old pass.new }
-        ensures ok { IfOk result (λ ran. CameTo pass.old (record { moment = moment; act = act }) ran pass.new) }
+        ensures ok { IfOk result (λ ran. ActCameTo pass.old (record { moment = moment; act = act }) ran pass.new) }
         ensures err { OnErr result (Made (runs_of pass.old) [] (runs_of pass.new)) }
         ensures sure { NeedsNoMemory act → IsOk result }
     {
@@ -150,7 +150,7 @@ impl Hall {
         requires here { pass.home ≡ self }
         requires first { pass.number ≡ 0 }
         requires all_joined { EveryoneJoined pass }
-        ensures parts { parts_of result.lobby result.desks.items ≡ state house pass.opening pass.seen }
+        ensures parts { parts_with result.lobby result.desks.items ≡ state house pass.opening pass.seen }
         ensures legal { Legal house pass.opening pass.seen }
         ensures own { calls_of 0 pass.seen ≡ pass.made }
         ensures joined { (j : Joined Timed Reply) → In j pass.joined → calls_of j.number pass.seen ≡ j.calls }

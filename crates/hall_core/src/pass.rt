@@ -26,7 +26,7 @@ impl Model for HallPass {
 }
 
 impl HallPass {
-    ghost use Rattle.hall_core.specs.Passes.{noted, runs_of};
+    ghost use Rattle.hall_core.specs.Passes.{pass_noted, runs_of};
     ghost use Rattle.one_server.specs.Running.{IsKnown};
 
     /// The session's number: 0 for the pass that the hall opened with, else the number that its split drew. Numbers are
@@ -40,7 +40,7 @@ impl HallPass {
 
     /// Notes whether memory ran out where the pass was used, for whoever gets it next. A new pass says that it didn't.
     pub fn note_short(&mut self, short: bool)
-        ensures { self.new ≡ noted short self.old }
+        ensures { self.new ≡ pass_noted short self.old }
     {
         self.short = short;
     }

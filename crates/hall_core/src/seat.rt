@@ -3,7 +3,7 @@
 ghost use Rattle.std.specs.Prelude.{◌≡◌, [], IfOk, IsOk, OnErr};
 ghost use Rattle.one_server.specs.Acts.{IsEvent, NeedsNoMemory};
 ghost use Rattle.one_server.specs.Running.{Made};
-ghost use Rattle.hall_core.specs.Acts.{CameTo, OnlyRan};
+ghost use Rattle.hall_core.specs.Acts.{ActCameTo, OnlyRan};
 ghost use Rattle.hall_core.specs.Passes.{runs_of};
 
 use crate::hall::Hall;
@@ -63,7 +63,7 @@ impl<G: Gate, R: Wait> HallSeat<'_, G, R> {
     pub fn try_run(&mut self, alloc: Global, moment: u64, act: Act) -> Result<Ran, NoMemory>
         requires { IsEvent (record { moment = moment; act = act }) }
         ensures only { OnlyRan self.old self.new }
-        ensures ok { IfOk result (λ ran. CameTo self.old (record { moment = moment; act = act }) ran self.new) }
+        ensures ok { IfOk result (λ ran. ActCameTo self.old (record { moment = moment; act = act }) ran self.new) }
         ensures err { OnErr result (Made (runs_of self.old) [] (runs_of self.new)) }
         ensures sure { NeedsNoMemory act → IsOk result }
     {

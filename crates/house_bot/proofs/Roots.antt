@@ -11,7 +11,7 @@ use Rattle.chess_model.specs.Allowed.{Allowed}
 use Rattle.chess_model.specs.AllMoves.{allowed_moves}
 use Rattle.house_bot.specs.declared.chosen.Choice.{Choice}
 use Rattle.house_bot.specs.Value.{greatest, value, move_value, best_move}
-use Rattle.house_bot.specs.Searching.{cut, GoesOn, better, best_of}
+use Rattle.house_bot.specs.Searching.{cut, SearchGoesOn, better, best_of}
 use Rattle.house_bot.proofs.Cuts.{int_lt-yes}
 use Rattle.house_bot.proofs.Raises.{top, top-greatest}
 use Rattle.house_bot.proofs.Choices.{no_choice, better-worth, better-cut, best_of-worth, best_of-first, reached}
@@ -55,7 +55,7 @@ pub record IsFound (d : ℕ) (p : Position) (choice : Choice) : Type 0 where
   pub first : choice.what ≡ best_move d p
   pub some : choice.what ≢ None
 
-pub found : (d e : ℕ) (p : Position) (choice : Choice) → suc e ≡ d → d ≤ 255 → IsTwoSets p → GoesOn d p →
+pub found : (d e : ℕ) (p : Position) (choice : Choice) → suc e ≡ d → d ≤ 255 → IsTwoSets p → SearchGoesOn d p →
     0 < length (allowed_moves p) → choice ≡ best_of (move_value e p) no_choice (allowed_moves p) → IsFound d p choice
 found d e p choice same small two ahead some chosen =
     let f : Move → ℤ = move_value e p in

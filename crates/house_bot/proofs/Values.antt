@@ -19,7 +19,7 @@ use Rattle.chess_model.proofs.MovesListed.{Among-allowed}
 use Rattle.chess_model.proofs.StatesTold.{state_told}
 use Rattle.chess_model.proofs.TestsDecide.{Decides-allowed}
 use Rattle.house_bot.specs.Value.{balance, greatest, end_value, value, move_value, best_move}
-use Rattle.house_bot.specs.Searching.{GoesOn}
+use Rattle.house_bot.specs.Searching.{SearchGoesOn}
 
 -- the value where the game has ended
 pub value-ended : (d : ℕ) (p : Position) (worth : ℤ) → Some worth ≡ end_value (result p) d → worth ≡ value d p
@@ -43,7 +43,7 @@ going Stalemate d e = absurd (let never : None ≡ end_value Stalemate d = e in 
 going Check d e = refl
 going Safe d e = refl
 
-pub goes_on : (d : ℕ) (p : Position) → 0 < d → None ≡ end_value (result p) d → GoesOn d p
+pub goes_on : (d : ℕ) (p : Position) → 0 < d → None ≡ end_value (result p) d → SearchGoesOn d p
 goes_on d p left none = record {
   left = left;
   goes = going (result p) d none;

@@ -25,7 +25,7 @@ abbrev pub IsOver : ℕ → Position → Type 0
 IsOver d p = (d ≡ 0) ⊎ IsTrue (is_end (result p))
 
 -- half-moves are left to look at, the game hasn't ended, and the value is the greatest of the moves
-pub record GoesOn (d : ℕ) (p : Position) : Type 0 where
+pub record SearchGoesOn (d : ℕ) (p : Position) : Type 0 where
   pub left : 0 < d
   pub goes : is_end (result p) ≡ false
   pub best : (e : ℕ) → suc e ≡ d → value d p ≡ greatest (map (move_value e p) (allowed_moves p))

@@ -1,7 +1,7 @@
 //! What a position is worth where nothing is looked ahead.
 ghost use Rattle.std.specs.Prelude.{◌≡◌, ◌≤◌, IfSome, IfNone};
 ghost use Rattle.house_bot.specs.Value.{hand_worth, hand_material, material, balance, end_value, value};
-ghost use Rattle.house_bot.specs.Searching.{IsOver, GoesOn};
+ghost use Rattle.house_bot.specs.Searching.{IsOver, SearchGoesOn};
 
 use chess_model::{Colour, Hand, State, Variant, material_of};
 use holdings_drops::Holdings;
@@ -66,7 +66,7 @@ fn end_value(state: State, depth: u8) -> Option<i32>
 pub(crate) fn settled(p: &Position, depth: u8) -> Option<i32>
     ensures settled { IfSome result (λ worth. worth ≡ value depth p.now) }
     ensures over { IfSome result (λ worth. IsOver depth p.now) }
-    ensures open { IfNone result (GoesOn depth p.now) }
+    ensures open { IfNone result (SearchGoesOn depth p.now) }
 {
     if let Some(worth) = end_value(p.state(), depth) {
         return Some(worth);

@@ -15,7 +15,7 @@ use Rattle.fics_words.specs.Pieces.{is_kept, pieces, but_last, last_of, IsUnbrok
 use Rattle.line_reader.specs.Telnet.{after, is_data, data_from}
 use Rattle.line_reader.specs.Cutting.{Cutting, ends_line, grown, passed}
 use Rattle.line_reader.specs.Reading.{reading, rest_reading}
-use Rattle.line_reader.specs.Reader.{Reader, reading_on, kept_from, lines_of, rest_of, GiveSame, Gives, IsKept}
+use Rattle.line_reader.specs.Reader.{Reader, reading_on, kept_from, lines_of, rest_of, GiveSame, GivesLine, IsKept}
 use Rattle.line_reader.proofs.LongLines.{pieces_front, too_long, rest_too_long}
 use Rattle.line_reader.proofs.OpenLines.{take_short, full_stays}
 use Rattle.fics_words.proofs.Pieces.{Begins-pieces, but_last-cons, last_of-cons}
@@ -110,7 +110,7 @@ feed_data BlockCommand b bytes e = absurd (let bad : false ≡ true = e in cc)
 
 -- an LF gives the line
 pub end_gives : (telnet : Telnet) (line : List ℕ) (b : ℕ) (fed : List ℕ) → IsKept line → ends_line telnet b ≡ true
-    → Gives (record {
+    → GivesLine (record {
       telnet = telnet;
       line = line;
       fed = b ∷ fed;
@@ -166,7 +166,7 @@ with_fed self fed e =
 pub next_gives : (now self new : Reader) (byte : ℕ) (incoming : Incoming) → GiveSame now self
     → self.fed ≡ byte ∷ drop 1 self.fed → IsKept self.line
     → ends_line self.telnet byte ≡ true → incoming ≡ reading self.line
-    → new ≡ record { telnet = self.telnet; line = []; fed = drop 1 self.fed } → Gives now incoming new
+    → new ≡ record { telnet = self.telnet; line = []; fed = drop 1 self.fed } → GivesLine now incoming new
 next_gives now self new byte incoming same fed kept ends read is more =
     let whole = with_fed self (byte ∷ drop 1 self.fed) fed in
     let given = end_gives self.telnet self.line byte (drop 1 self.fed) kept ends more in (

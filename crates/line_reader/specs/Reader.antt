@@ -41,8 +41,8 @@ GiveSame one other =
     (more : List ℕ) → (lines_of one more ≡ lines_of other more) × (rest_of one more ≡ rest_of other more)
 
 -- the one gives this line and then what the other gives, whatever follows
-abbrev pub Gives : Reader → Incoming → Reader → Type 0
-Gives one incoming other =
+abbrev pub GivesLine : Reader → Incoming → Reader → Type 0
+GivesLine one incoming other =
     (more : List ℕ) → (lines_of one more ≡ incoming ∷ lines_of other more) × (rest_of one more ≡ rest_of other more)
 
 -- no more than a line is kept of a line that isn't whole

@@ -40,7 +40,7 @@ impl LineReader {
     ghost use Rattle.line_reader.specs.Telnet.{after};
     ghost use Rattle.line_reader.specs.Cutting.{ends_line, grown};
     ghost use Rattle.line_reader.specs.Reading.{reading};
-    ghost use Rattle.line_reader.specs.Reader.{Reader, fresh, lines_of, rest_of, GiveSame, Gives, IsKept};
+    ghost use Rattle.line_reader.specs.Reader.{Reader, fresh, lines_of, rest_of, GiveSame, GivesLine, IsKept};
 
     /// A reader before the first byte.
     pub fn new(alloc: Global) -> Result<LineReader, NoMemory>
@@ -65,7 +65,7 @@ impl LineReader {
 
     /// Takes off the first whole line of what was fed, or answers `None` where there is none.
     pub fn next(&mut self) -> Result<Option<Incoming>, NoMemory>
-        ensures line { IfOk result (λ found. IfSome found (λ incoming. Gives self.old incoming self.new)) }
+        ensures line { IfOk result (λ found. IfSome found (λ incoming. GivesLine self.old incoming self.new)) }
         ensures none { IfOk result (λ found. IfNone found (lines_of self.old [] ≡ [])) }
         ensures kept { IfOk result (λ found. IfNone found (GiveSame self.old self.new)) }
         ensures emptied { IfOk result (λ found. IfNone found (self.new.fed ≡ [])) }

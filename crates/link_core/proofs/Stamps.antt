@@ -10,7 +10,7 @@ use Rattle.clock_ledger.specs.Span.{IsStamp, stamp_cycle}
 use Rattle.line_reader.specs.declared.incoming.Incoming.{Incoming}
 use Rattle.line_reader.specs.declared.incoming.Incoming.TheVariants.{Plain, TooLong, BadByte}
 use Rattle.fics_words.specs.Pieces.{but_last, last_of}
-use Rattle.line_reader.specs.Reader.{Gives, Reader, lines_of, parts_of, rest_of}
+use Rattle.line_reader.specs.Reader.{GivesLine, Reader, lines_of, parts_of, rest_of}
 use Rattle.line_reader.specs.Reading.{is_stamped, plain_reading, reading, rest_reading, said, stamped_reading}
 use Rattle.session_core.specs.Inputs.{HasStamp}
 use Rattle.stamp_codec.specs.Message.{Message, Text, Ack as Received, is_message, is_printable, is_text}
@@ -53,7 +53,7 @@ head_fits [] line lines e = absurd cc
 head_fits (text ∷ texts) line lines e = subst HasStamp (ap (first_or TooLong) e) (reading_fits text)
 
 -- a line that a reader gives
-pub given_fits : (one other : Reader) (line : Incoming) → Gives one line other → HasStamp line
+pub given_fits : (one other : Reader) (line : Incoming) → GivesLine one line other → HasStamp line
 given_fits one other line gives = head_fits (but_last (parts_of one [])) line (lines_of other []) (gives []).0
 
 some_or : Incoming → Option Incoming → Incoming

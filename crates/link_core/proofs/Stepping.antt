@@ -10,7 +10,7 @@ use Rattle.edge_traits.specs.WhereTold.{WhereTold}
 use Rattle.histories.specs.History.{IsPrefix}
 use Rattle.histories.proofs.Histories.{prefix_more, prefix_refl}
 use Rattle.line_reader.specs.declared.incoming.Incoming.{Incoming}
-use Rattle.line_reader.specs.Reader.{GiveSame, Gives, Reader, fresh, lines_of, rest_of}
+use Rattle.line_reader.specs.Reader.{GiveSame, GivesLine, Reader, fresh, lines_of, rest_of}
 use Rattle.one_server.specs.Running.{IsKnown, Log, Made, RunnerState}
 use Rattle.session_core.specs.declared.input.Input.{Input}
 use Rattle.session_core.specs.declared.input.Input.TheVariants.{Line, Quiet}
@@ -382,14 +382,14 @@ module _ (shows : ℕ → Bool) (start : Stand) where
 
   -- it is the next input
   line_due : (now : Stand) (reader next : Reader) (line : Incoming) (taken : List Sign)
-      → Halfway shows start now taken false (map Line (lines_of reader [])) → Gives reader line next
+      → Halfway shows start now taken false (map Line (lines_of reader [])) → GivesLine reader line next
       → Halfway shows start now taken false (Line line ∷ map Line (lines_of next []))
   line_due now reader next line taken h gives =
       subst (λ (l : List Incoming). Halfway shows start now taken false (map Line l)) (gives []).0 h
 
   -- a line was handed out and answered
   pub progress_line : (now new : Stand) (reader next : Reader) (turns : ℕ) (line : Incoming)
-      → Progress shows start now reader turns → Gives reader line next
+      → Progress shows start now reader turns → GivesLine reader line next
       → AnsweredWhole shows (Line line) now.state now.memory now.link new.state new.memory new.link
       → Progress shows start new next turns
   progress_line now new reader next turns line p gives a = record {
@@ -407,7 +407,7 @@ module _ (shows : ℕ → Bool) (start : Stand) where
 
   -- a line was handed out, and its answer was the last thing
   pub stopped_line : (end : LinkEnd) (now new : Stand) (reader next : Reader) (turns : ℕ) (line : Incoming)
-      → Progress shows start now reader turns → Gives reader line next
+      → Progress shows start now reader turns → GivesLine reader line next
       → AfterAnswer shows (Line line) now.state now.memory now.link new.state new.memory new.link (Err end)
       → Stops shows end start new
   stopped_line end now new reader next turns line p gives a =

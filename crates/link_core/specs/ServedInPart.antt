@@ -11,7 +11,7 @@ use Rattle.session_core.specs.Inputs.{input_course}
 use Rattle.session_core.specs.Memory.{MemoryState, newcomer}
 use Rattle.session_core.specs.Remembering.{Remembers}
 use Rattle.session_core.specs.Session.{leaving_course}
-use Rattle.session_core.specs.Stages.{settled}
+use Rattle.session_core.specs.Stages.{course_settled}
 use Rattle.link_core.specs.declared.link_end.LinkEnd.{LinkEnd}
 use Rattle.link_core.specs.declared.link_end.LinkEnd.TheVariants.{Quit, End, ReadFault, WriteFault, Spent, Memory}
 use Rattle.link_core.specs.ServedWhole.{AnswersFirst, Covers, Dialogue, HasClosed, HasEnded, ServedWhole, TakesFrom}
@@ -67,7 +67,7 @@ pub record QuitsShort (shows : ℕ → Bool) (mark : Bool) (session : ℕ) (inpu
   pub moment : ℕ
   -- such that
   pub come_is : come ≡ inputs ++ next ∷ more
-  pub quits : settled (input_course next memory) ≡ leaving_course there
+  pub quits : course_settled (input_course next memory) ≡ leaving_course there
   pub shown : IsShown shows moment
   pub passes : Passes mark (leaving_course there) session moment made
 

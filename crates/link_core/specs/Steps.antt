@@ -45,7 +45,8 @@ OnFault (Err WriteFault) fact = fact
 OnFault _ fact = Unit {0}
 
 -- the session answered an input, and what it wrote is this
-pub record Answered (shows : ℕ → Bool) (input : Input) (old : RunnerState) (before : MemoryState) (new : RunnerState)
+pub record InputAnswered (shows : ℕ → Bool) (input : Input) (old : RunnerState) (before : MemoryState)
+    (new : RunnerState)
     (after : MemoryState) (piece : List ℕ) : Type 0 where
   pub made : Log
   pub grew : Made old made new
@@ -55,14 +56,14 @@ pub record Answered (shows : ℕ → Bool) (input : Input) (old : RunnerState) (
 pub record AnsweredWhole (shows : ℕ → Bool) (input : Input) (old : RunnerState) (before : MemoryState)
     (link : Option Tale) (new : RunnerState) (after : MemoryState) (link_now : Option Tale) : Type 0 where
   pub piece : List ℕ
-  pub answered : Answered shows input old before new after piece
+  pub answered : InputAnswered shows input old before new after piece
   pub wrote : Written piece link link_now
 
 -- or a prefix of it was
 pub record AnsweredPart (shows : ℕ → Bool) (input : Input) (old : RunnerState) (before : MemoryState)
     (link : Option Tale) (new : RunnerState) (after : MemoryState) (link_now : Option Tale) : Type 0 where
   pub piece : List ℕ
-  pub answered : Answered shows input old before new after piece
+  pub answered : InputAnswered shows input old before new after piece
   pub wrote : WrittenPart piece link link_now
 
 -- the session ran out of memory

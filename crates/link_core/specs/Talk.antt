@@ -4,7 +4,7 @@ use Rattle.clock_ledger.specs.Charges.{last_moment}
 use Rattle.one_server.specs.Running.{Log}
 use Rattle.session_core.specs.declared.input.Input.{Input}
 use Rattle.session_core.specs.Course.{Follows}
-use Rattle.session_core.specs.Inputs.{answer_text, input_course}
+use Rattle.session_core.specs.Inputs.{text_for_input, input_course}
 use Rattle.session_core.specs.Memory.{MemoryState, is_gone}
 
 -- a moment that the clock shows, cut to 2^48 milliseconds
@@ -22,7 +22,7 @@ pub record Answers (shows : ℕ → Bool) (session : ℕ) (input : Input) (befor
   pub here : is_gone before ≡ false
   pub shown : IsShown shows moment
   pub follows : Follows (input_course input before) session moment made text after
-  pub wrote : piece ≡ answer_text input before after text
+  pub wrote : piece ≡ text_for_input input before after text
 
 -- the session answered these inputs in their order: these are its entries, and what it wrote for each of them
 abbrev pub Talks : (ℕ → Bool) → ℕ → List Input → MemoryState → Log → List (List ℕ) → MemoryState → Type 0

@@ -18,16 +18,16 @@ use Rattle.linked_desk.specs.Desk.{GameState}
 use Rattle.linked_desk.specs.Finish.{end_at, with_end}
 use Rattle.linked_desk.specs.Hands.{hands_at, partner_hands_at}
 use Rattle.linked_desk.specs.OfferLaws.{IsCleared}
-use Rattle.linked_desk.specs.Playing.{captured_by, held_moved, moved, moved_by, seat_word, shown_moved, with_cleared, with_hands}
+use Rattle.linked_desk.specs.Playing.{captured_man, held_moved, game_moved, moved_by, seat_word, shown_moved, with_cleared, with_hands}
 use Rattle.linked_desk.specs.Seats.{board_of}
-use Rattle.linked_desk.specs.Views.{views_of, with_item, with_view}
+use Rattle.linked_desk.specs.Views.{views_of, game_with_item, with_view}
 use Rattle.linked_desk.proofs.KeepsMove.{played}
 
 same_with_view : (g : GameState) (view : Option BoardView) → (with_view g view).offers ≡ g.offers
 same_with_view g None = refl
 same_with_view g (Some view) = refl
 
-same_with_item : (g : GameState) (x : Option Item) → (with_item g x).offers ≡ g.offers
+same_with_item : (g : GameState) (x : Option Item) → (game_with_item g x).offers ≡ g.offers
 same_with_item g None = refl
 same_with_item g (Some x) = refl
 
@@ -39,12 +39,12 @@ same_with_end desk g moment (Some e) = refl
 -- a half-move changes no offer beside those that it clears
 same_moved : (desk : ℕ) (g : GameState) (moment : ℕ) (board : BoardNumber) (stamp : Option ℕ)
     (answer : Result Move Refusal)
-    → (moved desk g moment board stamp answer).offers ≡ g.offers
+    → (game_moved desk g moment board stamp answer).offers ≡ g.offers
 same_moved desk g moment board stamp answer =
     let after : GameState = played g moment board stamp answer in
     let shown : GameState = shown_moved desk g moment board stamp answer in
     let held : GameState = held_moved desk g moment board stamp answer in
-    let man : Option Man = captured_by (reply_at (slice_get g.boards (board_place board)) answer) in
+    let man : Option Man = captured_man (reply_at (slice_get g.boards (board_place board)) answer) in
     let own : GameState = with_hands desk board man shown in
     same_with_end desk held moment (end_at held board)
     ∙ same_with_item own (partner_hands_at desk own board man)

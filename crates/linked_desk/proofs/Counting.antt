@@ -11,11 +11,11 @@ use Rattle.style12_writer.specs.declared.view.BoardView.{BoardView}
 use Rattle.fics_words.specs.declared.board_number.BoardNumber.TheVariants.{First}
 use Rattle.linked_desk.specs.Desk.{GameState}
 use Rattle.linked_desk.specs.Hands.{first_hands}
-use Rattle.linked_desk.specs.Offering.{agreed, with_taken}
+use Rattle.linked_desk.specs.Offering.{game_agreed, with_taken}
 use Rattle.linked_desk.specs.Tally.{count_of, is_told_out}
-use Rattle.linked_desk.specs.Views.{views_of, with_board_item, with_item, with_items, with_view}
+use Rattle.linked_desk.specs.Views.{views_of, with_board_item, game_with_item, with_items, with_view}
 
-tally_item : (g : GameState) (x : Option Item) → (with_item g x).tally ≡ g.tally
+tally_item : (g : GameState) (x : Option Item) → (game_with_item g x).tally ≡ g.tally
 tally_item g None = refl
 tally_item g (Some x) = refl
 
@@ -24,7 +24,7 @@ tally_view g None = refl
 tally_view g (Some view) = refl
 
 pub agreed_tally : (desk : ℕ) (g : GameState) (moment seat : ℕ) (offer : Offer)
-    → (agreed desk g moment seat offer).tally ≡ g.tally
+    → (game_agreed desk g moment seat offer).tally ≡ g.tally
 agreed_tally desk g moment seat Draw = refl
 agreed_tally desk g moment seat Abort = refl
 agreed_tally desk g moment seat Adjourn = refl

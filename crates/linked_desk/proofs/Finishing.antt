@@ -10,28 +10,28 @@ use Rattle.fics_words.specs.declared.board_number.BoardNumber.{BoardNumber}
 use Rattle.linked_desk.specs.declared.ended.Ended.{Ended}
 use Rattle.linked_desk.specs.Desk.{GameState, occupant}
 use Rattle.linked_desk.specs.Finish.{end_in, end_on, end_at, with_end, finished}
-use Rattle.linked_desk.specs.Sound.{Names, IsSound}
+use Rattle.linked_desk.specs.Sound.{FitsWhy, IsSoundGame}
 use Rattle.linked_desk.proofs.Keeps.{IsSound-told_end}
 
 -- mate names its winner, and stalemate none
 end_in-names : (board : BoardNumber) (mover : Colour) (state : State)
-    → IfSome (end_in board mover state) (λ e. Names e.why e.winner)
+    → IfSome (end_in board mover state) (λ e. FitsWhy e.why e.winner)
 end_in-names board mover Mate = (λ e. e, λ e. e)
 end_in-names board mover Stalemate = (λ e. e, λ e. e)
 end_in-names board mover Safe = tt
 end_in-names board mover Check = tt
 
 pub end_on-names : (board : BoardNumber) (on : Option Board)
-    → IfSome (option_and_then (end_on board) on) (λ e. Names e.why e.winner)
+    → IfSome (option_and_then (end_on board) on) (λ e. FitsWhy e.why e.winner)
 end_on-names board None = tt
 end_on-names board (Some b) = end_in-names board (to_move b) (result (position_of b))
 
 -- a game whose boards bring this end, or none
 pub IsSound-with_end : (desk : ℕ) (g : GameState) (moment : ℕ) (end : Option Ended)
-    → IfSome end (λ e. Names e.why e.winner) → moment ≤ 2 ^ 48 → g.ended ≡ None →
-    IsSound (record g { ended = end }) → IsSound (with_end desk g moment end)
+    → IfSome end (λ e. FitsWhy e.why e.winner) → moment ≤ 2 ^ 48 → g.ended ≡ None →
+    IsSoundGame (record g { ended = end }) → IsSoundGame (with_end desk g moment end)
 IsSound-with_end desk g moment None names timely runs s =
-    subst (λ (e : Option Ended). IsSound (record g { ended = e })) (sym runs) s
+    subst (λ (e : Option Ended). IsSoundGame (record g { ended = e })) (sym runs) s
 IsSound-with_end desk g moment (Some e) names timely runs s = IsSound-told_end desk g moment e names timely s
 
 occupant-with_end : (desk : ℕ) (g : GameState) (moment : ℕ) (end : Option Ended)

@@ -20,27 +20,27 @@ use Rattle.linked_desk.specs.declared.ended.Ended.{Ended}
 use Rattle.linked_desk.specs.Desk.{GameState, moment_at, occupant}
 use Rattle.linked_desk.specs.Ends.{end_item, end_items, ended_by}
 use Rattle.linked_desk.specs.Seats.{pairs_of}
-use Rattle.linked_desk.specs.Sound.{Names, NamesWinner, IsSound, TellsWinners}
-use Rattle.linked_desk.specs.Views.{each_board, with_view, with_item}
+use Rattle.linked_desk.specs.Sound.{FitsWhy, NamesWinner, IsSoundGame, TellsWinners}
+use Rattle.linked_desk.specs.Views.{each_board, with_view, game_with_item}
 
 -- a game that follows another one: they play in it who did, and under these conditions it is sound where that one is
 pub record Follows (conditions : Type 0) (old new : GameState) : Type 0 where
   pub players : occupant new ≡ occupant old
-  pub sound : conditions → IsSound old → IsSound new
+  pub sound : conditions → IsSoundGame old → IsSoundGame new
 
 -- the game after an act follows the one before, where the moment and the act's numbers fit and no cause of a refusal
 -- holds; the act tells ends with their winners; and it may run out of memory only where it says so
 pub record Keeps (g : GameState) (moment : ℕ) (fits : Type 0) (needs : Bool)
     (effect : Effect GameState DeskReply) : Type 0 where
   pub step : Follows ((moment ≤ 2 ^ 48) × fits × NoneHolds effect.causes) g effect.after
-  pub tells : IsSound g → TellsWinners effect.reply
+  pub tells : IsSoundGame g → TellsWinners effect.reply
   pub memory : effect.memory ≡ needs
 
 -- a game stays sound in which nothing changes but what is told and offered, who looks on, and the moment
 pub IsSound-later : (g : GameState) (feed : List Item) (viewers : List Cursor) (remarks last : ℕ) (offers : OfferBook)
     (tally : List ℕ) →
-    g.last ≤ last → last ≤ 2 ^ 48 → All NamesWinner feed → IsSound g →
-    IsSound
+    g.last ≤ last → last ≤ 2 ^ 48 → All NamesWinner feed → IsSoundGame g →
+    IsSoundGame
     (record g { feed = feed; viewers = viewers; remarks = remarks; last = last; offers = offers; tally = tally })
 IsSound-later g feed viewers remarks last offers tally later moment winners s = record {
   seated = s.seated;
@@ -53,7 +53,7 @@ IsSound-later g feed viewers remarks last offers tally later moment winners s = 
 }
 
 -- an act's moment is no earlier than that of the last act, and no later than the last one that the server knows
-pub timely_at : (g : GameState) (moment : ℕ) → moment ≤ 2 ^ 48 → IsSound g → moment_at g moment ≤ 2 ^ 48
+pub timely_at : (g : GameState) (moment : ℕ) → moment ≤ 2 ^ 48 → IsSoundGame g → moment_at g moment ≤ 2 ^ 48
 timely_at g moment timely s = omega (arith, timely, s.moment)
 
 -- what each board and its players have, the list of them has
@@ -77,13 +77,13 @@ names_by true decisive winner h = h
 names_by false decisive winner h = names_other decisive winner h
 
 -- an end names its winner at each board
-end_item-names : (desk : ℕ) (e : Ended) → Names e.why e.winner → (players : Opponents) (b : Board)
+end_item-names : (desk : ℕ) (e : Ended) → FitsWhy e.why e.winner → (players : Opponents) (b : Board)
     → NamesWinner (end_item desk e players b)
 end_item-names desk e h players b = names_by (b.number == board_number e.board) (is_decisive e.why) e.winner h
 
 -- a game that has ended is sound, whatever stands on its boards
-pub IsSound-over : (g : GameState) (e : Ended) → Names e.why e.winner → IsSound g
-    → IsSound (record g { ended = Some e })
+pub IsSound-over : (g : GameState) (e : Ended) → FitsWhy e.why e.winner → IsSoundGame g
+    → IsSoundGame (record g { ended = Some e })
 IsSound-over g e names s = record {
   seated = s.seated;
   boards = s.boards;
@@ -95,8 +95,8 @@ IsSound-over g e names s = record {
 }
 
 -- so it is once the end is told
-pub IsSound-told_end : (desk : ℕ) (g : GameState) (moment : ℕ) (e : Ended) → Names e.why e.winner → moment ≤ 2 ^ 48 →
-    IsSound (record g { ended = Some e }) → IsSound (ended_by desk g moment e)
+pub IsSound-told_end : (desk : ℕ) (g : GameState) (moment : ℕ) (e : Ended) → FitsWhy e.why e.winner → moment ≤ 2 ^ 48 →
+    IsSoundGame (record g { ended = Some e }) → IsSoundGame (ended_by desk g moment e)
 IsSound-told_end desk g moment e names timely s =
     IsSound-later (record g { ended = Some e }) (g.feed ++ end_items desk g e) g.viewers g.remarks (moment_at g moment)
     g.offers g.tally (omega arith)
@@ -104,9 +104,9 @@ IsSound-told_end desk g moment e names timely s =
     (All-append NamesWinner g.feed (end_items desk g e) s.winners
     (All-each_board NamesWinner (end_item desk e) (pairs_of g.seats) g.boards (end_item-names desk e names))) s
 
-pub IsSound-ended_by : (desk : ℕ) (g : GameState) (moment : ℕ) (e : Ended) → Names e.why e.winner → moment ≤ 2 ^ 48
-    → IsSound g →
-    IsSound (ended_by desk g moment e)
+pub IsSound-ended_by : (desk : ℕ) (g : GameState) (moment : ℕ) (e : Ended) → FitsWhy e.why e.winner → moment ≤ 2 ^ 48
+    → IsSoundGame g →
+    IsSoundGame (ended_by desk g moment e)
 IsSound-ended_by desk g moment e names timely s =
     IsSound-told_end desk g moment e names timely (IsSound-over g e names s)
 
@@ -135,7 +135,8 @@ module _ {conditions : Type 0} where
   either false h k = k
 
   -- one item more that, if it is an end, names its winner
-  pub item_follows : (g : GameState) (x : Option Item) → IfSome x NamesWinner → Follows conditions g (with_item g x)
+  pub item_follows : (g : GameState) (x : Option Item) → IfSome x NamesWinner
+      → Follows conditions g (game_with_item g x)
   item_follows g None names = stays
   item_follows g (Some x) names = record {
     players = refl;
@@ -150,7 +151,7 @@ module _ {conditions : Type 0} where
 
 module _ {conditions : Type 0} (g : GameState) (moment : ℕ) (timely : conditions → moment ≤ 2 ^ 48) where
   -- the game ends
-  pub ended_follows : (desk : ℕ) (e : Ended) → Names e.why e.winner → Follows conditions g (ended_by desk g moment e)
+  pub ended_follows : (desk : ℕ) (e : Ended) → FitsWhy e.why e.winner → Follows conditions g (ended_by desk g moment e)
   ended_follows desk e names =
       record { players = refl; sound = λ c s. IsSound-ended_by desk g moment e names (timely c) s }
 

@@ -11,7 +11,7 @@ use Rattle.desk_boards.specs.Boards.{latest, boards_acked}
 use Rattle.fics_words.specs.declared.board_number.BoardNumber.{BoardNumber}
 use Rattle.linked_desk.specs.Desk.{GameState, seat_of, moment_at}
 use Rattle.linked_desk.specs.Seats.{board_of, colour_at}
-use Rattle.linked_desk.specs.Sound.{IsSound}
+use Rattle.linked_desk.specs.Sound.{IsSoundGame}
 use Rattle.desk_boards.proofs.BoardLists.{latest-changed_at}
 use Rattle.linked_desk.proofs.Keeps.{Keeps, IsSound-later, timely_at}
 use Rattle.desk_boards.proofs.StaySound.{sound_acked, same_acknowledged}
@@ -21,14 +21,15 @@ use Rattle.desk_boards.proofs.GoingOn.{go_acked}
 abbrev with_boards : GameState → ℕ → List Board → GameState
 with_boards g moment boards = record g { boards = boards; last = moment_at g moment }
 
-IsSound-same : (g : GameState) (moment : ℕ) → moment ≤ 2 ^ 48 → IsSound g → IsSound (with_boards g moment g.boards)
+IsSound-same : (g : GameState) (moment : ℕ) → moment ≤ 2 ^ 48 → IsSoundGame g
+    → IsSoundGame (with_boards g moment g.boards)
 IsSound-same g moment timely s =
     IsSound-later g g.feed g.viewers g.remarks (moment_at g moment) g.offers g.tally (omega arith)
     (timely_at g moment timely s) s.winners s
 
 IsSound-acked : (g : GameState) (moment : ℕ) (board : BoardNumber) (colour : Colour) (stamp : ℕ) → IsStamp stamp
-    → moment ≤ 2 ^ 48 → IsSound g →
-    IsSound (with_boards g moment (boards_acked g.boards board colour stamp))
+    → moment ≤ 2 ^ 48 → IsSoundGame g →
+    IsSoundGame (with_boards g moment (boards_acked g.boards board colour stamp))
 IsSound-acked g moment board colour stamp stamped timely s =
     let after : Board → Board = λ b. acknowledged b colour stamp in
     let early : latest g.boards ≤ moment_at g moment = omega (arith, s.order) in
@@ -48,14 +49,14 @@ IsSound-acked g moment board colour stamp stamped timely s =
     }
 
 sound_either : (over : Bool) (g : GameState) (moment : ℕ) (boards : List Board)
-    → IsSound (with_boards g moment g.boards) → IsSound (with_boards g moment boards) →
-    IsSound (with_boards g moment (if over then g.boards else boards))
+    → IsSoundGame (with_boards g moment g.boards) → IsSoundGame (with_boards g moment boards) →
+    IsSoundGame (with_boards g moment (if over then g.boards else boards))
 sound_either true g moment boards s t = s
 sound_either false g moment boards s t = t
 
 sound_acked_by : (g : GameState) (moment : ℕ) (seat : Option ℕ) (stamp : ℕ) → moment ≤ 2 ^ 48 → IsStamp stamp
-    → IsSound g →
-    IsSound (with_boards g moment (acked_by g seat stamp))
+    → IsSoundGame g →
+    IsSoundGame (with_boards g moment (acked_by g seat stamp))
 sound_acked_by g moment None stamp timely stamped s = IsSound-same g moment timely s
 sound_acked_by g moment (Some seat) stamp timely stamped s =
     sound_either (is_some g.ended) g moment (boards_acked g.boards (board_of seat) (colour_at seat) stamp)

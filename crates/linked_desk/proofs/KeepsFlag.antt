@@ -6,11 +6,11 @@ use Rattle.fics_words.specs.declared.board_number.BoardNumber.{BoardNumber}
 use Rattle.linked_desk.specs.Desk.{GameState, seat_of}
 use Rattle.linked_desk.specs.Flag.{seat_flag, flag_end, flagged, flagged_by, flag_effect}
 use Rattle.linked_desk.specs.Seats.{board_of}
-use Rattle.linked_desk.specs.Sound.{Names}
+use Rattle.linked_desk.specs.Sound.{FitsWhy}
 use Rattle.linked_desk.proofs.Keeps.{Follows, Keeps, ended_follows, if_there, stays}
 
 flag_names : (board : BoardNumber) (winner : Option Colour)
-    → Names (flag_end board winner).why (flag_end board winner).winner
+    → FitsWhy (flag_end board winner).why (flag_end board winner).winner
 flag_names board None = (λ e. e, λ e. e)
 flag_names board (Some c) = (λ e. e, λ e. e)
 

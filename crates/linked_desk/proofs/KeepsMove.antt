@@ -23,9 +23,9 @@ use Rattle.linked_desk.specs.declared.ended.Ended.{Ended}
 use Rattle.linked_desk.specs.Desk.{GameState, seat_of, moment_at}
 use Rattle.linked_desk.specs.Finish.{end_at, finished}
 use Rattle.linked_desk.specs.Hands.{hands_at, partner_hands_at}
-use Rattle.linked_desk.specs.Playing.{seat_word, captured_by, moved, with_cleared, moved_by, move_effect}
+use Rattle.linked_desk.specs.Playing.{seat_word, captured_man, game_moved, with_cleared, moved_by, move_effect}
 use Rattle.linked_desk.specs.Seats.{board_of, colour_at}
-use Rattle.linked_desk.specs.Sound.{IsSound, Names, NamesWinner}
+use Rattle.linked_desk.specs.Sound.{IsSoundGame, FitsWhy, NamesWinner}
 use Rattle.desk_boards.specs.Sound.{GoOn}
 use Rattle.linked_desk.specs.Views.{feed_with, views_of}
 use Rattle.linked_desk.proofs.Finishing.{IsSound-with_end, end_on-names, goes_on_at, occupant-finished}
@@ -64,10 +64,10 @@ order_played g moment board stamp answer order =
 -- the game once a seat's word was played, which goes on or has this end
 IsSound-played : (g : GameState) (moment seat : ℕ) (word : MoveWord) (stamp : Option ℕ) (end : Option Ended)
     → moment ≤ 2 ^ 48 → IfSome stamp IsStamp → g.ended ≡ None →
-    IfSome end (λ e. Names e.why e.winner) →
+    IfSome end (λ e. FitsWhy e.why e.winner) →
     (end ≡ None → GoOn (boards_after g.boards (board_of seat) (moment_at g moment) stamp (seat_word g seat word)))
-    → IsSound g →
-    IsSound (record (played g moment (board_of seat) stamp (seat_word g seat word)) { ended = end })
+    → IsSoundGame g →
+    IsSoundGame (record (played g moment (board_of seat) stamp (seat_word g seat word)) { ended = end })
 IsSound-played g moment seat word stamp end timely stamped runs names going s = record {
   seated = s.seated;
   boards =
@@ -104,8 +104,8 @@ names_told desk g board man names =
 
 -- a game that is told goes on or has its end as before
 IsSound-told_of : (desk : ℕ) (g : GameState) (board : BoardNumber) (man : Option Man) (end : Option Ended)
-    → IsSound (record g { ended = end }) →
-    IsSound (record (told_of desk g board man) { ended = end })
+    → IsSoundGame (record g { ended = end }) →
+    IsSoundGame (record (told_of desk g board man) { ended = end })
 IsSound-told_of desk g board man end s =
     IsSound-later (record g { ended = end }) (told_of desk g board man).feed g.viewers g.remarks g.last g.offers g.tally
     (omega arith) s.moment
@@ -114,10 +114,10 @@ IsSound-told_of desk g board man end s =
 -- the man that a seat's word captures, if it does
 abbrev captured_of : GameState → ℕ → MoveWord → Option Man
 captured_of g seat word =
-    captured_by (reply_at (slice_get g.boards (board_place (board_of seat))) (seat_word g seat word))
+    captured_man (reply_at (slice_get g.boards (board_place (board_of seat))) (seat_word g seat word))
 
 -- what is offered has no part in it
-IsSound-with_cleared : (seat : ℕ) (g : GameState) → IsSound g → IsSound (with_cleared seat g)
+IsSound-with_cleared : (seat : ℕ) (g : GameState) → IsSoundGame g → IsSoundGame (with_cleared seat g)
 IsSound-with_cleared seat g s =
     IsSound-later g g.feed g.viewers g.remarks g.last (where_stand (after_half_move seat g.offers.standing) g.offers)
     g.tally (omega arith) s.moment s.winners s
@@ -125,14 +125,14 @@ IsSound-with_cleared seat g s =
 moved_follows : {conditions : Type 0} (desk : ℕ) (g : GameState) (moment seat : ℕ) (word : MoveWord) (stamp : Option ℕ)
     → (conditions → moment ≤ 2 ^ 48) →
     (conditions → IfSome stamp IsStamp) → (conditions → g.ended ≡ None)
-    → Follows conditions g (moved desk g moment (board_of seat) stamp (seat_word g seat word))
+    → Follows conditions g (game_moved desk g moment (board_of seat) stamp (seat_word g seat word))
 moved_follows {conditions = conditions} desk g moment seat word stamp timely stamped runs =
     let board : BoardNumber = board_of seat in
     let after : GameState = played g moment board stamp (seat_word g seat word) in
     let man : Option Man = captured_of g seat word in
     let told : GameState = told_of desk after board man in
     let end : Option Ended = end_at after board in
-    let names : IfSome end (λ e. Names e.why e.winner) =
+    let names : IfSome end (λ e. FitsWhy e.why e.winner) =
     end_on-names board (slice_get after.boards (board_place board)) in
     subst (λ (h : GameState). Follows conditions g (finished desk h moment board))
     (sym (with_hands-told desk after board man))

@@ -8,7 +8,7 @@ use Rattle.chess_model.specs.declared.why.Why.TheVariants as why
 use Rattle.fics_words.specs.declared.player.Player.{Player}
 use Rattle.fics_words.specs.Seats.{seat_list}
 use Rattle.game_board.specs.Board.{Board}
-use Rattle.game_board.specs.TakeBack.{has_too_few, taken_back}
+use Rattle.game_board.specs.TakeBack.{has_too_few, board_taken_back}
 use Rattle.offer_book.specs.declared.offer.Offer.{Offer}
 use Rattle.offer_book.specs.declared.offer.Offer.TheVariants.{Draw, Abort, Adjourn, Takeback}
 use Rattle.offer_book.specs.Offers.{OfferBook}
@@ -20,9 +20,9 @@ use Rattle.desk_boards.specs.Boards.{latest}
 use Rattle.linked_desk.specs.Desk.{GameState, moment_at}
 use Rattle.linked_desk.specs.Hands.{first_hands}
 use Rattle.desk_boards.specs.TakenBack.{back_by}
-use Rattle.linked_desk.specs.Offering.{agreed, decline_item, end_without_winner, offer_item, offer_text, told, with_count, with_taken}
+use Rattle.linked_desk.specs.Offering.{game_agreed, decline_item, end_without_winner, offer_item, offer_text, offers_told, with_count, with_taken}
 use Rattle.linked_desk.specs.Offering as offering
-use Rattle.linked_desk.specs.Sound.{IsSound, NamesWinner}
+use Rattle.linked_desk.specs.Sound.{IsSoundGame, NamesWinner}
 use Rattle.linked_desk.specs.Tally.{counted}
 use Rattle.linked_desk.specs.Views.{views_of, with_board_item, with_items}
 use Rattle.desk_boards.proofs.BoardLists.{latest-changed_at}
@@ -48,13 +48,15 @@ begin_either true b new moment h k = h
 begin_either false b new moment h k = k
 
 begin_back : (v : Variant) (b : Board) (n moment : ℕ) → b.begin ≤ moment → (back_by v b n moment).begin ≤ moment
-begin_back Chess b n moment h = begin_either (has_too_few b n) b (taken_back b n moment) moment h (omega arith)
-begin_back Crazyhouse b n moment h = begin_either (has_too_few b n) b (taken_back b n moment) moment h (omega arith)
+begin_back Chess b n moment h = begin_either (has_too_few b n) b (board_taken_back b n moment) moment h (omega arith)
+begin_back Crazyhouse b n moment h =
+    begin_either (has_too_few b n) b (board_taken_back b n moment) moment h (omega arith)
 begin_back (Fischer number) b n moment h =
-    begin_either (has_too_few b n) b (taken_back b n moment) moment h (omega arith)
+    begin_either (has_too_few b n) b (board_taken_back b n moment) moment h (omega arith)
 begin_back Bughouse b n moment h = h
 
-IsSound-with_taken : (g : GameState) (moment n : ℕ) → moment ≤ 2 ^ 48 → IsSound g → IsSound (with_taken g moment n)
+IsSound-with_taken : (g : GameState) (moment n : ℕ) → moment ≤ 2 ^ 48 → IsSoundGame g
+    → IsSoundGame (with_taken g moment n)
 IsSound-with_taken g moment n timely s =
     let after : Board → Board = λ b. back_by b.terms.variant b n (moment_at g moment) in
     let early : latest g.boards ≤ moment_at g moment = omega (arith, s.order) in
@@ -86,10 +88,11 @@ module _ {conditions : Type 0} (moment : ℕ) (timely : conditions → moment �
   }
 
   pub told_follows : (g : GameState) (offers : OfferBook) (seat : ℕ) (x : Option Item) → IfSome x NamesWinner
-      → Follows conditions g (told offers seat moment x g)
+      → Follows conditions g (offers_told offers seat moment x g)
   told_follows g offers seat x names = and_then (offers_follow g offers (counted g.tally seat)) (item_follows _ x names)
 
-  taken_back_follows : (desk : ℕ) (g : GameState) (n : ℕ) → Follows conditions g (offering.taken_back desk g moment n)
+  taken_back_follows : (desk : ℕ) (g : GameState) (n : ℕ)
+      → Follows conditions g (offering.moves_taken_back desk g moment n)
   taken_back_follows desk g n =
       let taken : GameState = with_taken g moment n in
       let line : GameState = with_items taken (item.Talk (taken_text n) ∷ []) in
@@ -103,7 +106,7 @@ module _ {conditions : Type 0} (moment : ℕ) (timely : conditions → moment �
       (names_hands desk (slice_get shown.boards 0)))))
 
   pub agreed_follows : (desk : ℕ) (g : GameState) (seat : ℕ) (offer : Offer)
-      → Follows conditions g (agreed desk g moment seat offer)
+      → Follows conditions g (game_agreed desk g moment seat offer)
   agreed_follows desk g seat Draw =
       ended_follows g moment timely desk (end_without_winner seat why.Agreed) (λ e. e, λ e. e)
   agreed_follows desk g seat Abort =

@@ -16,9 +16,9 @@ use Rattle.linked_desk.specs.declared.ended.Ended.{Ended}
 use Rattle.linked_desk.specs.declared.occasion.Occasion.TheVariants.{Resumption}
 use Rattle.linked_desk.specs.Desk.{DeskState, GameState, occupant, occupant_of}
 use Rattle.linked_desk.specs.Finish.{end_at}
-use Rattle.linked_desk.specs.Restore.{finished_at, restored, resumed}
-use Rattle.linked_desk.specs.Seating.{AllDiffer, HasPairsFor, MayPlay, begun, names_of}
-use Rattle.linked_desk.specs.Sound.{HasSoundGame, IsSound, Names}
+use Rattle.linked_desk.specs.Restore.{finished_at, restored, game_resumed}
+use Rattle.linked_desk.specs.Seating.{AllDiffer, HasPairsFor, MayPlay, game_begun, names_of}
+use Rattle.linked_desk.specs.Sound.{HasSoundGame, IsSoundGame, FitsWhy}
 use Rattle.linked_desk.proofs.Finishing.{IsSound-with_end, end_on-names, goes_on_at, occupant-finished}
 use Rattle.linked_desk.proofs.KeepsStart.{IsSound-begun}
 use Rattle.linked_desk.proofs.Restored.{order_replayed}
@@ -51,15 +51,16 @@ module _ (desk serial : ℕ) (g : StoredGame) (seats : Seats) (moment : ℕ) (bo
     (may : MayPlay g.terms seats) (sound : AreSoundBoards g.terms boards)
     (order : latest boards ≤ moment) (timely : moment ≤ 2 ^ 48) where
   abbrev start : GameState
-  start = begun Resumption desk serial g.terms seats boards moment
+  start = game_begun Resumption desk serial g.terms seats boards moment
 
   sound_finished_at : (board : Option BoardNumber) → (GoesOnAt boards board → GoOn boards)
-      → IsSound (finished_at desk start moment board)
+      → IsSoundGame (finished_at desk start moment board)
   sound_finished_at None go =
       IsSound-begun Resumption desk serial g.terms seats boards moment None may sound order timely tt (λ runs. go tt)
   sound_finished_at (Some board) go =
       let end : Option Ended = end_at start board in
-      let names : IfSome end (λ e. Names e.why e.winner) = end_on-names board (slice_get boards (board_place board)) in
+      let names : IfSome end (λ e. FitsWhy e.why e.winner) =
+      end_on-names board (slice_get boards (board_place board)) in
       IsSound-with_end desk start moment end names timely refl
       (IsSound-begun Resumption desk serial g.terms seats boards moment end may sound order timely names
       (λ none. go (goes_on_at board (slice_get boards (board_place board)) none)))
@@ -67,7 +68,7 @@ module _ (desk serial : ℕ) (g : StoredGame) (seats : Seats) (moment : ℕ) (bo
 pub IsSound-resumed : (desk serial : ℕ) (g : StoredGame) (seats : Seats) (moment : ℕ) (boards : List Board) → Replays g
     → HasPairsFor g.terms seats → AllDiffer (names_of seats) →
     moment ≤ 2 ^ 48 → replayed g.terms g.halves moment ≡ Some boards
-    → IsSound (resumed desk serial g seats moment boards)
+    → IsSoundGame (game_resumed desk serial g seats moment boards)
 IsSound-resumed desk serial g seats moment boards r pairs names timely is =
     sound_finished_at desk serial g seats moment boards (may_play g seats r pairs names)
     (replayed_at g.terms g.halves moment boards r.spelled.halves.each is).sound (order_replayed g moment boards r is)
@@ -77,7 +78,8 @@ IsSound-resumed desk serial g seats moment boards r pairs names timely is =
 -- the desk with a game at these boards, if there are any
 abbrev with_boards : DeskState → ℕ → StoredGame → Seats → ℕ → Option (List Board) → Option DeskState
 with_boards d serial g seats moment found =
-    option_map (λ (boards : List Board). record d { game = Some (resumed d.number serial g seats moment boards) }) found
+    option_map (λ (boards : List Board). record d { game = Some (game_resumed d.number serial g seats moment boards) })
+    found
 
 sound_if : (d : DeskState) (serial : ℕ) (g : StoredGame) (seats : Seats) (moment : ℕ) (found : Option (List Board))
     → replayed g.terms g.halves moment ≡ found →
@@ -105,7 +107,7 @@ players_if : (d : DeskState) (serial : ℕ) (g : StoredGame) (seats : Seats) (mo
 players_if d serial g seats moment None = tt
 players_if d serial g seats moment (Some boards) =
     ap Some
-    (occupant-finished_at d.number (begun Resumption d.number serial g.terms seats boards moment) moment
+    (occupant-finished_at d.number (game_begun Resumption d.number serial g.terms seats boards moment) moment
     (last_board g.halves))
 
 pub players_restored : (d : DeskState) (serial : ℕ) (g : StoredGame) (seats : Seats) (moment : ℕ) →

@@ -12,9 +12,9 @@ use Rattle.linked_desk.specs.declared.ended.Ended.{Ended}
 use Rattle.linked_desk.specs.declared.occasion.Occasion.{Occasion}
 use Rattle.linked_desk.specs.declared.occasion.Occasion.TheVariants.{Start}
 use Rattle.linked_desk.specs.Hands.{first_hands}
-use Rattle.linked_desk.specs.Seating.{MayPlay, announced_board, begun, board_item, first_items, opening_items, opened}
+use Rattle.linked_desk.specs.Seating.{MayPlay, announced_board, game_begun, board_item, first_items, opening_items, game_opened}
 use Rattle.linked_desk.specs.Seats.{pairs_of}
-use Rattle.linked_desk.specs.Sound.{IsSound, Names, NamesWinner}
+use Rattle.linked_desk.specs.Sound.{IsSoundGame, FitsWhy, NamesWinner}
 use Rattle.desk_boards.specs.Sound.{AreSoundBoards, GoOn}
 use Rattle.linked_desk.specs.Views.{each_board}
 use Rattle.linked_desk.proofs.Holding.{names_first}
@@ -54,8 +54,9 @@ names_opening occasion desk terms pairs boards =
 pub IsSound-begun : (occasion : Occasion) (desk serial : ℕ) (terms : Terms) (seats : Seats) (boards : List Board)
     (moment : ℕ) (end : Option Ended)
     → MayPlay terms seats →
-    AreSoundBoards terms boards → latest boards ≤ moment → moment ≤ 2 ^ 48 → IfSome end (λ e. Names e.why e.winner) →
-    (end ≡ None → GoOn boards) → IsSound (record (begun occasion desk serial terms seats boards moment) { ended = end })
+    AreSoundBoards terms boards → latest boards ≤ moment → moment ≤ 2 ^ 48 → IfSome end (λ e. FitsWhy e.why e.winner) →
+    (end ≡ None → GoOn boards)
+    → IsSoundGame (record (game_begun occasion desk serial terms seats boards moment) { ended = end })
 IsSound-begun occasion desk serial terms seats boards moment end seated sound order timely names going = record {
   seated = seated;
   boards = sound;
@@ -72,7 +73,7 @@ latest_from [] terms moment = omega arith
 latest_from (n ∷ ns) terms moment = let rest = latest_from ns terms moment in omega arith
 
 pub IsSound-opened : (desk serial : ℕ) (terms : Terms) (seats : Seats) (moment : ℕ) → MayPlay terms seats
-    → moment ≤ 2 ^ 48 → IsSound (opened desk serial terms seats moment)
+    → moment ≤ 2 ^ 48 → IsSoundGame (game_opened desk serial terms seats moment)
 IsSound-opened desk serial terms seats moment seated timely =
     IsSound-begun Start desk serial terms seats (new_boards terms moment) moment None seated (sound_start terms moment)
     (latest_from (board_numbers terms.variant) terms moment) timely tt (λ runs. go_start terms moment)

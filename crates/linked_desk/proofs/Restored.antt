@@ -5,15 +5,15 @@ use Rattle.game_board.specs.Board.{Board}
 use Rattle.game_records.specs.declared.stored_game.StoredGame.{StoredGame}
 use Rattle.game_records.specs.Replays.{Replays}
 use Rattle.desk_boards.specs.Boards.{board_numbers, latest}
-use Rattle.desk_boards.specs.Laws.{IsFresh}
+use Rattle.desk_boards.specs.Laws.{IsFreshlyPut}
 use Rattle.desk_boards.specs.Replaying.{replayed}
 use Rattle.desk_boards.proofs.Replayed.{replayed_at, replayed_fresh}
 
-latest_at : (boards : List Board) (moment : ℕ) → All (IsFresh moment) boards → latest boards ≤ moment
+latest_at : (boards : List Board) (moment : ℕ) → All (IsFreshlyPut moment) boards → latest boards ≤ moment
 latest_at [] moment all = omega arith
 latest_at (b ∷ boards) moment all =
-    let here = All-head (IsFresh moment) b boards all in
-    let rest = latest_at boards moment (All-tail (IsFresh moment) b boards all) in
+    let here = All-head (IsFreshlyPut moment) b boards all in
+    let rest = latest_at boards moment (All-tail (IsFreshlyPut moment) b boards all) in
     omega (arith, here.begin, rest)
 
 pub order_replayed : (g : StoredGame) (moment : ℕ) (boards : List Board) → Replays g

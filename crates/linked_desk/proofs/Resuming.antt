@@ -16,7 +16,7 @@ use Rattle.game_records.specs.Replays.{Replays, half_moves}
 use Rattle.desk_boards.specs.Boards.{board_numbers}
 use Rattle.fics_words.specs.declared.board_number.BoardNumber.{BoardNumber}
 use Rattle.desk_boards.specs.Halves.{halves_of, last_board, list_on}
-use Rattle.desk_boards.specs.Laws.{IsFresh}
+use Rattle.desk_boards.specs.Laws.{IsFreshlyPut}
 use Rattle.desk_boards.specs.Replaying.{replayed}
 use Rattle.desk_boards.specs.Sound.{AreSoundBoards}
 use Rattle.desk_boards.proofs.BoardLists.{All-at}
@@ -26,11 +26,11 @@ use Rattle.linked_desk.specs.declared.ended.Ended.{Ended}
 use Rattle.linked_desk.specs.declared.occasion.Occasion.TheVariants.{Resumption}
 use Rattle.linked_desk.specs.Desk.{DeskState, GameState}
 use Rattle.linked_desk.specs.Finish.{end_at, with_end}
-use Rattle.linked_desk.specs.Restore.{finished_at, restored, resumed}
-use Rattle.linked_desk.specs.Seating.{begun, uncoloured}
+use Rattle.linked_desk.specs.Restore.{finished_at, restored, game_resumed}
+use Rattle.linked_desk.specs.Seating.{game_begun, uncoloured}
 use Rattle.linked_desk.specs.ShelfLaws.{Gets, GoesOnFrom, IsAsBefore, IsOnAgain, ResumingRestores}
-use Rattle.linked_desk.specs.Shelve.{names_in, shelved}
-use Rattle.linked_desk.specs.Sound.{IsSound}
+use Rattle.linked_desk.specs.Shelve.{names_seated, stored_of}
+use Rattle.linked_desk.specs.Sound.{IsSoundGame}
 use Rattle.linked_desk.proofs.Shelved.{shelved_replays}
 use Rattle.desk_boards.proofs.Replayed.{replayed_at, replayed_exactly, replayed_fresh, some_is}
 use Rattle.std.proofs.lemmas.Option.{same_Some}
@@ -59,42 +59,42 @@ found g moment r =
 module _ (d : DeskState) (serial : ℕ) (g : StoredGame) (seats : Seats) (moment : ℕ) (boards : List Board)
     (is : replayed g.terms g.halves moment ≡ Some boards) where
   abbrev now : GameState
-  now = resumed d.number serial g seats moment boards
+  now = game_resumed d.number serial g seats moment boards
 
   boards-now : now.boards ≡ boards
   boards-now =
       same-finished_at (λ (h : GameState). h.boards) d.number
-      (begun Resumption d.number serial g.terms seats boards moment) moment (last_board g.halves) (λ e. refl)
+      (game_begun Resumption d.number serial g.terms seats boards moment) moment (last_board g.halves) (λ e. refl)
 
   terms-now : now.terms ≡ g.terms
   terms-now =
       same-finished_at (λ (h : GameState). h.terms) d.number
-      (begun Resumption d.number serial g.terms seats boards moment) moment (last_board g.halves) (λ e. refl)
+      (game_begun Resumption d.number serial g.terms seats boards moment) moment (last_board g.halves) (λ e. refl)
 
   seats-now : now.seats ≡ seats
   seats-now =
       same-finished_at (λ (h : GameState). h.seats) d.number
-      (begun Resumption d.number serial g.terms seats boards moment) moment (last_board g.halves) (λ e. refl)
+      (game_begun Resumption d.number serial g.terms seats boards moment) moment (last_board g.halves) (λ e. refl)
 
   gets : (P : GameState → Type 0) → P now → Gets (restored d serial g seats moment) P
   gets P p = (
     record d { game = Some now },
-    ap (option_map (λ (bs : List Board). record d { game = Some (resumed d.number serial g seats moment bs) })) is,
+    ap (option_map (λ (bs : List Board). record d { game = Some (game_resumed d.number serial g seats moment bs) })) is,
     (now, refl, p),
   )
 
-  on_again : Replays g → names_in seats ≡ g.names → IsOnAgain g moment now
+  on_again : Replays g → names_seated seats ≡ g.names → IsOnAgain g moment now
   on_again r names = record {
     terms = terms-now;
-    names = ap names_in seats-now ∙ names;
+    names = ap names_seated seats-now ∙ names;
     halves = ap halves_of boards-now ∙ (replayed_at g.terms g.halves moment boards r.spelled.halves.each is).made;
     begin = subst (All (λ (b : Board). b.begin ≡ moment)) (sym boards-now)
-        (All-weaker (IsFresh moment) (λ (b : Board). b.begin ≡ moment) (λ b fresh. fresh.begin) boards
+        (All-weaker (IsFreshlyPut moment) (λ (b : Board). b.begin ≡ moment) (λ b fresh. fresh.begin) boards
         (replayed_fresh g.terms g.halves moment boards r.spelled.halves.each is));
   }
 
 stored : (d : DeskState) (serial : ℕ) (g : StoredGame) (seats : Seats) (moment : ℕ) → Replays g
-    → names_in seats ≡ g.names →
+    → names_seated seats ≡ g.names →
     Gets (restored d serial g seats moment) (IsOnAgain g moment)
 stored d serial g seats moment r names =
     let boards = found g moment r in
@@ -141,22 +141,22 @@ as_before t before now place b c s n halves here there =
 as_many : (t : Terms) (boards : List Board) → AreSoundBoards t boards → length boards ≡ length (board_numbers t.variant)
 as_many t boards s = sym (length-map boards (λ (b : Board). b.number)) ∙ ap length s.numbers
 
-kept : (d : DeskState) (serial : ℕ) (g : GameState) (seats : Seats) (moment : ℕ) → IsSound g
-    → names_in seats ≡ names_in g.seats →
-    Gets (restored d serial (shelved g) seats moment) (GoesOnFrom g)
+kept : (d : DeskState) (serial : ℕ) (g : GameState) (seats : Seats) (moment : ℕ) → IsSoundGame g
+    → names_seated seats ≡ names_seated g.seats →
+    Gets (restored d serial (stored_of g) seats moment) (GoesOnFrom g)
 kept d serial g seats moment s names =
-    let r : Replays (shelved g) = shelved_replays g s in
-    let there = found (shelved g) moment r in
+    let r : Replays (stored_of g) = shelved_replays g s in
+    let there = found (stored_of g) moment r in
     let boards : List Board = there.0 in
     let sound : AreSoundBoards (uncoloured g.terms) boards =
     (replayed_at (uncoloured g.terms) (halves_of g.boards) moment boards r.spelled.halves.each there.1).sound in
     let halves : halves_of boards ≡ halves_of g.boards =
     (replayed_at (uncoloured g.terms) (halves_of g.boards) moment boards r.spelled.halves.each there.1).made in
-    let same = boards-now d serial (shelved g) seats moment boards there.1 in
-    gets d serial (shelved g) seats moment boards there.1 (GoesOnFrom g)
+    let same = boards-now d serial (stored_of g) seats moment boards there.1 in
+    gets d serial (stored_of g) seats moment boards there.1 (GoesOnFrom g)
     (record {
-      terms = terms-now d serial (shelved g) seats moment boards there.1;
-      names = ap names_in (seats-now d serial (shelved g) seats moment boards there.1) ∙ names;
+      terms = terms-now d serial (stored_of g) seats moment boards there.1;
+      names = ap names_seated (seats-now d serial (stored_of g) seats moment boards there.1) ∙ names;
       many = ap length same ∙ as_many (uncoloured g.terms) boards sound ∙ sym (as_many g.terms g.boards s.boards);
       boards = λ place b c here at.
           as_before g.terms g.boards boards place b c s.boards sound halves here

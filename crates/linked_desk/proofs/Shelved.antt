@@ -17,8 +17,8 @@ use Rattle.desk_boards.specs.Boards.{board_numbers}
 use Rattle.desk_boards.specs.Halves.{halves_of}
 use Rattle.linked_desk.specs.Desk.{GameState}
 use Rattle.linked_desk.specs.Seating.{AllDiffer, NoneIs, uncoloured}
-use Rattle.linked_desk.specs.Shelve.{names_in, shelved}
-use Rattle.linked_desk.specs.Sound.{IsSound}
+use Rattle.linked_desk.specs.Shelve.{names_seated, stored_of}
+use Rattle.linked_desk.specs.Sound.{IsSoundGame}
 use Rattle.desk_boards.proofs.SoundHalves.{bounds_of}
 use Rattle.std.proofs.lemmas.Bool.{false_from_ne_true}
 
@@ -69,13 +69,13 @@ without_colour t halves played = record {
       };
 }
 
-pub shelved_replays : (g : GameState) → IsSound g → Replays (shelved g)
+pub shelved_replays : (g : GameState) → IsSoundGame g → Replays (stored_of g)
 shelved_replays g s = record {
   spelled = record {
     terms = s.seated.fit;
     players = length-map (seat_list g.seats) (λ (p : Player). p.name) ∙ s.seated.pairs ∙ as_many g.terms.variant;
     halves = bounds_of g.terms g.boards s.boards;
   };
-  players = four g.terms.variant (names_in g.seats) (subst AllDiffer (keys_in (seat_list g.seats)) s.seated.names);
+  players = four g.terms.variant (names_seated g.seats) (subst AllDiffer (keys_in (seat_list g.seats)) s.seated.names);
   played = without_colour g.terms (halves_of g.boards) s.boards.played;
 }

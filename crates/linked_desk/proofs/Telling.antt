@@ -13,10 +13,10 @@ use Rattle.fics_words.specs.declared.board_number.BoardNumber.{BoardNumber}
 use Rattle.linked_desk.specs.Desk.{GameState, moment_at}
 use Rattle.linked_desk.specs.Finish.{finished}
 use Rattle.linked_desk.specs.Hands.{hands_at, partner_hands_at}
-use Rattle.linked_desk.specs.Playing.{captured_by, moved, with_hands, with_partner_hands}
-use Rattle.linked_desk.specs.Views.{feed_with, views_of, with_board_item, with_item, with_view}
+use Rattle.linked_desk.specs.Playing.{captured_man, game_moved, with_hands, with_partner_hands}
+use Rattle.linked_desk.specs.Views.{feed_with, views_of, with_board_item, game_with_item, with_view}
 
-with_item-feed : (g : GameState) (x : Option Item) → with_item g x ≡ record g { feed = feed_with g.feed x }
+with_item-feed : (g : GameState) (x : Option Item) → game_with_item g x ≡ record g { feed = feed_with g.feed x }
 with_item-feed g None = refl
 with_item-feed g (Some x) = refl
 
@@ -52,12 +52,12 @@ pub finished-moved : (desk : ℕ) (g base told new : GameState) (moment : ℕ) (
     new ≡ finished desk told moment at → told ≡ told_of desk base at man →
     base
     ≡ record g { boards = boards_after g.boards board (moment_at g moment) stamp answer; last = moment_at g moment } →
-    man ≡ captured_by (reply_at (slice_get g.boards (board_place board)) answer) → at ≡ board
-    → new ≡ moved desk g moment board stamp answer
+    man ≡ captured_man (reply_at (slice_get g.boards (board_place board)) answer) → at ≡ board
+    → new ≡ game_moved desk g moment board stamp answer
 finished-moved desk g base told new moment board at stamp answer man ends tells plays takes same =
     let played : GameState =
     record g { boards = boards_after g.boards board (moment_at g moment) stamp answer; last = moment_at g moment } in
-    let captured : Option Man = captured_by (reply_at (slice_get g.boards (board_place board)) answer) in
+    let captured : Option Man = captured_man (reply_at (slice_get g.boards (board_place board)) answer) in
     ends
     ∙ ap (λ (s : GameState). finished desk s moment at) tells
     ∙ (λ i. finished desk (told_of desk (plays i) (same i) (takes i)) moment (same i))

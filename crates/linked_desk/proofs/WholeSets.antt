@@ -20,7 +20,7 @@ use Rattle.game_board.proofs.PairHands.{few_in_hand, most_in_two_sets}
 use Rattle.desk_boards.specs.Boards.{board_numbers}
 use Rattle.linked_desk.specs.Desk.{GameState, DeskState}
 use Rattle.desk_boards.specs.Sound.{AreSame}
-use Rattle.linked_desk.specs.Sound.{IsSound, HasSoundGame}
+use Rattle.linked_desk.specs.Sound.{IsSoundGame, HasSoundGame}
 use Rattle.linked_desk.specs.WholeSets.{AreWhole, HasOneSet, HasTwoSets, HaveTwoSets, HasWholeSets, HasPrintedHands, AllAt}
 use Rattle.desk_boards.proofs.Pairs.{never_three, numbers_of_two}
 
@@ -159,7 +159,7 @@ printed_boards v (b ∷ c ∷ []) numbers scores =
     (All-nil HasPrintedHands))
 printed_boards v (b ∷ c ∷ d ∷ more) numbers scores = absurd (never_three v b c d more numbers)
 
-whole_game : (game : Option GameState) → IfSome game IsSound
+whole_game : (game : Option GameState) → IfSome game IsSoundGame
     → IfSome game (λ (g : GameState). AreWhole g.terms.variant g.boards)
 whole_game None s = tt
 whole_game (Some g) s =
@@ -171,7 +171,7 @@ whole_game (Some g) s =
 pub whole_at : (d : DeskState) → HasSoundGame d → HasWholeSets d
 whole_at d s = whole_game d.game s
 
-printed_game : (number : ℕ) (game : Option GameState) → IfSome game IsSound
+printed_game : (number : ℕ) (game : Option GameState) → IfSome game IsSoundGame
     → AllAt HasPrintedHands (record { number = number; game = game })
 printed_game number None s = All-nil HasPrintedHands
 printed_game number (Some g) s = printed_boards g.terms.variant g.boards s.boards.numbers s.boards.scores

@@ -6,7 +6,7 @@ use Rattle.linked_desk.specs.declared.acts.DeskReply.{DeskReply}
 use Rattle.linked_desk.specs.declared.acts.DeskReply.TheVariants.{Done}
 use Rattle.linked_desk.specs.Desk.{GameState, seat_of}
 use Rattle.linked_desk.specs.Ends.{no_seat_cause, over_cause}
-use Rattle.linked_desk.specs.Offering.{agreed, with_offers}
+use Rattle.linked_desk.specs.Offering.{game_agreed, with_offers}
 
 -- why the acceptance of who has that seat, or none, is refused: there is no such offer
 abbrev pub accept_causes : GameState → Option ℕ → List Cause
@@ -19,7 +19,7 @@ accepted_by desk g moment None = g
 accepted_by desk g moment (Some seat) =
     let effect = accepting g.offers seat in
     let after = with_offers effect.after moment g in
-    if effect.reply.1 then agreed desk after moment seat effect.reply.0 else after
+    if effect.reply.1 then game_agreed desk after moment seat effect.reply.0 else after
 
 -- accepts the earliest offer: refused where the session has no seat, where the game has ended, and where no other seat
 -- has an offer standing that this seat lacks

@@ -7,7 +7,7 @@ use Rattle.linked_desk.specs.declared.acts.DeskReply.{DeskReply}
 use Rattle.linked_desk.specs.declared.acts.DeskReply.TheVariants.{Done}
 use Rattle.linked_desk.specs.Desk.{GameState, seat_of}
 use Rattle.linked_desk.specs.Ends.{no_seat_cause, over_cause}
-use Rattle.linked_desk.specs.Offering.{decline_item, told, told_out_cause}
+use Rattle.linked_desk.specs.Offering.{decline_item, offers_told, told_out_cause}
 
 -- why who has that seat, or none, can't decline: there is no such offer, or the seat has made enough
 abbrev pub decline_causes : GameState → Option ℕ → List Cause
@@ -18,7 +18,7 @@ decline_causes g (Some seat) =
 -- the game after it: the offer stands for no seat, and that is told
 abbrev pub declined_by : GameState → ℕ → Option ℕ → GameState
 declined_by g moment None = g
-declined_by g moment (Some seat) = told (declining g.offers seat).after seat moment (decline_item g seat) g
+declined_by g moment (Some seat) = offers_told (declining g.offers seat).after seat moment (decline_item g seat) g
 
 -- declines the earliest offer: refused where the session has no seat, where the game has ended, where no other seat has
 -- an offer standing that this seat lacks, and where the seat has made enough
@@ -36,5 +36,5 @@ refusing_effect g offers seat moment = record {
   causes = [];
   memory = true;
   reply = Done;
-  after = told offers seat moment (decline_item g seat) g;
+  after = offers_told offers seat moment (decline_item g seat) g;
 }

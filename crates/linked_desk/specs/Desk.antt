@@ -45,8 +45,8 @@ abbrev pub is_pair : GameState → Bool
 is_pair g = is_some g.seats.second
 
 -- each player has an account
-abbrev pub all_registered : GameState → Bool
-all_registered g = sitting.all_registered g.seats
+abbrev pub are_registered : GameState → Bool
+are_registered g = sitting.all_registered g.seats
 
 -- the seat of a session, if it plays
 abbrev pub seat_of : GameState → ℕ → Option ℕ
@@ -69,8 +69,8 @@ abbrev pub serial_of : DeskState → Option ℕ
 serial_of d = option_map (λ (g : GameState). g.serial) d.game
 
 -- how the game at a desk ended
-abbrev pub end_of : DeskState → Option Ended
-end_of d = option_and_then (λ (g : GameState). g.ended) d.game
+abbrev pub ended_at : DeskState → Option Ended
+ended_at d = option_and_then (λ (g : GameState). g.ended) d.game
 
 -- how many viewers the game at a desk has
 abbrev pub viewer_count : DeskState → ℕ

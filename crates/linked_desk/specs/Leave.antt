@@ -19,17 +19,17 @@ abbrev pub forfeit : ℕ → Ended
 forfeit seat = record { why = Left; board = board_of seat; winner = Some (opposite (colour_at seat)) }
 
 -- the game waits for whoever leaves: it has one board, and its players have accounts
-abbrev pub waits : GameState → Bool
-waits g = sitting.waits g.seats
+abbrev pub game_waits : GameState → Bool
+game_waits g = sitting.waits g.seats
 
 -- how a running game ends where this seat leaves
 abbrev pub leaving_end : GameState → ℕ → Ended
-leaving_end g seat = if waits g then end_without_winner seat Adjourned else forfeit seat
+leaving_end g seat = if game_waits g then end_without_winner seat Adjourned else forfeit seat
 
 -- the game once who has that seat, or none, has left it; one that has ended stays as it ended
-abbrev pub left_by : ℕ → GameState → ℕ → Option ℕ → GameState
-left_by desk g moment None = g
-left_by desk g moment (Some seat) = if is_some g.ended then g else ended_by desk g moment (leaving_end g seat)
+abbrev pub game_left_by : ℕ → GameState → ℕ → Option ℕ → GameState
+game_left_by desk g moment None = g
+game_left_by desk g moment (Some seat) = if is_some g.ended then g else ended_by desk g moment (leaving_end g seat)
 
 -- the game without that viewer
 abbrev pub unwatched : GameState → ℕ → ℕ → GameState
@@ -42,5 +42,5 @@ leave_effect desk g session moment = record {
   causes = [];
   memory = false;
   reply = Done;
-  after = unwatched (left_by desk g moment (seat_of g session)) session moment;
+  after = unwatched (game_left_by desk g moment (seat_of g session)) session moment;
 }

@@ -13,9 +13,9 @@ use Rattle.desk_boards.specs.Claims.{claim_at}
 use Rattle.desk_boards.specs.TakenBack.{lacks_half_moves}
 use Rattle.linked_desk.specs.declared.acts.DeskReply.{DeskReply}
 use Rattle.linked_desk.specs.declared.acts.DeskReply.TheVariants.{Done}
-use Rattle.linked_desk.specs.Desk.{GameState, all_registered, is_pair, seat_of}
+use Rattle.linked_desk.specs.Desk.{GameState, are_registered, is_pair, seat_of}
 use Rattle.linked_desk.specs.Ends.{ended_by, no_seat_cause, over_cause}
-use Rattle.linked_desk.specs.Offering.{agreed, end_without_winner, offer_item, told, told_out_cause, with_count, with_offers}
+use Rattle.linked_desk.specs.Offering.{game_agreed, end_without_winner, offer_item, offers_told, told_out_cause, with_count, with_offers}
 use Rattle.linked_desk.specs.Seats.{board_of}
 
 -- why nobody at this desk may make an offer: only players with accounts adjourn; at a pair nothing is taken back; and
@@ -23,13 +23,13 @@ use Rattle.linked_desk.specs.Seats.{board_of}
 abbrev pub unfit_causes : GameState → Offer → List Cause
 unfit_causes g Draw = []
 unfit_causes g Abort = []
-unfit_causes g Adjourn = (not (all_registered g), NotRegistered) ∷ []
+unfit_causes g Adjourn = (not (are_registered g), NotRegistered) ∷ []
 unfit_causes g (Takeback n) = (is_pair g, NotInVariant) ∷ (lacks_half_moves g.boards n, TooFewMoves) ∷ []
 
 -- the causes behind an earlier refusal, if there was one
-abbrev pub behind : Option Refusal → List Cause → List Cause
-behind None causes = causes
-behind (Some cause) causes = (true, cause) ∷ []
+abbrev pub causes_behind : Option Refusal → List Cause → List Cause
+causes_behind None causes = causes
+causes_behind (Some cause) causes = (true, cause) ∷ []
 
 -- the draw that an offer of this seat claims at its board, if it does
 abbrev pub claimed : List Board → ℕ → Offer → Option Why
@@ -47,8 +47,8 @@ again_causes g seat offer = (stands g.offers.standing seat offer, AlreadyOffered
 abbrev pub stood : ℕ → GameState → ℕ → ℕ → Offer → GameState
 stood desk g seat moment offer =
     let effect = offering g.offers seat offer in
-    if effect.reply then with_count seat (agreed desk (with_offers effect.after moment g) moment seat offer)
-    else told effect.after seat moment (offer_item g seat offer) g
+    if effect.reply then with_count seat (game_agreed desk (with_offers effect.after moment g) moment seat offer)
+    else offers_told effect.after seat moment (offer_item g seat offer) g
 
 abbrev pub offer_effect : ℕ → GameState → ℕ → ℕ → Offer → Effect GameState DeskReply
 offer_effect desk g seat moment offer = record {
@@ -80,7 +80,7 @@ make_effect desk g session moment offer =
     let effect = fitting_effect desk g (seat_of g session) moment offer in
     record {
       causes =
-          no_seat_cause g session ∷ over_cause g ∷ behind (first_cause (unfit_causes g offer)) effect.causes;
+          no_seat_cause g session ∷ over_cause g ∷ causes_behind (first_cause (unfit_causes g offer)) effect.causes;
       memory = true;
       reply = Done;
       after = effect.after;

@@ -22,7 +22,7 @@ use Rattle.linked_desk.specs.Ends.{ended_by}
 use Rattle.linked_desk.specs.Hands.{first_hands}
 use Rattle.linked_desk.specs.Seats.{board_of}
 use Rattle.linked_desk.specs.Tally.{counted, is_told_out}
-use Rattle.linked_desk.specs.Views.{with_board_item, with_item, with_items}
+use Rattle.linked_desk.specs.Views.{with_board_item, game_with_item, with_items}
 
 -- the line of an offer by the player of this name
 abbrev pub offer_text : List ℕ → Offer → List ℕ
@@ -49,9 +49,9 @@ abbrev pub with_offers : OfferBook → ℕ → GameState → GameState
 with_offers offers moment g = record g { offers = offers; last = moment_at g moment }
 
 -- the game where a seat has told what changed the offers to these
-abbrev pub told : OfferBook → ℕ → ℕ → Option Item → GameState → GameState
-told offers seat moment x g =
-    with_item (record g { offers = offers; tally = counted g.tally seat; last = moment_at g moment }) x
+abbrev pub offers_told : OfferBook → ℕ → ℕ → Option Item → GameState → GameState
+offers_told offers seat moment x g =
+    game_with_item (record g { offers = offers; tally = counted g.tally seat; last = moment_at g moment }) x
 
 -- the game where a seat has made one offer more of those that it may make
 abbrev pub with_count : ℕ → GameState → GameState
@@ -68,16 +68,16 @@ with_taken g moment n =
 
 -- the hands of the first board, where its variant has hands
 abbrev pub hands_shown : ℕ → GameState → GameState
-hands_shown desk g = with_item g (option_and_then (first_hands desk) (slice_get g.boards (board_place First)))
+hands_shown desk g = game_with_item g (option_and_then (first_hands desk) (slice_get g.boards (board_place First)))
 
 -- the game after the last n half-moves of its board were taken back: that is told, and then the board with its hands
-abbrev pub taken_back : ℕ → GameState → ℕ → ℕ → GameState
-taken_back desk g moment n =
+abbrev pub moves_taken_back : ℕ → GameState → ℕ → ℕ → GameState
+moves_taken_back desk g moment n =
     hands_shown desk (with_board_item desk First (with_items (with_taken g moment n) (item.Talk (taken_text n) ∷ [])))
 
 -- the game once every seat has made an offer, the last one by this seat
-abbrev pub agreed : ℕ → GameState → ℕ → ℕ → Offer → GameState
-agreed desk g moment seat Draw = ended_by desk g moment (end_without_winner seat why.Agreed)
-agreed desk g moment seat Abort = ended_by desk g moment (end_without_winner seat why.Aborted)
-agreed desk g moment seat Adjourn = ended_by desk g moment (end_without_winner seat why.Adjourned)
-agreed desk g moment seat (Takeback n) = taken_back desk g moment n
+abbrev pub game_agreed : ℕ → GameState → ℕ → ℕ → Offer → GameState
+game_agreed desk g moment seat Draw = ended_by desk g moment (end_without_winner seat why.Agreed)
+game_agreed desk g moment seat Abort = ended_by desk g moment (end_without_winner seat why.Aborted)
+game_agreed desk g moment seat Adjourn = ended_by desk g moment (end_without_winner seat why.Adjourned)
+game_agreed desk g moment seat (Takeback n) = moves_taken_back desk g moment n

@@ -19,7 +19,7 @@ use Rattle.linked_desk.specs.Ends.{no_seat_cause, over_cause}
 use Rattle.linked_desk.specs.Finish.{finished}
 use Rattle.linked_desk.specs.Hands.{hands_at, partner_hands_at}
 use Rattle.linked_desk.specs.Seats.{board_of, colour_at}
-use Rattle.linked_desk.specs.Views.{with_board_item, with_item}
+use Rattle.linked_desk.specs.Views.{with_board_item, game_with_item}
 
 -- the half-move that a word of a seat stands for, or the refusal
 abbrev pub seat_word : GameState → ℕ → MoveWord → Result Move Refusal
@@ -40,28 +40,28 @@ shown_moved desk g moment board stamp answer =
     })
 
 -- the man that a reply gives, if it does
-abbrev pub captured_by : Result (Option Man) Refusal → Option Man
-captured_by (Ok man) = man
-captured_by (Err cause) = None
+abbrev pub captured_man : Result (Option Man) Refusal → Option Man
+captured_man (Ok man) = man
+captured_man (Err cause) = None
 
 -- the game with what is told of the hands at a board, where a half-move there captured this man
 abbrev pub with_hands : ℕ → BoardNumber → Option Man → GameState → GameState
-with_hands desk board man g = with_item g (hands_at desk g board man)
+with_hands desk board man g = game_with_item g (hands_at desk g board man)
 
 -- and with what is told of the hands at the other board of a pair
 abbrev pub with_partner_hands : ℕ → BoardNumber → Option Man → GameState → GameState
-with_partner_hands desk board man g = with_item g (partner_hands_at desk g board man)
+with_partner_hands desk board man g = game_with_item g (partner_hands_at desk g board man)
 
 -- and the hands told that the half-move has changed, those of the own board first
 abbrev pub held_moved : ℕ → GameState → ℕ → BoardNumber → Option ℕ → Result Move Refusal → GameState
 held_moved desk g moment board stamp answer =
-    let man = captured_by (reply_at (slice_get g.boards (board_place board)) answer) in
+    let man = captured_man (reply_at (slice_get g.boards (board_place board)) answer) in
     with_partner_hands desk board man
     (with_hands desk board man (shown_moved desk g moment board stamp answer))
 
 -- and ended, where the half-move mates or leaves the other player no move
-abbrev pub moved : ℕ → GameState → ℕ → BoardNumber → Option ℕ → Result Move Refusal → GameState
-moved desk g moment board stamp answer = finished desk (held_moved desk g moment board stamp answer) moment board
+abbrev pub game_moved : ℕ → GameState → ℕ → BoardNumber → Option ℕ → Result Move Refusal → GameState
+game_moved desk g moment board stamp answer = finished desk (held_moved desk g moment board stamp answer) moment board
 
 -- the game where the offers of the seat's opponent have gone, and every takeback, since the seat has moved
 abbrev pub with_cleared : ℕ → GameState → GameState
@@ -71,7 +71,7 @@ with_cleared seat g = record g { offers = where_stand (after_half_move seat g.of
 abbrev pub moved_by : ℕ → GameState → ℕ → Option ℕ → MoveWord → Option ℕ → GameState
 moved_by desk g moment None word stamp = g
 moved_by desk g moment (Some seat) word stamp =
-    moved desk (with_cleared seat g) moment (board_of seat) stamp (seat_word g seat word)
+    game_moved desk (with_cleared seat g) moment (board_of seat) stamp (seat_word g seat word)
 
 -- plays a word of a seat of the running game: refused as the board answers
 abbrev pub seat_move_effect : ℕ → GameState → ℕ → ℕ → MoveWord → Option ℕ → Effect GameState DeskReply
@@ -79,7 +79,7 @@ seat_move_effect desk g seat moment word stamp = record {
   causes = refused_by (seat_word g seat word);
   memory = true;
   reply = Done;
-  after = moved desk (with_cleared seat g) moment (board_of seat) stamp (seat_word g seat word);
+  after = game_moved desk (with_cleared seat g) moment (board_of seat) stamp (seat_word g seat word);
 }
 
 -- plays a word at the session's board: refused where it has no seat, where the game has ended, and then as the board

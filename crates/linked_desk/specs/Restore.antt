@@ -10,7 +10,7 @@ use Rattle.desk_boards.specs.Replaying.{replayed}
 use Rattle.linked_desk.specs.declared.occasion.Occasion.TheVariants.{Resumption}
 use Rattle.linked_desk.specs.Desk.{DeskState, GameState}
 use Rattle.linked_desk.specs.Finish.{finished}
-use Rattle.linked_desk.specs.Seating.{begun}
+use Rattle.linked_desk.specs.Seating.{game_begun}
 
 -- the game where the last half-move was made on that board, or none was made: it has ended if that half-move brings it
 abbrev pub finished_at : ℕ → GameState → ℕ → Option BoardNumber → GameState
@@ -18,12 +18,12 @@ finished_at desk g moment None = g
 finished_at desk g moment (Some board) = finished desk g moment board
 
 -- a stored game that goes on at these boards from that moment, as if its last half-move had just been made
-abbrev pub resumed : ℕ → ℕ → StoredGame → Seats → ℕ → List Board → GameState
-resumed desk serial g seats moment boards =
-    finished_at desk (begun Resumption desk serial g.terms seats boards moment) moment (last_board g.halves)
+abbrev pub game_resumed : ℕ → ℕ → StoredGame → Seats → ℕ → List Board → GameState
+game_resumed desk serial g seats moment boards =
+    finished_at desk (game_begun Resumption desk serial g.terms seats boards moment) moment (last_board g.halves)
 
 -- the desk with that game, whose boards are those on which its half-moves were played again, if they can be
 abbrev pub restored : DeskState → ℕ → StoredGame → Seats → ℕ → Option DeskState
 restored d serial g seats moment =
-    option_map (λ (boards : List Board). record d { game = Some (resumed d.number serial g seats moment boards) })
+    option_map (λ (boards : List Board). record d { game = Some (game_resumed d.number serial g seats moment boards) })
     (replayed g.terms g.halves moment)

@@ -34,8 +34,8 @@ AllDiffer [] = Unit {0}
 AllDiffer (x ∷ xs) = NoneIs x xs × AllDiffer xs
 
 -- the sessions of the players, and their names without regard to capitals
-abbrev pub sessions_of : Seats → List ℕ
-sessions_of seats = map (λ (p : Player). p.session) (seat_list seats)
+abbrev pub sessions_seated : Seats → List ℕ
+sessions_seated seats = map (λ (p : Player). p.session) (seat_list seats)
 
 abbrev pub names_of : Seats → List (List ℕ)
 names_of seats = map (λ (p : Player). key_of p.name) (seat_list seats)
@@ -97,8 +97,8 @@ opening_items occasion desk terms pairs boards =
     each_board (announced_board occasion desk terms) pairs boards ++ shown_items desk pairs boards
 
 -- a game that begins at this moment at these boards, where that is told: the players are its viewers from the start
-abbrev pub game_at : ℕ → Terms → Seats → List Board → List Item → ℕ → GameState
-game_at serial terms seats boards feed moment = record {
+abbrev pub game_begins_at : ℕ → Terms → Seats → List Board → List Item → ℕ → GameState
+game_begins_at serial terms seats boards feed moment = record {
   serial = serial;
   terms = terms;
   seats = seats;
@@ -113,14 +113,14 @@ game_at serial terms seats boards feed moment = record {
 }
 
 -- and so that its players are told what is told then
-abbrev pub begun : Occasion → ℕ → ℕ → Terms → Seats → List Board → ℕ → GameState
-begun occasion desk serial terms seats boards moment =
-    game_at serial terms seats boards (opening_items occasion desk terms (pairs_of seats) boards) moment
+abbrev pub game_begun : Occasion → ℕ → ℕ → Terms → Seats → List Board → ℕ → GameState
+game_begun occasion desk serial terms seats boards moment =
+    game_begins_at serial terms seats boards (opening_items occasion desk terms (pairs_of seats) boards) moment
 
 -- a game that begins at its start
-abbrev pub opened : ℕ → ℕ → Terms → Seats → ℕ → GameState
-opened desk serial terms seats moment = begun Start desk serial terms seats (new_boards terms moment) moment
+abbrev pub game_opened : ℕ → ℕ → Terms → Seats → ℕ → GameState
+game_opened desk serial terms seats moment = game_begun Start desk serial terms seats (new_boards terms moment) moment
 
 -- the desk with that game
-abbrev pub started : DeskState → ℕ → Terms → Seats → ℕ → DeskState
-started d serial terms seats moment = record d { game = Some (opened d.number serial terms seats moment) }
+abbrev pub desk_started : DeskState → ℕ → Terms → Seats → ℕ → DeskState
+desk_started d serial terms seats moment = record d { game = Some (game_opened d.number serial terms seats moment) }

@@ -10,18 +10,18 @@ use Rattle.desk_boards.specs.Halves.{halves_of}
 use Rattle.linked_desk.specs.Desk.{DeskState, GameState}
 use Rattle.linked_desk.specs.Restore.{restored}
 use Rattle.linked_desk.specs.Seating.{uncoloured}
-use Rattle.linked_desk.specs.Shelve.{names_in, shelved}
-use Rattle.linked_desk.specs.Sound.{IsSound}
+use Rattle.linked_desk.specs.Shelve.{names_seated, stored_of}
+use Rattle.linked_desk.specs.Sound.{IsSoundGame}
 
 -- each game, as it is kept, can be played again
 abbrev pub ShelvedGamesReplay : Type 0
-ShelvedGamesReplay = (g : GameState) → IsSound g → Replays (shelved g)
+ShelvedGamesReplay = (g : GameState) → IsSoundGame g → Replays (stored_of g)
 
 -- a stored game that is on again: with its terms, its players and its half-moves with their charges. The clocks run
 -- from the moment of resuming
 pub record IsOnAgain (g : StoredGame) (moment : ℕ) (now : GameState) : Type 0 where
   pub terms : now.terms ≡ g.terms
-  pub names : names_in now.seats ≡ g.names
+  pub names : names_seated now.seats ≡ g.names
   pub halves : halves_of now.boards ≡ g.halves
   pub begin : All (λ (b : Board). b.begin ≡ moment) now.boards
 
@@ -35,7 +35,7 @@ pub record IsAsBefore (before now : Board) : Type 0 where
 -- a game that goes on from where another was left
 pub record GoesOnFrom (before now : GameState) : Type 0 where
   pub terms : now.terms ≡ uncoloured before.terms
-  pub names : names_in now.seats ≡ names_in before.seats
+  pub names : names_seated now.seats ≡ names_seated before.seats
   pub many : length now.boards ≡ length before.boards
   pub boards : (place : ℕ) (b c : Board) → slice_get before.boards place ≡ Some b →
       slice_get now.boards place ≡ Some c → IsAsBefore b c
@@ -48,6 +48,6 @@ Gets desk P = (d : DeskState) × (desk ≡ Some d) × ((g : GameState) × (d.gam
 -- goes on from where it was left
 pub record ResumingRestores : Type 0 where
   pub stored : (d : DeskState) (serial : ℕ) (g : StoredGame) (seats : Seats) (moment : ℕ) → Replays g →
-      names_in seats ≡ g.names → Gets (restored d serial g seats moment) (IsOnAgain g moment)
-  pub kept : (d : DeskState) (serial : ℕ) (g : GameState) (seats : Seats) (moment : ℕ) → IsSound g →
-      names_in seats ≡ names_in g.seats → Gets (restored d serial (shelved g) seats moment) (GoesOnFrom g)
+      names_seated seats ≡ g.names → Gets (restored d serial g seats moment) (IsOnAgain g moment)
+  pub kept : (d : DeskState) (serial : ℕ) (g : GameState) (seats : Seats) (moment : ℕ) → IsSoundGame g →
+      names_seated seats ≡ names_seated g.seats → Gets (restored d serial (stored_of g) seats moment) (GoesOnFrom g)

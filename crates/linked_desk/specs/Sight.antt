@@ -30,8 +30,8 @@ sight (Some seat) board to_move =
     if board_number (board_of seat) == board_number board then playing (colour_at seat) to_move else observing
 
 -- which board it is, by the number under which it is shown: the boards of desk d are games 2 d - 1 and 2 d
-abbrev pub board_in : ℕ → BoardNumber
-board_in game = if game % 2 == 0 then Second else First
+abbrev pub board_shown_as : ℕ → BoardNumber
+board_shown_as game = if game % 2 == 0 then Second else First
 
 -- the four players and an observer at the second board, where White is to move
 example_second : sight (Some 0) Second White ∷ sight (Some 1) Second White ∷ sight (Some 2) Second White

@@ -15,16 +15,16 @@ use Rattle.linked_desk.specs.Desk.{GameState, DeskState}
 use Rattle.linked_desk.specs.Seating.{MayPlay}
 
 -- a winner is named exactly where a game that ends so is won by somebody
-abbrev pub Names : Why → Option Colour → Type 0
-Names why winner = IsSome winner ↔ IsTrue (is_decisive why)
+abbrev pub FitsWhy : Why → Option Colour → Type 0
+FitsWhy why winner = IsSome winner ↔ IsTrue (is_decisive why)
 
 -- an end that is told names its winner
 abbrev pub NamesWinner : Item → Type 0
-NamesWinner (End view why winner own) = Names why winner
+NamesWinner (End view why winner own) = FitsWhy why winner
 NamesWinner _ = Unit {0}
 
 -- what holds of a game
-pub record IsSound (g : GameState) : Type 0 where
+pub record IsSoundGame (g : GameState) : Type 0 where
   -- these players may play on these terms
   pub seated : MayPlay g.terms g.seats
   -- the boards are those of such a game: each list is a true score, and the half-moves of all can be played again
@@ -36,11 +36,11 @@ pub record IsSound (g : GameState) : Type 0 where
   pub moment : g.last ≤ last_moment
   -- each end in the feed names its winner
   pub winners : All NamesWinner g.feed
-  pub ended : IfSome g.ended (λ e. Names e.why e.winner)
+  pub ended : IfSome g.ended (λ e. FitsWhy e.why e.winner)
 
 -- and so for the game at a desk, if there is one
 abbrev pub HasSoundGame : DeskState → Type 0
-HasSoundGame d = IfSome d.game IsSound
+HasSoundGame d = IfSome d.game IsSoundGame
 
 -- each end that a reply tells names its winner
 abbrev pub TellsWinners : DeskReply → Type 0

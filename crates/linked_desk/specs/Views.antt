@@ -41,9 +41,9 @@ abbrev pub with_items : GameState → List Item → GameState
 with_items g items = record g { feed = g.feed ++ items }
 
 -- the game with one item more, if there is one
-abbrev pub with_item : GameState → Option Item → GameState
-with_item g None = g
-with_item g (Some x) = with_items g (x ∷ [])
+abbrev pub game_with_item : GameState → Option Item → GameState
+game_with_item g None = g
+game_with_item g (Some x) = with_items g (x ∷ [])
 
 -- a feed with one item more, if there is one
 abbrev pub feed_with : List Item → Option Item → List Item

@@ -44,11 +44,11 @@ impl Model for Desk {
 }
 
 impl Desk {
-    ghost use Rattle.linked_desk.specs.Desk.{boards_at, serial_of, end_of, viewer_count, items_for};
-    ghost use Rattle.linked_desk.specs.Seating.{AllDiffer, HasPairsFor, names_of, sessions_of, started};
+    ghost use Rattle.linked_desk.specs.Desk.{boards_at, serial_of, ended_at, viewer_count, items_for};
+    ghost use Rattle.linked_desk.specs.Seating.{AllDiffer, HasPairsFor, names_of, sessions_seated, desk_started};
     ghost use Rattle.game_records.specs.Replays.{Replays};
     ghost use Rattle.linked_desk.specs.Restore.{restored};
-    ghost use Rattle.linked_desk.specs.Shelve.{IsAdjourned, names_in, shelved_at};
+    ghost use Rattle.linked_desk.specs.Shelve.{IsAdjourned, names_seated, shelved_at};
     ghost use Rattle.linked_desk.specs.Acts.{FitsDeskAct, desk_effect, items_told, missing_effect};
 
     /// A desk without a game.
@@ -70,10 +70,10 @@ impl Desk {
         moment: Moment,
     ) -> Result<(), NoMemory>
         requires vacant { self.old.game ≡ None }
-        requires sessions { AllDiffer (sessions_of seats.now) }
+        requires sessions { AllDiffer (sessions_seated seats.now) }
         requires names { AllDiffer (names_of seats.now) }
         requires pairs { HasPairsFor terms seats.now }
-        ensures ok { OnOk result (self.new ≡ started self.old serial terms seats.now moment) }
+        ensures ok { OnOk result (self.new ≡ desk_started self.old serial terms seats.now moment) }
         ensures err { OnErr result (self.new ≡ self.old) }
     {
         let game = opened(alloc, self.number, serial, terms, seats, moment)?;
@@ -98,9 +98,9 @@ impl Desk {
         moment: Moment,
     ) -> Result<bool, NoMemory>
         requires vacant { self.old.game ≡ None }
-        requires sessions { AllDiffer (sessions_of seats.now) }
+        requires sessions { AllDiffer (sessions_seated seats.now) }
         requires names { AllDiffer (names_of seats.now) }
-        requires players { names_in seats.now ≡ game.now.names }
+        requires players { names_seated seats.now ≡ game.now.names }
         requires pairs { HasPairsFor game.now.terms seats.now }
         ensures replays { IfOk result (λ yes. IsTrue yes ↔ Replays game.now) }
         ensures restored { IfOk result (λ yes. IsTrue yes → Some self.new
@@ -168,7 +168,7 @@ impl Desk {
 
     /// How the game ended; None where it runs and where the desk is vacant.
     pub fn ended(&self) -> Option<Ended>
-        ensures { result ≡ end_of self.now }
+        ensures { result ≡ ended_at self.now }
     {
         match &self.game {
             Some(game) => game.ended(),
@@ -248,7 +248,7 @@ impl Desk {
 
     /// Makes the desk vacant once its game has ended and nobody views it any more.
     pub fn clear(&mut self)
-        requires over { IsSome (end_of self.old) }
+        requires over { IsSome (ended_at self.old) }
         requires unwatched { viewer_count self.old ≡ 0 }
         ensures { self.new ≡ record self.old { game = None } }
     {

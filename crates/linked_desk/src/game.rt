@@ -79,7 +79,7 @@ impl Model for Game {
 }
 
 impl Game {
-    ghost use Rattle.linked_desk.specs.Desk.{seat_of, is_watching, ahead_of, all_registered};
+    ghost use Rattle.linked_desk.specs.Desk.{seat_of, is_watching, ahead_of, are_registered};
     ghost use Rattle.observer_feed.specs.Feed.{is_left};
 
     /// The number under which the game was started.
@@ -127,7 +127,7 @@ impl Game {
 
     /// Whether each player has an account.
     pub(crate) fn all_registered(&self) -> bool
-        ensures { result ≡ all_registered self.now }
+        ensures { result ≡ are_registered self.now }
     {
         self.seats.all_registered()
     }

@@ -10,8 +10,8 @@ ghost use Rattle.linked_desk.specs.Desk.{DeskState, game_number, occupant_of};
 ghost use Rattle.game_records.specs.declared.stored_game.StoredGame.{StoredGame};
 ghost use Rattle.game_records.specs.Replays.{Replays};
 ghost use Rattle.linked_desk.specs.Restore.{restored};
-ghost use Rattle.linked_desk.specs.Seating.{AllDiffer, HasPairsFor, MayPlay, names_of, started};
-ghost use Rattle.linked_desk.specs.Sight.{board_in};
+ghost use Rattle.linked_desk.specs.Seating.{AllDiffer, HasPairsFor, MayPlay, names_of, desk_started};
+ghost use Rattle.linked_desk.specs.Sight.{board_shown_as};
 ghost use Rattle.linked_desk.specs.Sound.{AnswersSoundly, HasSoundGame};
 ghost use Rattle.linked_desk.specs.Acts.{FitsDeskAct, desk_answer, desk_after};
 ghost use Rattle.linked_desk.specs.WholeSets.{AllAt, HasPrintedHands, HasWholeSets};
@@ -24,7 +24,7 @@ pub fn acts_keep_the_players()
     ensures players { (d : DeskState) (session moment serial : ℕ) (a : DeskAct)
         → occupant_of (desk_after d session moment serial a) ≡ occupant_of d }
     ensures started { (d : DeskState) (serial : ℕ) (terms : Terms) (seats : Seats) (moment : ℕ) →
-        occupant_of (started d serial terms seats moment)
+        occupant_of (desk_started d serial terms seats moment)
         ≡ Some (record { serial = serial; terms = terms; seats = seats }) }
     ensures restored { (d : DeskState) (serial : ℕ) (g : StoredGame) (seats : Seats) (moment : ℕ) →
         IfSome (restored d serial g seats moment) (λ e. occupant_of e
@@ -38,7 +38,7 @@ pub fn acts_keep_the_players()
 pub fn acts_keep_the_game()
     ensures started { (d : DeskState) (serial : ℕ) (terms : Terms) (seats : Seats) (moment : ℕ)
         → MayPlay terms seats → moment ≤ last_moment →
-        HasSoundGame (started d serial terms seats moment) }
+        HasSoundGame (desk_started d serial terms seats moment) }
     ensures restored { (d : DeskState) (serial : ℕ) (g : StoredGame) (seats : Seats) (moment : ℕ) → Replays g
         → HasPairsFor g.terms seats → AllDiffer (names_of seats) → moment ≤ last_moment →
         IfSome (restored d serial g seats moment) HasSoundGame }
@@ -50,7 +50,7 @@ pub fn acts_keep_the_game()
 
 /// Each board of a desk is shown under a number of its own, by which viewers know which board it is.
 pub fn boards_are_known_by_their_games()
-    ensures { (desk : ℕ) (board : BoardNumber) → board_in (game_number desk (board_number board)) ≡ board }
+    ensures { (desk : ℕ) (board : BoardNumber) → board_shown_as (game_number desk (board_number board)) ≡ board }
 {}
 
 /// No man of a game at a desk is made or lost: in chess and Fischer random the men of a colour and kind on the board,

@@ -2,7 +2,7 @@
 ghost use Rattle.std.specs.Prelude.{◌≡◌, Ok};
 ghost use Rattle.fics_words.specs.Effect.{Takes};
 ghost use Rattle.linked_desk.specs.Desk.{seat_of};
-ghost use Rattle.linked_desk.specs.Leave.{forfeit, leave_effect, leaving_end, left_by};
+ghost use Rattle.linked_desk.specs.Leave.{forfeit, leave_effect, leaving_end, game_left_by};
 
 use crate::acts::DeskReply;
 use crate::ended::Ended;
@@ -27,7 +27,7 @@ impl Game {
 
     /// Ends a running game in which the session plays.
     fn end_by_leaving(&mut self, desk: DeskNumber, session: u32, moment: Moment)
-        ensures { self.new ≡ left_by desk self.old moment (seat_of self.old session) }
+        ensures { self.new ≡ game_left_by desk self.old moment (seat_of self.old session) }
     {
         let Some(seat) = self.seat_of(session) else {
             return;

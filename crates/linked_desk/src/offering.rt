@@ -2,7 +2,7 @@
 ghost use Rattle.std.specs.Prelude.{◌≡◌, IfOk, OnErr, OnOk, None, false, option_and_then, slice_get};
 ghost use Rattle.linked_desk.specs.Ends.{ended_by};
 ghost use Rattle.linked_desk.specs.Hands.{first_hands};
-ghost use Rattle.linked_desk.specs.Offering.{agreed, decline_item, end_without_winner, offer_item, offer_text, taken_back, told, with_offers};
+ghost use Rattle.linked_desk.specs.Offering.{game_agreed, decline_item, end_without_winner, offer_item, offer_text, moves_taken_back, offers_told, with_offers};
 ghost use Rattle.linked_desk.specs.Tally.{is_told_out};
 
 use crate::ended::Ended;
@@ -53,7 +53,7 @@ impl Game {
     ) -> Result<(), NoMemory>
         requires seats { offers.seats ≡ self.old.offers.seats }
         requires room { is_told_out self.old.tally seat ≡ false }
-        ensures ok { OnOk result (self.new ≡ told offers seat moment item self.old) }
+        ensures ok { OnOk result (self.new ≡ offers_told offers seat moment item self.old) }
         ensures err { OnErr result (self.new ≡ self.old) }
     {
         self.feed.reserve(1 + ROOM_TO_END)?;
@@ -78,7 +78,7 @@ impl Game {
     ) -> Result<(), NoMemory>
         requires seats { offers.seats ≡ self.old.offers.seats }
         requires running { self.old.ended ≡ None }
-        ensures ok { OnOk result (self.new ≡ agreed desk (with_offers offers moment self.old) moment seat offer) }
+        ensures ok { OnOk result (self.new ≡ game_agreed desk (with_offers offers moment self.old) moment seat offer) }
         ensures err { OnErr result (self.new ≡ self.old) }
     {
         match offer {
@@ -117,7 +117,7 @@ impl Game {
         n: u16,
     ) -> Result<(), NoMemory>
         requires seats { offers.seats ≡ self.old.offers.seats }
-        ensures ok { OnOk result (self.new ≡ taken_back desk (with_offers offers moment self.old) moment n) }
+        ensures ok { OnOk result (self.new ≡ moves_taken_back desk (with_offers offers moment self.old) moment n) }
         ensures err { OnErr result (self.new ≡ self.old) }
     {
         self.feed.reserve(3 + ROOM_TO_END)?;

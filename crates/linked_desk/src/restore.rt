@@ -4,8 +4,8 @@ ghost use Rattle.std.specs.Option.{option_map};
 ghost use Rattle.game_records.specs.Replays.{Replays};
 ghost use Rattle.desk_boards.specs.Halves.{last_board};
 ghost use Rattle.desk_boards.specs.Replaying.{replayed};
-ghost use Rattle.linked_desk.specs.Restore.{finished_at, resumed};
-ghost use Rattle.linked_desk.specs.Seating.{AllDiffer, HasPairsFor, sessions_of};
+ghost use Rattle.linked_desk.specs.Restore.{finished_at, game_resumed};
+ghost use Rattle.linked_desk.specs.Seating.{AllDiffer, HasPairsFor, sessions_seated};
 
 use crate::game::Game;
 use crate::occasion::Occasion;
@@ -26,11 +26,11 @@ pub(crate) fn resumed(
     seats: &Seats,
     moment: Moment,
 ) -> Result<Option<Game>, NoMemory>
-    requires sessions { AllDiffer (sessions_of seats.now) }
+    requires sessions { AllDiffer (sessions_seated seats.now) }
     requires pairs { HasPairsFor stored.now.terms seats.now }
     ensures replays { IfOk result (λ found. IsSome found ↔ Replays stored.now) }
     ensures game { IfOk result (λ found. IsSome found → found
-        ≡ option_map (resumed desk serial stored.now seats.now moment)
+        ≡ option_map (game_resumed desk serial stored.now seats.now moment)
         (replayed stored.now.terms stored.now.halves moment)) }
 {
     let mut feed = announced(alloc, Occasion::Resumption, desk, &stored.terms, seats)?;

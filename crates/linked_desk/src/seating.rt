@@ -5,7 +5,7 @@ ghost use Rattle.offer_book.specs.Offers.{no_offers};
 ghost use Rattle.observer_feed.specs.Feed.{empty_feed, is_viewer};
 ghost use Rattle.fics_words.specs.Boards.{board_number};
 ghost use Rattle.desk_boards.specs.Boards.{latest};
-ghost use Rattle.linked_desk.specs.Seating.{AllDiffer, HasPairsFor, announcement, announcements, first_items, from_start, game_at, news, opened, sessions_of, shown_items};
+ghost use Rattle.linked_desk.specs.Seating.{AllDiffer, HasPairsFor, announcement, announcements, first_items, from_start, game_begins_at, news, game_opened, sessions_seated, shown_items};
 ghost use Rattle.linked_desk.specs.Seats.{pairs_of};
 
 use crate::game::{Game, ROOM_TO_END};
@@ -35,9 +35,9 @@ pub(crate) fn opened(
     seats: &Seats,
     moment: Moment,
 ) -> Result<Game, NoMemory>
-    requires sessions { AllDiffer (sessions_of seats.now) }
+    requires sessions { AllDiffer (sessions_seated seats.now) }
     requires pairs { HasPairsFor terms seats.now }
-    ensures { IfOk result (λ game. game ≡ opened desk serial terms seats.now moment) }
+    ensures { IfOk result (λ game. game ≡ game_opened desk serial terms seats.now moment) }
 {
     let mut feed = announced(alloc, Occasion::Start, desk, &terms, seats)?;
     let boards = Boards::start(alloc, terms, moment)?;
@@ -58,7 +58,7 @@ pub(crate) fn game_at(
     requires order { latest boards ≤ moment }
     requires viewers { feed.viewers ≡ map from_start (seat_list seats.now) }
     requires room { 4 ≤ feed.room }
-    ensures { result ≡ game_at serial terms seats.now boards feed.items moment }
+    ensures { result ≡ game_begins_at serial terms seats.now boards feed.items moment }
 {
     Game {
         alloc,
@@ -84,7 +84,7 @@ pub(crate) fn announced(
     terms: &Terms,
     seats: &Seats,
 ) -> Result<Feed<Item>, NoMemory>
-    requires sessions { AllDiffer (sessions_of seats.now) }
+    requires sessions { AllDiffer (sessions_seated seats.now) }
     ensures items { IfOk result (λ feed. feed.items ≡ announcements occasion desk terms.now seats.now) }
     ensures viewers { IfOk result (λ feed. feed.viewers ≡ map from_start (seat_list seats.now)) }
     ensures room { IfOk result (λ feed. 8 ≤ feed.room) }
@@ -103,7 +103,7 @@ fn announce(
     terms: &Terms,
     seats: &Seats,
 ) -> Result<(), NoMemory>
-    requires sessions { AllDiffer (sessions_of seats.now) }
+    requires sessions { AllDiffer (sessions_seated seats.now) }
     requires empty { feed.old ≡ empty_feed }
     ensures items { OnOk result (feed.new.items ≡ announcements occasion desk terms.now seats.now) }
     ensures viewers { OnOk result (feed.new.viewers ≡ map from_start (seat_list seats.now)) }
@@ -190,7 +190,7 @@ fn news(
 
 /// The players are viewers from the start, where nobody looks on yet.
 fn add_players(feed: &mut Feed<Item>, seats: &Seats) -> Result<(), NoMemory>
-    requires sessions { AllDiffer (sessions_of seats.now) }
+    requires sessions { AllDiffer (sessions_seated seats.now) }
     requires nobody { feed.old.viewers ≡ [] }
     ensures { OnOk result (feed.new ≡ record feed.old { viewers = map from_start (seat_list seats.now) }) }
 {

@@ -1,7 +1,7 @@
 //! A game as it is kept until its players resume it.
 ghost use Rattle.std.specs.Prelude.{◌≡◌, ◌++◌, ◌∷◌, [], IfOk, OnOk};
 ghost use Rattle.linked_desk.specs.Seating.{uncoloured};
-ghost use Rattle.linked_desk.specs.Shelve.{names_in, shelved};
+ghost use Rattle.linked_desk.specs.Shelve.{names_seated, stored_of};
 
 use crate::game::Game;
 use chess_model::Terms;
@@ -14,7 +14,7 @@ use std::alloc::Global;
 impl Game {
     /// What is kept of the game.
     pub(crate) fn shelved(&self, alloc: Global) -> Result<StoredGame, NoMemory>
-        ensures { IfOk result (λ game. game ≡ shelved self.now) }
+        ensures { IfOk result (λ game. game ≡ stored_of self.now) }
     {
         let names = names_in(alloc, &self.seats)?;
         let halves = self.boards.halves(alloc)?;
@@ -28,7 +28,7 @@ impl Game {
 
 /// The players' names in the order of their seats.
 fn names_in(alloc: Global, seats: &Seats) -> Result<Listed<Handle>, NoMemory>
-    ensures { IfOk result (λ names. names ≡ names_in seats.now) }
+    ensures { IfOk result (λ names. names ≡ names_seated seats.now) }
 {
     let mut names = Listed::new(alloc);
     add_names(&mut names, &seats.first)?;

@@ -1,6 +1,6 @@
 //! Who sees which board, and how.
 ghost use Rattle.std.specs.Prelude.{◌≡◌};
-ghost use Rattle.linked_desk.specs.Sight.{board_in, observing, playing, sight};
+ghost use Rattle.linked_desk.specs.Sight.{board_shown_as, observing, playing, sight};
 
 use crate::seats::{board_of, colour_at};
 use chess_model::Colour;
@@ -11,7 +11,7 @@ use style12_writer::{BoardView, Viewer};
 /// the own board and sees it from the own side; at the partner's board, as an observer everywhere, the relation is 0
 /// and White is at the bottom.
 pub fn viewer_of(seat: Option<u8>, view: &BoardView) -> Viewer
-    ensures { result ≡ sight seat (board_in view.now.game) view.now.face.to_move }
+    ensures { result ≡ sight seat (board_shown_as view.now.game) view.now.face.to_move }
 {
     let Some(seat) = seat else {
         return observing();
@@ -45,7 +45,7 @@ fn playing(own: Colour, to_move: Colour) -> Viewer
 
 /// Which board of its desk it is, by the number under which it is shown.
 fn board_in(game: u16) -> BoardNumber
-    ensures { result ≡ board_in game }
+    ensures { result ≡ board_shown_as game }
 {
     if game % 2 == 0 {
         BoardNumber::Second

@@ -26,7 +26,7 @@ use Rattle.lobby_state.proofs.KeepsResumed.{unused-stored}
 use Rattle.lobby_store.specs.Agreeing.{wanted_by}
 use Rattle.lobby_store.specs.Rows.{IsAccountRow, IsGameRow}
 use Rattle.lobby_store.proofs.OrdersOut.{same_test}
-use Rattle.lobby_load.specs.BadRows.{IsAccount, IsGame, Row}
+use Rattle.lobby_load.specs.BadRows.{IsAccount, IsRowOfGame, Row}
 use Rattle.lobby_load.specs.Filling.{AddsRow, HasRows, is_of_account, is_of_game}
 use Rattle.lobby_load.proofs.Counting.{count_push_no, count_push_yes}
 use Rattle.lobby_load.proofs.Growing.{wanted_account, wanted_game}
@@ -41,7 +41,7 @@ HasRows-none = record {
     accounts = All-nil (λ account. IsSpelled (a.Account account) (spelling (a.Account account)));
     games = All-nil (λ row. IsSpelled (a.Game row.game) (spelling (a.Game row.game)));
   };
-  each = All-nil (λ row. IsAccount row ⊎ IsGame row);
+  each = All-nil (λ row. IsAccount row ⊎ IsRowOfGame row);
   in_order = tt;
   accounts = refl;
   games = refl;
@@ -96,7 +96,7 @@ with_account-filled rows row lobby account h new is room =
             (own_record (a.Account account) row.1 is.spelled);
         games = h.spelled.games;
       };
-      each = All-push (λ x. IsAccount x ⊎ IsGame x) rows row h.each (inl (account, is));
+      each = All-push (λ x. IsAccount x ⊎ IsRowOfGame x) rows row h.each (inl (account, is));
       in_order = h.in_order;
       accounts = long ∙ ap (λ n. n + 1) h.accounts ∙ sym more;
       games = h.games ∙ sym same;
@@ -137,7 +137,7 @@ with_stored-filled rows row lobby number game h new is room =
             (All-cons Q added (filter (is_above number) games) (own_record (a.Game game) row.1 is.spelled)
             (All-filter (is_above number) Q games h.spelled.games));
       };
-      each = All-push (λ x. IsAccount x ⊎ IsGame x) rows row h.each (inr (number, game, is));
+      each = All-push (λ x. IsAccount x ⊎ IsRowOfGame x) rows row h.each (inr (number, game, is));
       in_order = RiseAbove-with added 0 games is.positive is.small unused h.in_order;
       accounts = h.accounts ∙ sym same;
       games = long ∙ ap (λ n. n + 1) h.games ∙ sym more;

@@ -9,7 +9,7 @@ use Rattle.lobby_state.specs.ShelfRoom.{desks_used}
 use Rattle.lobby_store.specs.Carrying.{held}
 use Rattle.lobby_store.specs.Rows.{IsNoRow}
 use Rattle.lobby_store.specs.declared.reading.StoreRow.TheVariants.{Account as AnAccount, Game as AGame}
-use Rattle.lobby_load.specs.BadRows.{HasBefore, IsAccount, IsBeyond, IsGame, IsGoodStore, Row}
+use Rattle.lobby_load.specs.BadRows.{HasBefore, IsAccount, IsBeyond, IsRowOfGame, IsGoodStore, Row}
 use Rattle.lobby_load.specs.Filling.{CannotTake, HasRows, IsLeastBadOf, count_of, is_of_account, is_of_game}
 use Rattle.lobby_load.specs.Loaded.{HasCount, HasLoaded, HasSizes}
 use Rattle.lobby_load.proofs.Counting.{enough, fewer}
@@ -19,10 +19,10 @@ use Rattle.lobby_load.proofs.RowsSorted.{find-before, find-itself, found_is}
 account_begins : (row : Row) → IsAccount row → is_of_account row.0 ≡ true
 account_begins row (account, is) = ap is_of_account is.own
 
-game_begins : (row : Row) → IsGame row → is_of_game row.0 ≡ true
+game_begins : (row : Row) → IsRowOfGame row → is_of_game row.0 ≡ true
 game_begins row (number, game, is) = ap is_of_game is.own
 
-game_not_account : (row : Row) → IsGame row → is_of_account row.0 ≡ false
+game_not_account : (row : Row) → IsRowOfGame row → is_of_account row.0 ≡ false
 game_not_account row (number, game, is) = ap is_of_account is.own
 
 account_not_game : (row : Row) → IsAccount row → is_of_game row.0 ≡ false
@@ -31,16 +31,16 @@ account_not_game row (account, is) = ap is_of_game is.own
 not_both : (b : Bool) → b ≡ true → b ≡ false → ⊥
 not_both b so other = let bad = sym so ∙ other in absurd cc
 
-account_by_key : (row : Row) → IsAccount row ⊎ IsGame row → is_of_account row.0 ≡ true → IsAccount row
+account_by_key : (row : Row) → IsAccount row ⊎ IsRowOfGame row → is_of_account row.0 ≡ true → IsAccount row
 account_by_key row (inl is) so = is
 account_by_key row (inr is) so = absurd (not_both (is_of_account row.0) so (game_not_account row is))
 
-game_by_key : (row : Row) → IsAccount row ⊎ IsGame row → is_of_game row.0 ≡ true → IsGame row
+game_by_key : (row : Row) → IsAccount row ⊎ IsRowOfGame row → is_of_game row.0 ≡ true → IsRowOfGame row
 game_by_key row (inl is) so = absurd (not_both (is_of_game row.0) so (account_not_game row is))
 game_by_key row (inr is) so = is
 
 -- a row is no pair that is none
-row_is_row : (row : Row) → IsAccount row ⊎ IsGame row → IsNoRow row → ⊥
+row_is_row : (row : Row) → IsAccount row ⊎ IsRowOfGame row → IsNoRow row → ⊥
 row_is_row row (inl (account, is)) none = none (AnAccount account) is
 row_is_row row (inr (number, game, is)) none = none (AGame number game) is
 
@@ -62,13 +62,14 @@ not_bad : (done rest : Pairs) (lobby : LobbyState) (key bytes : List ℕ) → Is
     → HasRows done lobby
     → find keys_order key done ≡ Some bytes → IsNoRow (key, bytes) ⊎ IsBeyond (done ++ rest) (key, bytes) → ⊥
 not_bad done rest lobby key bytes rise h found (inl none) =
-    row_is_row (key, bytes) (found_is (λ x. IsAccount x ⊎ IsGame x) key bytes done h.each found) none
+    row_is_row (key, bytes) (found_is (λ x. IsAccount x ⊎ IsRowOfGame x) key bytes done h.each found) none
 not_bad done rest lobby key bytes rise h found (inr (inl (is, before))) =
     too_many IsAccount is_of_account most_accounts done rest (key, bytes) rise found (account_begins (key, bytes) is)
     account_begins
     (subst (λ n. n ≤ most_accounts) h.accounts h.few_accounts) before
 not_bad done rest lobby key bytes rise h found (inr (inr (is, before))) =
-    too_many IsGame is_of_game most_stored done rest (key, bytes) rise found (game_begins (key, bytes) is) game_begins
+    too_many IsRowOfGame is_of_game most_stored done rest (key, bytes) rise found (game_begins (key, bytes) is)
+    game_begins
     (subst (λ n. n ≤ most_stored) h.games h.few_games) before
 
 -- a lobby that was made of all pairs of a table has loaded it
@@ -86,7 +87,7 @@ made_sized table lobby rows e h = record {
     kind = λ k d lt. (account_by_key _ (h.each k d lt), account_begins _);
     many = sym h.accounts;
   });
-  games = subst (HasCount IsGame (length lobby.shelf.games)) e (record {
+  games = subst (HasCount IsRowOfGame (length lobby.shelf.games)) e (record {
     pick = λ row. is_of_game row.0;
     kind = λ k d lt. (game_by_key _ (h.each k d lt), game_begins _);
     many = sym h.games;
@@ -97,7 +98,7 @@ made_sized table lobby rows e h = record {
 pub made_good : (table : Records) (lobby : LobbyState) (rows : Pairs) → IsAscending rows → rows ≡ map.entries table
     → HasRows rows lobby → IsGoodStore table
 made_good table lobby rows rise e h = record {
-  rows = subst (λ (x : Pairs). All (λ row. IsAccount row ⊎ IsGame row) x) e h.each;
+  rows = subst (λ (x : Pairs). All (λ row. IsAccount row ⊎ IsRowOfGame row) x) e h.each;
   none_bad = λ key is.
       let whole : rows ++ [] ≡ map.entries table = append-nil rows ∙ e in
       let found : find keys_order key rows ≡ Some is.record_of =
@@ -126,7 +127,7 @@ bad_here done rest row lobby rise h (inr (inr (is, full))) =
     let none = none_used lobby done h in
     inr (inr (
       is,
-      enough IsGame is_of_game most_stored done rest row rise (λ k d lt. game_by_key _ (h.each k d lt))
+      enough IsRowOfGame is_of_game most_stored done rest row rise (λ k d lt. game_by_key _ (h.each k d lt))
           (omega (arith, full, many, none)),
     ))
 

@@ -4,13 +4,13 @@ use Rattle.std.specs.declared.option.Option.{Option}
 use Rattle.edge_traits.specs.Pairs.{Records}
 use Rattle.edge_traits.specs.declared.keeper.Kept.TheVariants as kept
 use Rattle.lobby_load.specs.Calling.{FailsAt}
-use Rattle.lobby_load.specs.Telling.{IsFirstBad, Tells, TellsKey}
+use Rattle.lobby_load.specs.Telling.{IsFirstBad, TellsBadRecord, TellsKey}
 use Rattle.lobby_load.specs.declared.refusals.StoreFault.{StoreFault}
 use Rattle.lobby_load.specs.declared.refusals.StoreFault.TheVariants.{BadRecord, KeeperFault, WriteFault, Memory}
 
 pub tells_of : (A : Type 0) (table : Option Records) (old new : Option (List ℕ)) (key : List ℕ) (fault : StoreFault)
     → IsFirstBad table key
-    → TellsKey key old new fault → Tells {A = A} table old new (Err fault)
+    → TellsKey key old new fault → TellsBadRecord {A = A} table old new (Err fault)
 tells_of A table old new key BadRecord first told = (key, first, told)
 tells_of A table old new key KeeperFault first told = absurd told
 tells_of A table old new key WriteFault first told = (key, first, told)

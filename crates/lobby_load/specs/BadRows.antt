@@ -20,8 +20,8 @@ abbrev pub IsAccount : Row → Type 0
 IsAccount row = (account : Account) × IsAccountRow account row
 
 -- the row is that of a game
-abbrev pub IsGame : Row → Type 0
-IsGame row = (number : ℕ) × (game : StoredGame) × IsGameRow number game row
+abbrev pub IsRowOfGame : Row → Type 0
+IsRowOfGame row = (number : ℕ) × (game : StoredGame) × IsGameRow number game row
 
 -- the one key comes before the other
 abbrev pub ComesBefore : List ℕ → List ℕ → Type 0
@@ -44,7 +44,7 @@ pub record HasBefore (IsOfKind : Row → Type 0) (count : ℕ) (rows : Pairs) (k
 -- a game before which there are 10,000 games
 abbrev pub IsBeyond : Pairs → Row → Type 0
 IsBeyond rows row = (IsAccount row × HasBefore IsAccount most_accounts rows row.0)
-    ⊎ (IsGame row × HasBefore IsGame most_stored rows row.0)
+    ⊎ (IsRowOfGame row × HasBefore IsRowOfGame most_stored rows row.0)
 
 -- the key is bad: its record is no row under it, or a row beyond what a server holds
 pub record IsBad (table : Records) (key : List ℕ) : Type 0 where
@@ -59,5 +59,5 @@ pub record IsLeastBad (table : Records) (key : List ℕ) : Type 0 where
 
 -- each pair of the table is a row, and no key is bad
 pub record IsGoodStore (table : Records) : Type 0 where
-  pub rows : All (λ row. IsAccount row ⊎ IsGame row) (map.entries table)
+  pub rows : All (λ row. IsAccount row ⊎ IsRowOfGame row) (map.entries table)
   pub none_bad : (key : List ℕ) → IsBad table key → ⊥

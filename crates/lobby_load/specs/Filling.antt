@@ -12,7 +12,7 @@ use Rattle.lobby_state.specs.Registration.{with_account}
 use Rattle.lobby_state.specs.ShelfRoom.{places_taken}
 use Rattle.lobby_store.specs.Agreeing.{wanted_by}
 use Rattle.lobby_store.specs.Rows.{IsAccountRow, IsGameRow, IsNoRow}
-use Rattle.lobby_load.specs.BadRows.{IsAccount, IsGame, IsLeastBad, Row}
+use Rattle.lobby_load.specs.BadRows.{IsAccount, IsRowOfGame, IsLeastBad, Row}
 use Rattle.lobby_load.specs.Loaded.{AreSpelled, IsAtOpening}
 use Rattle.lobby_load.specs.declared.refusals.LoadRefusal.{LoadRefusal}
 use Rattle.lobby_load.specs.declared.refusals.LoadRefusal.TheVariants.{BadRecord, KeeperFault, Memory}
@@ -41,7 +41,7 @@ pub record HasRows (rows : Pairs) (lobby : LobbyState) : Type 0 where
   pub wanted : (key : List ℕ) → wanted_by lobby key ≡ find keys_order key rows
   pub opening : IsAtOpening lobby
   pub spelled : AreSpelled lobby
-  pub each : All (λ row. IsAccount row ⊎ IsGame row) rows
+  pub each : All (λ row. IsAccount row ⊎ IsRowOfGame row) rows
   pub in_order : AreInOrder lobby.shelf.games
   pub accounts : length lobby.accounts ≡ count_of is_of_account rows
   pub games : length lobby.shelf.games ≡ count_of is_of_game rows
@@ -66,7 +66,8 @@ AddsRow row old new = ((account : Account) × IsAccountRow account row × AddsAc
 -- the lobby can't take the row: it is none, or there is no room for its account or its game
 abbrev pub CannotTake : LobbyState → Row → Type 0
 CannotTake lobby row = IsNoRow row
-    ⊎ ((IsAccount row × (most_accounts ≤ length lobby.accounts)) ⊎ (IsGame row × (most_stored ≤ places_taken lobby)))
+    ⊎ ((IsAccount row × (most_accounts ≤ length lobby.accounts))
+    ⊎ (IsRowOfGame row × (most_stored ≤ places_taken lobby)))
 
 -- the one fact holds where something was added, and the other where it was refused
 abbrev pub OnTaken : Taken → Type 0 → Type 0 → Type 0

@@ -11,7 +11,7 @@ use Rattle.lobby_state.specs.Desks.{desks}
 use Rattle.lobby_state.specs.Lobby.{LobbyState, opening}
 use Rattle.lobby_store.specs.Agreeing.{wanted_by}
 use Rattle.lobby_store.specs.Carrying.{held}
-use Rattle.lobby_load.specs.BadRows.{IsAccount, IsGame, Row}
+use Rattle.lobby_load.specs.BadRows.{IsAccount, IsRowOfGame, Row}
 
 -- the lobby holds what the table holds: under each key it wants the record that stands there, and nothing where none
 -- does
@@ -47,4 +47,4 @@ pub record HasCount (IsOfKind : Row → Type 0) (count : ℕ) (rows : Pairs) : T
 -- the lobby has as many accounts, and as many stored games, as the table has rows of them
 pub record HasSizes (table : Records) (lobby : LobbyState) : Type 0 where
   pub accounts : HasCount IsAccount (length lobby.accounts) (map.entries table)
-  pub games : HasCount IsGame (length lobby.shelf.games) (map.entries table)
+  pub games : HasCount IsRowOfGame (length lobby.shelf.games) (map.entries table)

@@ -29,14 +29,14 @@ pub record IsBadTold (table : Option Records) (old new : Option (List ℕ)) : Ty
 
 -- what was written as a store was opened: nothing, unless a record is bad; the line of the least bad key; and a
 -- beginning of that line where the write failed or memory ran out at it
-abbrev pub Tells : {A : Type 0} → Option Records → Option (List ℕ) → Option (List ℕ) → Result A StoreFault
+abbrev pub TellsBadRecord : {A : Type 0} → Option Records → Option (List ℕ) → Option (List ℕ) → Result A StoreFault
     → Type 0
-Tells table old new (Ok lobby) = Appends old new []
-Tells table old new (Err BadRecord) =
+TellsBadRecord table old new (Ok lobby) = Appends old new []
+TellsBadRecord table old new (Err BadRecord) =
     (key : List ℕ) × IsFirstBad table key × Appends old new (bad_record_line key)
-Tells table old new (Err KeeperFault) = Appends old new []
-Tells table old new (Err WriteFault) = WroteFront table old new
-Tells table old new (Err Memory) = Appends old new [] ⊎ WroteFront table old new
+TellsBadRecord table old new (Err KeeperFault) = Appends old new []
+TellsBadRecord table old new (Err WriteFault) = WroteFront table old new
+TellsBadRecord table old new (Err Memory) = Appends old new [] ⊎ WroteFront table old new
 
 example_account : bad_record_line (codes "aann") ≡ codes "bad record 61616e6e\n"
 unfolding encode_with

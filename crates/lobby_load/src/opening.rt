@@ -6,7 +6,7 @@ ghost use Rattle.lobby_load.specs.BadRows.{IsGoodStore};
 ghost use Rattle.lobby_load.specs.Calling.{LoadsOnce, OpensAt};
 ghost use Rattle.lobby_load.specs.Loaded.{AreSpelled, HasLoaded, HasSizes, IsAtOpening};
 ghost use Rattle.lobby_load.specs.Refused.{IfWriteFault, OnReadFault, OnWriteFault, UnlessUnwritten, UnlessWriteFault};
-ghost use Rattle.lobby_load.specs.Telling.{Tells, TellsKey, bad_record_line};
+ghost use Rattle.lobby_load.specs.Telling.{TellsBadRecord, TellsKey, bad_record_line};
 
 use crate::loading::load;
 use crate::refusals::{LoadRefusal, StoreFault};
@@ -30,7 +30,7 @@ pub fn open_store<P: Keeper, K: Sink>(
     ensures sized { IfOk result (λ lobby. IfSome (P.table keeper.old) (λ table. HasSizes table lobby)) }
     ensures spelled { IfOk result AreSpelled }
     ensures good { IfOk result (λ lobby. IfSome (P.table keeper.old) IsGoodStore) }
-    ensures tells { Tells (P.table keeper.old) (K.written sink.old) (K.written sink.new) result }
+    ensures tells { TellsBadRecord (P.table keeper.old) (K.written sink.old) (K.written sink.new) result }
     ensures unchanged { Stays (P.table keeper.old) (P.table keeper.new) }
     ensures called { LoadsOnce (P.calls keeper.old) (P.calls keeper.new) (OpensAt result) }
     ensures keeper_cause { OnReadFault result (Rose (P.faults keeper.old) (P.faults keeper.new)) }

@@ -11,7 +11,7 @@ use Rattle.fics_words.specs.Handle.{key_of}
 use Rattle.lobby_state.specs.declared.member.Member.{Member}
 use Rattle.lobby_state.specs.Broadcast.{broadcast, heard, hears, hearing}
 use Rattle.lobby_state.specs.Lobby.{LobbyState}
-use Rattle.lobby_state.specs.Match.{is_full, with_line}
+use Rattle.lobby_state.specs.Match.{is_queue_full, member_with_line}
 use Rattle.lobby_state.specs.WellFormed.{IsWellFormed, HasSeats}
 use Rattle.lobby_state.proofs.Lists.{map-map_same, All-map_each, get-set_same}
 use Rattle.lobby_state.proofs.WellFormed.{kept}
@@ -77,7 +77,7 @@ pub not_told : (test : Member → Bool) (line : List ℕ) (xs : List Member) (i 
     → heard ≡ hears test x → heard ≡ false → xs ≡ change_at i (hearing test line) xs
 not_told test line xs i x heard e is fails =
     sym (change_at-set (hearing test line) xs i x e
-    ∙ ap (λ (b : Bool). set xs i (cond b (with_line line x) x)) (sym is ∙ fails) ∙ set-same xs i x e)
+    ∙ ap (λ (b : Bool). set xs i (cond b (member_with_line line x) x)) (sym is ∙ fails) ∙ set-same xs i x e)
 
 -- and one that hears it has it behind the others
 pub was_told : (test : Member → Bool) (line : List ℕ) (xs : List Member) (i : ℕ) (x : Member) (heard : Bool)
@@ -90,18 +90,18 @@ was_told test line xs i x heard lines more e is was reads put =
     change_at-set (λ m. record m { waiting = more }) xs i x e
     ∙ ap (λ (lines : List (List ℕ)). set xs i (record x { waiting = lines }))
     (put ∙ ap (with_one_more line) (reads x e))
-    ∙ ap (λ (b : Bool). set xs i (cond b (with_line line x) x)) (sym was ∙ is)
+    ∙ ap (λ (b : Bool). set xs i (cond b (member_with_line line x) x)) (sym was ∙ is)
     ∙ sym (change_at-set (hearing test line) xs i x e)
 
 -- a line that was put last is taken back
-pub taken_back : (line : List ℕ) (m : Member) → is_full m ≡ false
-    → record m { waiting = without_last (with_line line m).waiting } ≡ m
+pub taken_back : (line : List ℕ) (m : Member) → is_queue_full m ≡ false
+    → record m { waiting = without_last (member_with_line line m).waiting } ≡ m
 taken_back line m room =
     ap (λ (lines : List (List ℕ)). record m { waiting = lines }) (without_last-with_line line m.waiting room)
 
 -- there was room for a line that was heard
-room_heard : (test : Member → Bool) (m : Member) → hears test m ≡ true → is_full m ≡ false
-room_heard test m heard = not-true (is_full m) (and_parts (test m) (not (is_full m)) heard).1
+room_heard : (test : Member → Bool) (m : Member) → hears test m ≡ true → is_queue_full m ≡ false
+room_heard test m heard = not-true (is_queue_full m) (and_parts (test m) (not (is_queue_full m)) heard).1
 
 -- where memory ran out behind a member that was told, the members are as before
 pub undone : (test : Member → Bool) (line : List ℕ) (xs after : List Member) (i : ℕ) (x : Member) (is_told : Bool)
@@ -111,8 +111,8 @@ pub undone : (test : Member → Bool) (line : List ℕ) (xs after : List Member)
     → change_at i (λ m. record m { waiting = left }) after ≡ xs
 undone test line xs after i x is_told lines left e same told was reads taken =
     let heard : hears test x ≡ true = sym told ∙ was in
-    let fresh = with_line line x in
-    let made : after ≡ set xs i fresh = same ∙ ap (λ b. set xs i (cond b (with_line line x) x)) heard in
+    let fresh = member_with_line line x in
+    let made : after ≡ set xs i fresh = same ∙ ap (λ b. set xs i (cond b (member_with_line line x) x)) heard in
     let at : slice_get after i ≡ Some fresh =
     ap (λ (ms : List Member). slice_get ms i) made ∙ get-set_same xs i fresh (slice_get_within xs i x e) in
     let old : record fresh { waiting = left } ≡ x =
@@ -129,16 +129,16 @@ told_at test line xs after i inside is =
     let found = at_place xs i inside in
     (found.0, found.1, is ∙ change_at-set (hearing test line) xs i found.0 found.1)
 
-session_by_test : (b : Bool) (line : List ℕ) (m : Member) → (cond b (with_line line m) m).session ≡ m.session
+session_by_test : (b : Bool) (line : List ℕ) (m : Member) → (cond b (member_with_line line m) m).session ≡ m.session
 session_by_test true line m = refl
 session_by_test false line m = refl
 
-name_by_test : (b : Bool) (line : List ℕ) (m : Member) → (cond b (with_line line m) m).name ≡ m.name
+name_by_test : (b : Bool) (line : List ℕ) (m : Member) → (cond b (member_with_line line m) m).name ≡ m.name
 name_by_test true line m = refl
 name_by_test false line m = refl
 
-places_by_test : (P : Member → Type 0) (b : Bool) (line : List ℕ) (m : Member) → P m → P (with_line line m)
-    → P (cond b (with_line line m) m)
+places_by_test : (P : Member → Type 0) (b : Bool) (line : List ℕ) (m : Member) → P m → P (member_with_line line m)
+    → P (cond b (member_with_line line m) m)
 places_by_test P true line m here there = there
 places_by_test P false line m here there = here
 

@@ -16,7 +16,7 @@ use Rattle.lobby_state.specs.Broadcast.{broadcast, heard, hears, hearing}
 use Rattle.lobby_state.specs.Holds.{holds}
 use Rattle.lobby_state.specs.Hearers.{from_next, has_room, is_other, less_one_line}
 use Rattle.lobby_state.specs.Lobby.{is_session}
-use Rattle.lobby_state.specs.Match.{is_full, with_line}
+use Rattle.lobby_state.specs.Match.{is_queue_full, member_with_line}
 use Rattle.lobby_state.specs.TellChannel.{hears_channel}
 use Rattle.lobby_state.proofs.Broadcasting.{taken_back}
 
@@ -157,7 +157,7 @@ module _ (session channel : ℕ) where
 
 -- a line that reaches nobody
 unheard : (test : Member → Bool) (line : List ℕ) (m : Member) → test m ≡ false → hearing test line m ≡ m
-unheard test line m fails = ap (λ (b : Bool). cond (b && not (is_full m)) (with_line line m) m) fails
+unheard test line m fails = ap (λ (b : Bool). cond (b && not (is_queue_full m)) (member_with_line line m) m) fails
 
 pub broadcast_none : (test : Member → Bool) (line : List ℕ) → ((m : Member) → test m ≡ false) → (members : List Member)
     → broadcast test line members ≡ members
@@ -174,7 +174,7 @@ heard_cons : (test : Member → Bool) (m : Member) (members : List Member)
 heard_cons test m members = sum_by-cons (λ m. one (hears test m)) m members
 
 unheard_one : (test : Member → Bool) (m : Member) → test m ≡ false → one (hears test m) ≡ 0
-unheard_one test m fails = ap (λ (b : Bool). one (b && not (is_full m))) fails
+unheard_one test m fails = ap (λ (b : Bool). one (b && not (is_queue_full m))) fails
 
 pub heard_none : (test : Member → Bool) → ((m : Member) → test m ≡ false) → (members : List Member)
     → heard test members ≡ 0
@@ -188,8 +188,8 @@ module _ (who : ℕ) (whole rest : Member → Bool) (line : List ℕ)
     (here : (m : Member) → is_session who m ≡ true → whole m ≡ true)
     (gone : (m : Member) → is_session who m ≡ true → rest m ≡ false)
     (elsewhere : (m : Member) → is_session who m ≡ false → whole m ≡ rest m)
-    (keeps : (m : Member) → rest (with_line line m) ≡ rest m) where
-  kept : (b : Bool) (m : Member) → rest (cond b (with_line line m) m) ≡ rest m
+    (keeps : (m : Member) → rest (member_with_line line m) ≡ rest m) where
+  kept : (b : Bool) (m : Member) → rest (cond b (member_with_line line m) m) ≡ rest m
   kept true m = keeps m
   kept false m = refl
 
@@ -198,12 +198,13 @@ module _ (who : ℕ) (whole rest : Member → Bool) (line : List ℕ)
       elim (m.session == who)
       as (λ t.
       (m.session == who) ≡ t
-      → hearing rest line (cond (t && not (is_full m)) (with_line line m) m) ≡ hearing whole line m) [
+      → hearing rest line (cond (t && not (is_queue_full m)) (member_with_line line m) m) ≡ hearing whole line m) [
         | true ↦ λ same.
-            unheard rest line (cond (not (is_full m)) (with_line line m) m) (kept (not (is_full m)) m ∙ gone m same)
-            ∙ sym (ap (λ (b : Bool). cond (b && not (is_full m)) (with_line line m) m) (here m same))
+            unheard rest line (cond (not (is_queue_full m)) (member_with_line line m) m)
+            (kept (not (is_queue_full m)) m ∙ gone m same)
+            ∙ sym (ap (λ (b : Bool). cond (b && not (is_queue_full m)) (member_with_line line m) m) (here m same))
         | false ↦ λ differs.
-            ap (λ (b : Bool). cond (b && not (is_full m)) (with_line line m) m) (sym (elsewhere m differs))
+            ap (λ (b : Bool). cond (b && not (is_queue_full m)) (member_with_line line m) m) (sym (elsewhere m differs))
       ] refl
 
   pub told_twice : (members : List Member)
@@ -218,16 +219,18 @@ module _ (who : ℕ) (whole rest : Member → Bool) (line : List ℕ)
       as (λ t.
       (m.session == who) ≡ t
       → one (hears whole m)
-      ≡ one (t && not (is_full m)) + one (hears rest (cond (t && not (is_full m)) (with_line line m) m))) [
+      ≡ one (t && not (is_queue_full m))
+      + one (hears rest (cond (t && not (is_queue_full m)) (member_with_line line m) m))) [
         | true ↦ λ same.
-            let named : one (hears whole m) ≡ one (not (is_full m)) =
-            ap (λ (b : Bool). one (b && not (is_full m))) (here m same) in
+            let named : one (hears whole m) ≡ one (not (is_queue_full m)) =
+            ap (λ (b : Bool). one (b && not (is_queue_full m))) (here m same) in
             let none =
-            unheard_one rest (cond (not (is_full m)) (with_line line m) m) (kept (not (is_full m)) m ∙ gone m same) in
+            unheard_one rest (cond (not (is_queue_full m)) (member_with_line line m) m)
+            (kept (not (is_queue_full m)) m ∙ gone m same) in
             omega (arith, named, none)
         | false ↦ λ differs.
             let alike : one (hears whole m) ≡ one (hears rest m) =
-            ap (λ (b : Bool). one (b && not (is_full m))) (elsewhere m differs) in
+            ap (λ (b : Bool). one (b && not (is_queue_full m))) (elsewhere m differs) in
             omega (arith, alike)
       ] refl
 
@@ -283,8 +286,8 @@ heard_once who (m ∷ members) apart =
     ∙ elim (m.session == who)
     as (λ t.
     (m.session == who) ≡ t
-    → one (t && not (is_full m)) + heard (is_session who) members
-    ≡ one (holds (λ m. not (is_full m)) (cond t (Some m) (find (is_session who) members)))) [
+    → one (t && not (is_queue_full m)) + heard (is_session who) members
+    ≡ one (holds (λ m. not (is_queue_full m)) (cond t (Some m) (find (is_session who) members)))) [
       | true ↦ λ same. omega (arith, none_heard_behind m.session who members (eqb-true m.session who same) apart.0)
       | false ↦ λ _. omega (arith, heard_once who members apart.1)
     ] refl
@@ -293,13 +296,14 @@ heard_once who (m ∷ members) apart =
 pub room_nowhere : (who : ℕ) (members : List Member) → None ≡ position (is_session who) members
     → has_room who members ≡ false
 room_nowhere who members nowhere =
-    ap (holds (λ m. not (is_full m))) (find-missing (is_session who) members (sym nowhere))
+    ap (holds (λ m. not (is_queue_full m))) (find-missing (is_session who) members (sym nowhere))
 
 pub room_there : (who : ℕ) (members : List Member) (place : ℕ) (m : Member) (full : Bool)
     → Some place ≡ position (is_session who) members → slice_get members place ≡ Some m
-    → full ≡ is_full m → has_room who members ≡ not full
+    → full ≡ is_queue_full m → has_room who members ≡ not full
 room_there who members place m full here at is =
-    ap (holds (λ m. not (is_full m))) (find-found (is_session who) members place (sym here) ∙ at) ∙ ap not (sym is)
+    ap (holds (λ m. not (is_queue_full m))) (find-found (is_session who) members place (sym here) ∙ at)
+    ∙ ap not (sym is)
 
 -- where there is no room the line reaches nobody
 pub no_room : (who : ℕ) (line : List ℕ) (members : List Member) → AreAlone members → has_room who members ≡ false
@@ -309,11 +313,13 @@ no_room who line [] apart full = refl
 no_room who line (m ∷ members) apart full =
     elim (m.session == who)
     as (λ t.
-    (m.session == who) ≡ t → holds (λ m. not (is_full m)) (cond t (Some m) (find (is_session who) members)) ≡ false
-    → cond (t && not (is_full m)) (with_line line m) m ∷ broadcast (is_session who) line members ≡ m ∷ members) [
+    (m.session == who) ≡ t
+    → holds (λ m. not (is_queue_full m)) (cond t (Some m) (find (is_session who) members)) ≡ false
+    → cond (t && not (is_queue_full m)) (member_with_line line m) m ∷ broadcast (is_session who) line members
+    ≡ m ∷ members) [
       | true ↦ λ same there.
           λ j.
-          cond (there j) (with_line line m) m
+          cond (there j) (member_with_line line m) m
           ∷ untold_behind m.session who line members (eqb-true m.session who same) apart.0 j
       | false ↦ λ _ behind. ap (λ (ms : List Member). m ∷ ms) (no_room who line members apart.1 behind)
     ] refl full
@@ -327,18 +333,19 @@ back_as_before who line (m ∷ members) apart room =
     let told = broadcast (is_session who) line members in
     elim (m.session == who)
     as (λ t.
-    (m.session == who) ≡ t → holds (λ m. not (is_full m)) (cond t (Some m) (find (is_session who) members)) ≡ true
-    → change_first (is_session who) less_one_line (cond (t && not (is_full m)) (with_line line m) m ∷ told)
+    (m.session == who) ≡ t → holds (λ m. not (is_queue_full m)) (cond t (Some m) (find (is_session who) members)) ≡ true
+    → change_first (is_session who) less_one_line (cond (t && not (is_queue_full m)) (member_with_line line m) m ∷ told)
     ≡ m ∷ members) [
       | true ↦ λ same there.
-          ap (λ (b : Bool). change_first (is_session who) less_one_line (cond b (with_line line m) m ∷ told)) there
+          ap (λ (b : Bool). change_first (is_session who) less_one_line (cond b (member_with_line line m) m ∷ told))
+          there
           ∙ ap
           (λ (b : Bool).
-          cond b (less_one_line (with_line line m) ∷ told)
-          (with_line line m ∷ change_first (is_session who) less_one_line told))
+          cond b (less_one_line (member_with_line line m) ∷ told)
+          (member_with_line line m ∷ change_first (is_session who) less_one_line told))
           same
           ∙ (λ j.
-          taken_back line m (not-true (is_full m) there) j
+          taken_back line m (not-true (is_queue_full m) there) j
           ∷ untold_behind m.session who line members (eqb-true m.session who same) apart.0 j)
       | false ↦ λ differs behind.
           ap (λ (b : Bool). cond b (less_one_line m ∷ told) (m ∷ change_first (is_session who) less_one_line told))

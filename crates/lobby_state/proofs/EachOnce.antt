@@ -14,7 +14,7 @@ use Rattle.std.proofs.lemmas.Map.Text.{is_eq-slice_cmp}
 use Rattle.std.proofs.lemmas.Slice.Eq.{bytes_eq-Decides}
 use Rattle.fics_words.specs.Handle.{key_of}
 use Rattle.lobby_state.specs.declared.member.Member.{Member}
-use Rattle.lobby_state.specs.Who.{AreInOrder, ListsEach, is_before, with_name, with_names}
+use Rattle.lobby_state.specs.Who.{AreInOrderOfKeys, ListsEach, is_before, with_name, with_names}
 use Rattle.lobby_state.proofs.InOrder.{All-with_name, none_in_order, one_more, pairs_head, pairs_tail, stays_in_order}
 use Rattle.std.proofs.lemmas.Bool.{false_from_ne_true}
 
@@ -92,8 +92,8 @@ each_once names (member ∷ members) =
     (each_once (with_name member.name names) members))
 
 -- and in order
-all_in_order : (names : List (List ℕ)) (members : List Member) → AreInOrder names
-    → AreInOrder (with_names names members)
+all_in_order : (names : List (List ℕ)) (members : List Member) → AreInOrderOfKeys names
+    → AreInOrderOfKeys (with_names names members)
 all_in_order names [] order = order
 all_in_order names (member ∷ members) order =
     all_in_order (with_name member.name names) members (stays_in_order member.name names order)

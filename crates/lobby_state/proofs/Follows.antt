@@ -9,10 +9,10 @@ use Rattle.tables.specs.Rows.{change_first}
 use Rattle.lobby_state.specs.declared.member.Member.{Member}
 use Rattle.lobby_state.specs.Broadcast.{broadcast}
 use Rattle.lobby_state.specs.Lobby.{LobbyState}
-use Rattle.lobby_state.specs.Match.{with_line}
+use Rattle.lobby_state.specs.Match.{member_with_line}
 use Rattle.lobby_state.specs.Places.{PlaceList}
 use Rattle.lobby_state.specs.WaitingLines.{BeginsWith}
-use Rattle.lobby_state.specs.WellFormed.{AreChallengesOf, ArePartnersOf, AreSeeksOf, IsSeatOf, IsWellFormed, sessions_of}
+use Rattle.lobby_state.specs.WellFormed.{AreChallengesOf, ArePartnersOf, AreSeeksOf, IsSeatOf, IsWellFormed, sessions_in}
 use Rattle.lobby_state.proofs.Broadcasting.{IsWellFormed-broadcast}
 use Rattle.lobby_state.proofs.ChallengeRows.{AreChallengesOf-filter}
 use Rattle.lobby_state.proofs.LinesKept.{Kept, begins_same, begins_then, kept_broadcast, kept_change, one_line}
@@ -94,8 +94,10 @@ changed lobby test change alike = record {
 
 -- one member is told a line
 pub one_told : {conditions silent : Type 0} {lobby : LobbyState} (test : Member → Bool) (line : List ℕ)
-    → Follows conditions silent lobby (record lobby { members = change_first test (with_line line) lobby.members })
-one_told test line = changed _ test (with_line line) (λ m. record { same = refl; lines = (one_line line m).lines })
+    → Follows conditions silent lobby
+    (record lobby { members = change_first test (member_with_line line) lobby.members })
+one_told test line =
+    changed _ test (member_with_line line) (λ m. record { same = refl; lines = (one_line line m).lines })
 
 -- all are who pass a test
 pub all_told : {conditions silent : Type 0} {lobby : LobbyState} (test : Member → Bool) (line : List ℕ)
@@ -111,7 +113,7 @@ all_told test line = record {
 
 module _ {conditions silent : Type 0} (lobby : LobbyState) where
   pub other_challenges : (challenges : List Challenge)
-      → (conditions → IsWellFormed lobby → AreChallengesOf (sessions_of lobby.members) challenges)
+      → (conditions → IsWellFormed lobby → AreChallengesOf (sessions_in lobby.members) challenges)
       → Follows conditions silent lobby (record lobby { challenges = challenges })
   other_challenges challenges are =
       record {
@@ -125,10 +127,10 @@ module _ {conditions silent : Type 0} (lobby : LobbyState) where
       → Follows conditions silent lobby (record lobby { challenges = filter test lobby.challenges })
   fewer_challenges test =
       other_challenges (filter test lobby.challenges)
-      (λ _ h. AreChallengesOf-filter (sessions_of lobby.members) test lobby.challenges h.challenges)
+      (λ _ h. AreChallengesOf-filter (sessions_in lobby.members) test lobby.challenges h.challenges)
 
   pub other_seeks : (seeks : List Seek)
-      → (conditions → IsWellFormed lobby → AreSeeksOf (sessions_of lobby.members) seeks)
+      → (conditions → IsWellFormed lobby → AreSeeksOf (sessions_in lobby.members) seeks)
       → Follows conditions silent lobby (record lobby { seeks = seeks })
   other_seeks seeks are =
       record {
@@ -139,7 +141,7 @@ module _ {conditions silent : Type 0} (lobby : LobbyState) where
       }
 
   pub other_partners : (partners : PartnerLists)
-      → (conditions → IsWellFormed lobby → ArePartnersOf (sessions_of lobby.members) partners)
+      → (conditions → IsWellFormed lobby → ArePartnersOf (sessions_in lobby.members) partners)
       → Follows conditions silent lobby (record lobby { partners = partners })
   other_partners partners are =
       record {

@@ -11,7 +11,7 @@ use Rattle.std.proofs.lemmas.List.Kept.{AllPairs-cons}
 use Rattle.std.proofs.lemmas.List.MinMax.{ranks_by}
 use Rattle.std.proofs.lemmas.List.Sorted.{All-permutation, IsPermutation-cons, IsPermutation-middle, IsPermutation-refl, IsPermutation-trans}
 use Rattle.fics_words.specs.Handle.{key_of}
-use Rattle.lobby_state.specs.Who.{AreInOrder, is_before, with_name}
+use Rattle.lobby_state.specs.Who.{AreInOrderOfKeys, is_before, with_name}
 
 -- of any two keys one comes before the other, or they are one
 keys_rank : IsStrictWeakOrder is_before
@@ -46,8 +46,9 @@ abbrev NotBehind : List ℕ → List ℕ → Type 0
 NotBehind one another = is_before another one ≡ false
 
 order_by : (b : Bool) (name other : List ℕ) (names : List (List ℕ)) → is_before name other ≡ b
-    → AreInOrder (other ∷ names)
-    → AreInOrder (with_name name names) → AreInOrder (if b then name ∷ other ∷ names else other ∷ with_name name names)
+    → AreInOrderOfKeys (other ∷ names)
+    → AreInOrderOfKeys (with_name name names)
+    → AreInOrderOfKeys (if b then name ∷ other ∷ names else other ∷ with_name name names)
 order_by true name other names e order rest =
     let first : NotBehind name other = keys_rank.one_way name other e in
     AllPairs-cons NotBehind name (other ∷ names)
@@ -59,12 +60,13 @@ order_by false name other names e order rest =
     AllPairs-cons NotBehind other (with_name name names)
     (All-with_name (NotBehind other) name names e (pairs_head NotBehind other names order)) rest
 
-pub stays_in_order : (name : List ℕ) (names : List (List ℕ)) → AreInOrder names → AreInOrder (with_name name names)
+pub stays_in_order : (name : List ℕ) (names : List (List ℕ)) → AreInOrderOfKeys names
+    → AreInOrderOfKeys (with_name name names)
 stays_in_order name [] order = AllPairs-cons NotBehind name [] (All-nil (NotBehind name)) order
 stays_in_order name (other ∷ names) order =
     order_by (is_before name other) name other names refl order
     (stays_in_order name names (pairs_tail NotBehind other names order))
 
 -- no handle at all is in order
-pub none_in_order : AreInOrder []
+pub none_in_order : AreInOrderOfKeys []
 none_in_order i j d before inside = absurd (omega (arith, inside))

@@ -8,7 +8,7 @@ use Rattle.lobby_state.specs.declared.member.Member.{Member}
 use Rattle.lobby_state.specs.Holds.{holds}
 use Rattle.lobby_state.specs.KeptAway.{IsUnheard, KeepAway}
 use Rattle.lobby_state.specs.Lobby.{LobbyState, member_of, named}
-use Rattle.lobby_state.specs.Match.{is_full, match_effect}
+use Rattle.lobby_state.specs.Match.{is_queue_full, match_effect}
 use Rattle.lobby_state.specs.NameList.{censors}
 use Rattle.lobby_state.specs.Play.{play_effect}
 use Rattle.lobby_state.specs.Tell.{tell_effect}
@@ -34,7 +34,7 @@ tell_refused : (lobby : LobbyState) (session : ℕ) (to text : List ℕ) (member
     → censors (Some member) other ≡ true → first_cause (tell_effect lobby session to text).causes ≡ Some Refuses
 tell_refused lobby session to text member other one two listed =
     first_refused (member_of lobby session) (named lobby to) member other
-    ((holds is_full (named lobby to), QueueFull) ∷ []) one two listed
+    ((holds is_queue_full (named lobby to), QueueFull) ∷ []) one two listed
 
 unheard : (lobby : LobbyState) (session : ℕ) (to : List ℕ) (member other : Member)
     → member_of lobby session ≡ Some member → named lobby to ≡ Some other

@@ -12,30 +12,30 @@ use Rattle.lobby_state.specs.Pairing.{are_partners, lack_partner, pairing_of}
 use Rattle.lobby_state.specs.Planned.{IsPlanned}
 use Rattle.lobby_state.specs.ShelfRoom.{is_shelf_full}
 use Rattle.lobby_state.specs.StartPlan.{start_plan}
-use Rattle.lobby_state.specs.WellFormed.{AreChallengesOf, IsWellFormed, IsBetweenMembers, sessions_of}
+use Rattle.lobby_state.specs.WellFormed.{AreChallengesOf, IsWellFormed, IsBetweenMembers, sessions_in}
 use Rattle.lobby_state.proofs.Lists.{find-passes}
 use Rattle.lobby_state.proofs.WellFormed.{find-has}
 use Rattle.seek_match.specs.Matches.{is_between, is_to}
 
 offer_from-is : (lobby : LobbyState) (session : ℕ) (other : Option Member) (offer : Challenge)
     → offer_from lobby session other ≡ Some offer
-    → AreChallengesOf (sessions_of lobby.members) lobby.challenges
-    → (offer.to ≡ session) × IsBetweenMembers (sessions_of lobby.members) offer
+    → AreChallengesOf (sessions_in lobby.members) lobby.challenges
+    → (offer.to ≡ session) × IsBetweenMembers (sessions_in lobby.members) offer
 offer_from-is lobby session None offer e h = cc
 offer_from-is lobby session (Some other) offer e h =
     let p : Challenge → Bool = is_between other.session session in (
       eqb-true offer.to session (and_parts _ _ (find-passes p lobby.challenges offer e)).1,
-      find-has (IsBetweenMembers (sessions_of lobby.members)) p lobby.challenges offer h.members e,
+      find-has (IsBetweenMembers (sessions_in lobby.members)) p lobby.challenges offer h.members e,
     )
 
 offer_of-is : (lobby : LobbyState) (session : ℕ) (name : Option (List ℕ)) (offer : Challenge)
     → offer_of lobby session name ≡ Some offer
-    → AreChallengesOf (sessions_of lobby.members) lobby.challenges
-    → (offer.to ≡ session) × IsBetweenMembers (sessions_of lobby.members) offer
+    → AreChallengesOf (sessions_in lobby.members) lobby.challenges
+    → (offer.to ≡ session) × IsBetweenMembers (sessions_in lobby.members) offer
 offer_of-is lobby session None offer e h =
     let p : Challenge → Bool = is_to None session in (
       eqb-true offer.to session (find-passes p lobby.challenges offer e),
-      find-has (IsBetweenMembers (sessions_of lobby.members)) p lobby.challenges offer h.members e,
+      find-has (IsBetweenMembers (sessions_in lobby.members)) p lobby.challenges offer h.members e,
     )
 offer_of-is lobby session (Some key) offer e h = offer_from-is lobby session (named lobby key) offer e h
 

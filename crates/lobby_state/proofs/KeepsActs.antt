@@ -15,7 +15,7 @@ use Rattle.lobby_state.specs.Channel.{change_of}
 use Rattle.lobby_state.specs.Holds.{holds}
 use Rattle.lobby_state.specs.Decline.{declined}
 use Rattle.lobby_state.specs.Enter.{entrant_of}
-use Rattle.lobby_state.specs.Fetch.{emptied}
+use Rattle.lobby_state.specs.Fetch.{member_emptied}
 use Rattle.lobby_state.specs.GoBoard.{first_against}
 use Rattle.lobby_state.specs.Going.{leaving_member}
 use Rattle.lobby_state.specs.Keeps.{KeepsWhere, TellsDesks}
@@ -25,10 +25,10 @@ use Rattle.lobby_state.specs.Partner.{is_asked_by}
 use Rattle.lobby_state.specs.Places.{switching, turning}
 use Rattle.lobby_state.specs.Ptell.{confided}
 use Rattle.lobby_state.specs.Shout.{hears_shouts, shouted}
-use Rattle.lobby_state.specs.Tell.{told}
+use Rattle.lobby_state.specs.Tell.{has_told}
 use Rattle.lobby_state.specs.TellChannel.{channel_told, hears_channel}
 use Rattle.lobby_state.specs.Var.{with_var}
-use Rattle.lobby_state.specs.WellFormed.{IsWellFormed, sessions_of}
+use Rattle.lobby_state.specs.WellFormed.{IsWellFormed, sessions_in}
 use Rattle.lobby_state.specs.Withdraw.{own_of, withdrawn}
 use Rattle.lobby_state.proofs.Follows.{Alike, Follows, all_told, and_then, changed, fewer_challenges, for_store, if_there, one_told, other_channels, other_seeks, stays}
 use Rattle.lobby_state.proofs.KeepsBye.{formed_going, formed_gone}
@@ -88,7 +88,7 @@ keeps_act lobby by (Match to terms) = keeps (challenged_follows lobby by to term
 keeps_act lobby by (Post terms) = keeps (posted_follows lobby by terms) (λ _. tt)
 keeps_act lobby by (Unpost number) =
     keeps (other_seeks lobby _ (λ _ h.
-    AreSeeksOf-filter (sessions_of lobby.members) (λ seek. not (is_by by number seek)) lobby.seeks h.seeks)) (λ _. tt)
+    AreSeeksOf-filter (sessions_in lobby.members) (λ seek. not (is_by by number seek)) lobby.seeks h.seeks)) (λ _. tt)
 keeps_act lobby by (Var which on) =
     keeps
     (changed lobby (is_session by) (with_var which on) (λ m. record { same = refl; lines = begins_same m.waiting }))
@@ -97,7 +97,8 @@ keeps_act lobby by (OnList which name on) =
     keeps (changed lobby (is_session by) (λ m. (listing which name on m).after) (λ m. listed which _ m)) (λ _. tt)
 keeps_act lobby by (Tell to text) =
     keeps
-    (if_there (λ caller. told lobby caller to text) (member_of lobby by) stays (λ caller _. one_told (is_named to) _))
+    (if_there (λ caller. has_told lobby caller to text) (member_of lobby by) stays
+    (λ caller _. one_told (is_named to) _))
     (λ _. tt)
 keeps_act lobby by (Shout text) =
     keeps (if_there (λ caller. shouted lobby by caller text) (member_of lobby by) stays
@@ -137,7 +138,7 @@ keeps_act lobby by (FindGame number) = keeps stays (λ _. tells_found_game lobby
 keeps_act lobby by Where = keeps stays (places_at_desks lobby by)
 keeps_act lobby by Fetch = record {
   kept = record {
-    formed = λ _ _ h. member_changed lobby (is_session by) emptied (λ _. refl) (λ _. refl) (λ _ seats. seats) h;
+    formed = λ _ _ h. member_changed lobby (is_session by) member_emptied (λ _. refl) (λ _. refl) (λ _ seats. seats) h;
     games = refl;
     tells = places_at_desks lobby by;
   };

@@ -9,7 +9,7 @@ use Rattle.lobby_state.specs.declared.member.Member.{Member}
 use Rattle.lobby_state.specs.Bye.{bye_effect}
 use Rattle.lobby_state.specs.Going.{going_effect, leaving_member}
 use Rattle.lobby_state.specs.Lobby.{LobbyState, is_session, without_challenges, without_partner, without_seeks}
-use Rattle.lobby_state.specs.WellFormed.{IsWellFormed, AreChallengesOf, AreSeeksOf, ArePartnersOf, HasSeats, IsShelfOf, sessions_of}
+use Rattle.lobby_state.specs.WellFormed.{IsWellFormed, AreChallengesOf, AreSeeksOf, ArePartnersOf, HasSeats, IsShelfOf, sessions_in}
 use Rattle.lobby_state.proofs.Lists.{map-filter}
 use Rattle.lobby_state.proofs.ChallengeRows.{AreChallengesOf-without}
 use Rattle.lobby_state.proofs.SeekRows.{AreSeeksOf-without}
@@ -32,15 +32,15 @@ formed_going lobby session h =
     (member_changed lobby (is_session session) leaving_member (λ _. refl) (λ _. refl) (λ _ seats. seats) h)) in
     resumes_gone (without_partner session left) (λ request. not (eqb request.by session))
     (with_partners left (without left.partners session)
-    (ArePartnersOf-forgotten (sessions_of left.members) session left.partners formed.partners) formed)
+    (ArePartnersOf-forgotten (sessions_in left.members) session left.partners formed.partners) formed)
 
 pub formed_gone : (lobby : LobbyState) (session : ℕ) → IsWellFormed lobby
     → IsWellFormed (bye_effect lobby session).after
 formed_gone lobby session h =
     let others : Member → Bool = λ m. not (is_session session m) in
     let stays : ℕ → Bool = λ s. not (eqb s session) in
-    let left : List ℕ = filter stays (sessions_of lobby.members) in
-    let sessions : sessions_of (filter others lobby.members) ≡ left =
+    let left : List ℕ = filter stays (sessions_in lobby.members) in
+    let sessions : sessions_in (filter others lobby.members) ≡ left =
     map-filter (λ (m : Member). m.session) stays lobby.members in
     record {
       accounts = h.accounts;
@@ -49,15 +49,15 @@ formed_gone lobby session h =
       handles = AllPairs-filter (λ a b. key_of a.name ≢ key_of b.name) others lobby.members h.handles;
       challenges =
           subst (λ (ss : List ℕ). AreChallengesOf ss (without_challenges_of session lobby.challenges)) (sym sessions)
-          (AreChallengesOf-without (sessions_of lobby.members) session lobby.challenges h.challenges);
+          (AreChallengesOf-without (sessions_in lobby.members) session lobby.challenges h.challenges);
       seeks = subst (λ (ss : List ℕ). AreSeeksOf ss (without_seeks_of session lobby.seeks)) (sym sessions)
-          (AreSeeksOf-without (sessions_of lobby.members) session lobby.seeks h.seeks);
+          (AreSeeksOf-without (sessions_in lobby.members) session lobby.seeks h.seeks);
       partners = subst (λ (ss : List ℕ). ArePartnersOf ss (without lobby.partners session)) (sym sessions)
-          (ArePartnersOf-without (sessions_of lobby.members) session lobby.partners h.partners);
+          (ArePartnersOf-without (sessions_in lobby.members) session lobby.partners h.partners);
       games = h.games;
       serials = h.serials;
       places = All-filter others (HasSeats lobby.games) lobby.members h.places;
       shelf = subst (λ (ss : List ℕ). IsShelfOf ss (without_requests session lobby.shelf)) (sym sessions)
-          (IsShelfOf-without (sessions_of lobby.members) session lobby.shelf h.shelf);
+          (IsShelfOf-without (sessions_in lobby.members) session lobby.shelf h.shelf);
       counted = record { few = h.counted.few; room = h.counted.room; orders = h.counted.orders };
     }

@@ -16,7 +16,7 @@ use Rattle.login_handles.specs.declared.check.Check.TheVariants.{NeedPassword as
 use Rattle.lobby_state.specs.Enter.{enter_effect, entrant_of, guest_in, names_taken, new_member, welcome, welcomed, with_new_member}
 use Rattle.lobby_state.specs.Keeps.{TellsDesks}
 use Rattle.lobby_state.specs.Lobby.{LobbyState, has_handle, holder_of, is_session, member_of}
-use Rattle.lobby_state.specs.WellFormed.{IsWellFormed, AreChallengesOf, AreSeeksOf, ArePartnersOf, IsSeatOf, IsShelfOf, HasSeats, sessions_of}
+use Rattle.lobby_state.specs.WellFormed.{IsWellFormed, AreChallengesOf, AreSeeksOf, ArePartnersOf, IsSeatOf, IsShelfOf, HasSeats, sessions_in}
 use Rattle.lobby_state.proofs.Follows.{Follows, stays}
 use Rattle.lobby_state.proofs.LinesKept.{kept_behind}
 use Rattle.lobby_state.proofs.Lists.{find-none}
@@ -38,7 +38,7 @@ with_one_more : (lobby : LobbyState) (session : ℕ) (name : List ℕ) → lengt
     → member_of lobby session ≡ None
     → holder_of lobby (key_of name) ≡ None → IsWellFormed lobby → IsWellFormed (with_new_member lobby session name)
 with_one_more lobby session name few alone free h =
-    let others : List ℕ = sessions_of lobby.members in
+    let others : List ℕ = sessions_in lobby.members in
     let all : List ℕ = others ++ session ∷ [] in
     let more = map-append (λ (m : Member). m.session) lobby.members (new_member session name ∷ []) in
     let wider = Contains-append_left others (session ∷ []) in

@@ -8,7 +8,7 @@ use Rattle.lobby_state.specs.Holds.{holds}
 use Rattle.lobby_state.specs.Lobby.{LobbyState, is_named, is_session, member_of, named}
 use Rattle.lobby_state.specs.Match.{challenged, match_effect}
 use Rattle.lobby_state.specs.Terms.{AreTerms}
-use Rattle.lobby_state.specs.WellFormed.{IsBetweenMembers, sessions_of}
+use Rattle.lobby_state.specs.WellFormed.{IsBetweenMembers, sessions_in}
 use Rattle.lobby_state.proofs.ChallengeRows.{AreChallengesOf-with}
 use Rattle.lobby_state.proofs.Follows.{Follows, and_then, if_there, one_told, other_challenges, stays}
 use Rattle.lobby_state.proofs.Lists.{find-contained, find-passes}
@@ -18,7 +18,7 @@ use Rattle.seek_match.specs.Matches.{with_challenge}
 new_between : (lobby : LobbyState) (session : ℕ) (to : List ℕ) (terms : Terms) (caller other : Member) → AreTerms terms
     → member_of lobby session ≡ Some caller → named lobby to ≡ Some other
     → holds (is_session session) (named lobby to) ≡ false
-    → IsBetweenMembers (sessions_of lobby.members) (record { from = caller.session; to = other.session; terms = terms })
+    → IsBetweenMembers (sessions_in lobby.members) (record { from = caller.session; to = other.session; terms = terms })
 new_between lobby session to terms caller other bounds first second apart =
     let own : caller.session ≡ session =
     eqb-true caller.session session (find-passes (is_session session) lobby.members caller first) in
@@ -40,6 +40,6 @@ challenged_follows lobby session to terms =
     let challenge : Challenge = record { from = caller.session; to = other.session; terms = terms } in
     and_then
     (other_challenges lobby (with_challenge challenge lobby.challenges) (λ fits h.
-    AreChallengesOf-with (sessions_of lobby.members) challenge lobby.challenges
+    AreChallengesOf-with (sessions_in lobby.members) challenge lobby.challenges
     (new_between lobby session to terms caller other fits.0 first second (or_parts _ _ fits.1.1.1.0).0) h.challenges))
     (one_told (is_named to) _)))

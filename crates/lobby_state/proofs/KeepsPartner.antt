@@ -9,7 +9,7 @@ use Rattle.lobby_state.specs.Holds.{holds}
 use Rattle.lobby_state.specs.Keeps.{TellsDesks}
 use Rattle.lobby_state.specs.Lobby.{LobbyState, is_named, is_session, member_of, named, partner_in}
 use Rattle.lobby_state.specs.Partner.{ask_effect, asked_reply, has_partner, partnered, single}
-use Rattle.lobby_state.specs.WellFormed.{sessions_of}
+use Rattle.lobby_state.specs.WellFormed.{sessions_in}
 use Rattle.lobby_state.proofs.Follows.{Follows, all_told, and_then, if_there, other_partners, stays}
 use Rattle.lobby_state.proofs.KeepsPost.{is_there}
 use Rattle.lobby_state.proofs.Lists.{find-contained}
@@ -29,7 +29,7 @@ partnered_follows lobby session to =
     let alone = no_partner (partner_in lobby session) (partner_in lobby session) refl free.0 in
     let other_alone = no_partner (partner_in lobby other.session) (partner_in lobby other.session) refl
     (sym (ap (λ (o : Option Member). holds (has_partner lobby) o) second) ∙ free.1) in
-    ArePartnersOf-asking (sessions_of lobby.members) lobby.partners session other.session
+    ArePartnersOf-asking (sessions_in lobby.members) lobby.partners session other.session
     (is_there lobby session caller first)
     (find-contained (λ (m : Member). m.session) (is_named to) lobby.members other second) alone other_alone h.partners))
     (all_told (is_session other.session) _)))
@@ -47,5 +47,5 @@ single_follows lobby session =
     if_there (λ partner. single lobby session (Some caller) partner) (partner_in lobby session) stays (λ partner _.
     and_then
     (other_partners lobby (parted lobby.partners session)
-    (λ _ h. ArePartnersOf-parted (sessions_of lobby.members) session lobby.partners h.partners))
+    (λ _ h. ArePartnersOf-parted (sessions_in lobby.members) session lobby.partners h.partners))
     (all_told (is_session partner) _)))

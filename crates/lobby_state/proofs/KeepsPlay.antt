@@ -10,7 +10,7 @@ use Rattle.lobby_state.specs.Planned.{IsPlanned}
 use Rattle.lobby_state.specs.Play.{play_effect, seeking_in, terms_sought}
 use Rattle.lobby_state.specs.ShelfRoom.{is_shelf_full}
 use Rattle.lobby_state.specs.StartPlan.{start_plan}
-use Rattle.lobby_state.specs.WellFormed.{IsByMember, IsWellFormed, sessions_of}
+use Rattle.lobby_state.specs.WellFormed.{IsByMember, IsWellFormed, sessions_in}
 use Rattle.lobby_state.proofs.Lists.{find-passes}
 use Rattle.lobby_state.proofs.StartPlans.{CanPlan, alone_together, planned_where}
 use Rattle.lobby_state.proofs.WellFormed.{find-has}
@@ -35,7 +35,7 @@ planned_by lobby session number (Some accepting) (Some seek) (Some offering) Non
 planned_by lobby session number (Some accepting) (Some seek) (Some offering) (Some slot) first second third found a b c
     d few room h =
     let by =
-    find-has (IsByMember (sessions_of lobby.members)) (has_number number) lobby.seeks seek h.seeks.members second in
+    find-has (IsByMember (sessions_in lobby.members)) (has_number number) lobby.seeks seek h.seeks.members second in
     let together = alone_together lobby offering accepting seek.terms by.for_two in
     let theirs : offering.session ≡ seek.by =
     eqb-true _ _ (find-passes (is_session seek.by) lobby.members offering third) in

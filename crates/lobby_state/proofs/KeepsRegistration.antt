@@ -11,7 +11,7 @@ use Rattle.lobby_state.specs.declared.member.Member.{Member}
 use Rattle.lobby_state.specs.Holds.{holds}
 use Rattle.lobby_state.specs.Lobby.{LobbyState, has_account, is_registered, member_of}
 use Rattle.lobby_state.specs.Registration.{loading_effect, registered, registration_effect, with_account, with_new_account}
-use Rattle.lobby_state.specs.WellFormed.{IsWellFormed, sessions_of}
+use Rattle.lobby_state.specs.WellFormed.{IsWellFormed, sessions_in}
 use Rattle.lobby_shelf.specs.Shelf.{account_order}
 use Rattle.lobby_state.proofs.ShelfRows.{AreCounted-account, AreCounted-new_account, IsShelfOf-ordered}
 use Rattle.lobby_state.proofs.Follows.{Follows, if_there, stays}
@@ -44,7 +44,7 @@ with_new_one lobby account free room h =
     let counted = AreCounted-new_account lobby.accounts account lobby.games lobby.started lobby.shelf h.counted in
     assumption (
       more.accounts,
-      IsShelfOf-ordered (sessions_of lobby.members) lobby.shelf (account_order lobby.shelf account) refl h.shelf,
+      IsShelfOf-ordered (sessions_in lobby.members) lobby.shelf (account_order lobby.shelf account) refl h.shelf,
       counted,
       h,
     )

@@ -23,9 +23,9 @@ use Rattle.lobby_state.specs.declared.member.Member.{Member}
 use Rattle.lobby_state.specs.Holds.{holds}
 use Rattle.lobby_state.specs.Lobby.{LobbyState, free_slot, has_handle, is_named, is_session, member_of, most_games, named}
 use Rattle.lobby_state.specs.Pairing.{needs_partners}
-use Rattle.lobby_state.specs.Planned.{AreApart, CanAsk, FitsVariant, IsMember, IsPlanned}
-use Rattle.lobby_state.specs.Resume.{Resuming, as_they_sat, asking, going_on, has_asked_for, meant, playing_as, resume_at, resume_effect, resuming_causes, resuming_of, resuming_plan, seated_as, would_start}
-use Rattle.lobby_state.specs.WellFormed.{IsWellFormed, sessions_of}
+use Rattle.lobby_state.specs.Planned.{ArePlayersApart, CanAsk, FitsVariant, IsMember, IsPlanned}
+use Rattle.lobby_state.specs.Resume.{Resuming, as_they_sat, asking_to_resume, resuming_at, has_asked_for, meant, playing_as, resume_at, resume_effect, resuming_causes, resuming_of, resuming_plan, seated_as, would_start}
+use Rattle.lobby_state.specs.WellFormed.{IsWellFormed, sessions_in}
 use Rattle.lobby_state.proofs.KeepsResumed.{used-stored}
 use Rattle.lobby_state.proofs.Lists.{find-contained, find-passes, find-step}
 use Rattle.lobby_state.proofs.StartPlans.{CanPlan, all_of_four, all_of_two, free-is, pairs_of_four, pairs_of_two}
@@ -147,7 +147,7 @@ seat_session lobby name here = ap (λ found. (seated_as lobby.accounts name foun
 
 seat_member : (lobby : LobbyState) (name : List ℕ) → IsHere lobby name → IsMember lobby (seat lobby name)
 seat_member lobby name here =
-    subst (Contains (sessions_of lobby.members)) (sym (seat_session lobby name here))
+    subst (Contains (sessions_in lobby.members)) (sym (seat_session lobby name here))
     (find-contained (λ m. m.session) (has_handle (key_of name)) lobby.members here.member here.found)
 
 seats_apart : (lobby : LobbyState) (one other : List ℕ) → IsHere lobby one → IsHere lobby other
@@ -175,7 +175,7 @@ names_apart lobby one other differ = λ same.
 record AreFit (lobby : LobbyState) (variant : Variant) (names : List (List ℕ)) : Type 0 where
   names_are : map (λ player. player.name) (seat_list (as_they_sat lobby names variant)) ≡ names
   members : All (IsMember lobby) (seat_list (as_they_sat lobby names variant))
-  apart : AreApart (as_they_sat lobby names variant)
+  apart : ArePlayersApart (as_they_sat lobby names variant)
   boards : FitsVariant variant (as_they_sat lobby names variant)
 
 -- two at one board
@@ -417,8 +417,9 @@ start_by lobby session key r (Some slot) are starts found free few h =
 
 resuming_by : (lobby : LobbyState) (session : ℕ) (key : List ℕ) (r : Resuming) (starts : Bool)
     → AreMeant lobby session key r → would_start lobby r.caller r.row ≡ starts
-    → NoneHolds (cond starts (going_on lobby r.row) (asking lobby r.caller r.other r.row)).causes → IsWellFormed lobby
-    → IsPlanned lobby (cond starts (going_on lobby r.row) (asking lobby r.caller r.other r.row)).reply
+    → NoneHolds (cond starts (resuming_at lobby r.row) (asking_to_resume lobby r.caller r.other r.row)).causes
+    → IsWellFormed lobby
+    → IsPlanned lobby (cond starts (resuming_at lobby r.row) (asking_to_resume lobby r.caller r.other r.row)).reply
 resuming_by lobby session key r true are e allowed h =
     let desk = or_parts (is_none (free_slot lobby)) (nat_le most_games lobby.started) allowed.1.1.0 in
     start_by lobby session key r (free_slot lobby) are e refl desk.0 desk.1 h

@@ -19,11 +19,11 @@ use Rattle.lobby_state.specs.declared.acts.Plan.TheVariants.{Resume, Ask}
 use Rattle.lobby_state.specs.declared.member.Member.{Member}
 use Rattle.lobby_state.specs.Keeps.{KeepsPlan}
 use Rattle.lobby_state.specs.Lobby.{LobbyState, is_session, lines_in}
-use Rattle.lobby_state.specs.Match.{with_line}
+use Rattle.lobby_state.specs.Match.{member_with_line}
 use Rattle.lobby_state.specs.Planned.{CanAsk, CanResume}
 use Rattle.channel_feed.specs.Waiting.{with_line as with_one_more}
-use Rattle.lobby_state.specs.Resumed.{ask_line, asked_of, resumed, with_lines}
-use Rattle.lobby_state.specs.WellFormed.{HasSeats, IsShelfOf, IsWellFormed, sessions_of}
+use Rattle.lobby_state.specs.Resumed.{ask_line, asked_of, lobby_resumed, with_lines}
+use Rattle.lobby_state.specs.WellFormed.{HasSeats, IsShelfOf, IsWellFormed, sessions_in}
 use Rattle.lobby_state.proofs.DesksUsed.{desks_used-taken}
 use Rattle.lobby_state.proofs.KeepsStart.{formed_at, own_started}
 use Rattle.lobby_state.proofs.Lists.{All-change_first, get-set_other, map-change_first_same}
@@ -86,7 +86,7 @@ IsShelfOf-taken_off sessions shelf number h = record {
 
 formed_resumed : (lobby : LobbyState) (desk serial number : ℕ) (terms : Terms) (seats : Seats)
     → CanResume lobby desk serial number terms seats
-    → IsWellFormed lobby → IsWellFormed (resumed lobby desk serial number terms seats)
+    → IsWellFormed lobby → IsWellFormed (lobby_resumed lobby desk serial number terms seats)
 formed_resumed lobby desk serial number terms seats can h =
     let more =
     desks_used-taken lobby.games (desk - 1) (record { serial = serial; terms = terms; seats = seats }) can.is_free in
@@ -97,7 +97,7 @@ formed_resumed lobby desk serial number terms seats can h =
     let orders = h.counted.orders in
     formed_at lobby (taken_off lobby.shelf number) desk serial terms seats can.is_desk can.is_free can.is_next
     can.are_terms can.boards
-    (IsShelfOf-taken_off (sessions_of lobby.members) lobby.shelf number h.shelf)
+    (IsShelfOf-taken_off (sessions_in lobby.members) lobby.shelf number h.shelf)
     (record {
       few = omega (arith, few, next);
       room = omega (arith, more, less, room);
@@ -131,7 +131,7 @@ by_members false sessions requests new there h = All-push (λ request. Contains 
 formed_asked : (lobby : LobbyState) (from to number : ℕ) → CanAsk lobby from to number → IsWellFormed lobby
     → IsWellFormed (asked_of lobby from to number)
 formed_asked lobby from to number can h =
-    let line = with_line (ask_line lobby from) in
+    let line = member_with_line (ask_line lobby from) in
     kept lobby (change_first (is_session to) line lobby.members) lobby.challenges lobby.games lobby.started
     (asked lobby.shelf from number)
     (map-change_first_same (λ m. m.session) (is_session to) line (λ _. refl) lobby.members)
@@ -141,7 +141,7 @@ formed_asked lobby from to number can h =
     (record {
       sound = IsShelf-asked lobby.shelf from number can.lies h.shelf.sound;
       members =
-          by_members (asks lobby.shelf from number) (sessions_of lobby.members) lobby.shelf.requests (record {
+          by_members (asks lobby.shelf from number) (sessions_in lobby.members) lobby.shelf.requests (record {
             by = from;
             game = number;
           }) can.by h.shelf.members;
@@ -160,12 +160,12 @@ keeps_asked lobby from to number can = record {
 -- lines put in place of those of a member, which are these with one more, are that line put behind them
 pub lines-put : (line : List ℕ) (lines : List (List ℕ)) (p : Member → Bool) (members : List Member)
     → lines ≡ with_one_more line (lines_in (find p members))
-    → change_first p (with_lines lines) members ≡ change_first p (with_line line) members
+    → change_first p (with_lines lines) members ≡ change_first p (member_with_line line) members
 lines-put line lines p [] e = refl
 lines-put line lines p (member ∷ members) e =
     elim (p member) as (λ b. lines ≡ with_one_more line (lines_in (cond b (Some member) (find p members)))
     → cond b (with_lines lines member ∷ members) (member ∷ change_first p (with_lines lines) members)
-    ≡ cond b (with_line line member ∷ members) (member ∷ change_first p (with_line line) members)) [
+    ≡ cond b (member_with_line line member ∷ members) (member ∷ change_first p (member_with_line line) members)) [
       | true ↦ λ own. ap (λ ls. with_lines ls member ∷ members) own
       | false ↦ λ later. ap (λ ms. member ∷ ms) (lines-put line lines p members later)
     ] e

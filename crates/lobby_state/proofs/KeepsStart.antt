@@ -25,8 +25,8 @@ use Rattle.lobby_state.specs.Lobby.{LobbyState}
 use Rattle.lobby_state.specs.Places.{PlaceList, is_full}
 use Rattle.lobby_state.specs.Pairing.{needs_partners}
 use Rattle.lobby_state.specs.Planned.{CanStart, FitsVariant}
-use Rattle.lobby_state.specs.Start.{in_seat, is_by_seated, is_settled, seated}
-use Rattle.lobby_state.specs.WellFormed.{AreCounted, IsShelfOf, IsWellFormed, IsSeatOf, IsStarted, HasSeats, sessions_of}
+use Rattle.lobby_state.specs.Start.{in_seat, is_by_seated, is_settled, lobby_seated}
+use Rattle.lobby_state.specs.WellFormed.{AreCounted, IsShelfOf, IsWellFormed, IsSeatOf, IsStarted, HasSeats, sessions_in}
 use Rattle.lobby_state.proofs.ChallengeRows.{AreChallengesOf-filter}
 use Rattle.lobby_state.proofs.Lists.{map-map_same, All-map_each, find-passes, get-set_same, get-set_other}
 use Rattle.lobby_shelf.specs.Shelf.{ShelfState, is_by_seated as asks_seated}
@@ -124,13 +124,13 @@ pub formed_at : (lobby : LobbyState) (shelf : ShelfState) (desk serial : ℕ) (t
     → IsDesk desk
     → slice_get lobby.games (desk - 1) ≡ Some None → serial ≡ lobby.started + 1 → AreTerms terms
     → FitsVariant terms.variant seats
-    → IsShelfOf (sessions_of lobby.members) shelf
+    → IsShelfOf (sessions_in lobby.members) shelf
     → AreCounted lobby.accounts (set lobby.games (desk - 1) (Some (record {
       serial = serial;
       terms = terms;
       seats = seats;
     }))) serial shelf
-    → IsWellFormed lobby → IsWellFormed (seated (record lobby { shelf = shelf }) desk serial terms seats)
+    → IsWellFormed lobby → IsWellFormed (lobby_seated (record lobby { shelf = shelf }) desk serial terms seats)
 formed_at lobby shelf desk serial terms seats is_desk is_free is_next are_terms fits stored counted h =
     let game : ListedGame = record { serial = serial; terms = terms; seats = seats } in
     let games = set lobby.games (desk - 1) (Some game) in
@@ -163,7 +163,7 @@ formed_at lobby shelf desk serial terms seats is_desk is_free is_next are_terms 
     lobby.members)
     (map-map_same (λ m. key_of m.name) sit
     (λ m. ap key_of (in_seat_name desk serial (seat_number m.session (seat_list seats)) m)) lobby.members)
-    (AreChallengesOf-filter (sessions_of lobby.members) (λ c. not (is_settled lobby.members seats c)) lobby.challenges
+    (AreChallengesOf-filter (sessions_in lobby.members) (λ c. not (is_settled lobby.members seats c)) lobby.challenges
     h.challenges)
     (length-set lobby.games (desk - 1) (Some game) ∙ h.games)
     (All-set (IsStarted serial) lobby.games (desk - 1) (Some game) new rising)
@@ -176,7 +176,7 @@ formed_at lobby shelf desk serial terms seats is_desk is_free is_next are_terms 
 
 formed_seated : (lobby : LobbyState) (desk serial : ℕ) (terms : Terms) (seats : Seats)
     → CanStart lobby desk serial terms seats
-    → IsWellFormed lobby → IsWellFormed (seated lobby desk serial terms seats)
+    → IsWellFormed lobby → IsWellFormed (lobby_seated lobby desk serial terms seats)
 formed_seated lobby desk serial terms seats can h =
     let more =
     desks_used-taken lobby.games (desk - 1) (record { serial = serial; terms = terms; seats = seats }) can.is_free in

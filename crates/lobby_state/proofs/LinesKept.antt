@@ -7,9 +7,9 @@ use Rattle.channel_feed.specs.Waiting.{is_full as are_full}
 use Rattle.tables.specs.Rows.{change_first}
 use Rattle.lobby_state.specs.declared.member.Member.{Member}
 use Rattle.lobby_state.specs.Broadcast.{broadcast, hearing, hears}
-use Rattle.lobby_state.specs.Fetch.{emptied}
+use Rattle.lobby_state.specs.Fetch.{member_emptied}
 use Rattle.lobby_state.specs.Lobby.{is_session, lines_in}
-use Rattle.lobby_state.specs.Match.{with_line}
+use Rattle.lobby_state.specs.Match.{member_with_line}
 use Rattle.lobby_state.specs.WaitingLines.{BeginsWith}
 
 pub begins_same : (lines : List (List ℕ)) → BeginsWith lines lines
@@ -38,7 +38,7 @@ line_by : (full : Bool) (line : List ℕ) (lines : List (List ℕ))
 line_by true line lines = begins_same lines
 line_by false line lines = record { more = line ∷ []; is = refl }
 
-pub one_line : (line : List ℕ) (m : Member) → Longer m (with_line line m)
+pub one_line : (line : List ℕ) (m : Member) → Longer m (member_with_line line m)
 one_line line m = record { session = refl; lines = line_by (are_full m.waiting) line m.waiting }
 
 -- the lines of a member that is found
@@ -82,7 +82,7 @@ pub kept_change : (p : Member → Bool) (f : Member → Member) → ((m : Member
 kept_change p f longer session [] = begins_same []
 kept_change p f longer session (x ∷ xs) = change_by (p x) p f longer session x xs (kept_change p f longer session xs)
 
-hears_by : (b : Bool) (line : List ℕ) (m : Member) → Longer m (cond b (with_line line m) m)
+hears_by : (b : Bool) (line : List ℕ) (m : Member) → Longer m (cond b (member_with_line line m) m)
 hears_by true line m = one_line line m
 hears_by false line m = same_lines m m refl refl
 
@@ -133,17 +133,17 @@ away_by true x y old e = absurd (let bad : true ≡ false = e in cc)
 away_by false x y old e = begins_same (lines_in old)
 
 fetch_by : (b : Bool) (by session : ℕ) (x : Member) (xs : List Member) → is_session by x ≡ b → by ≢ session
-    → Kept session xs (change_first (is_session by) emptied xs)
-    → Kept session (x ∷ xs) (cond b (emptied x ∷ xs) (x ∷ change_first (is_session by) emptied xs))
+    → Kept session xs (change_first (is_session by) member_emptied xs)
+    → Kept session (x ∷ xs) (cond b (member_emptied x ∷ xs) (x ∷ change_first (is_session by) member_emptied xs))
 fetch_by true by session x xs e differ rest =
-    away_by (is_session session x) x (emptied x) (find (is_session session) xs)
+    away_by (is_session session x) x (member_emptied x) (find (is_session session) xs)
     (false_from_ne_true (is_session session x)
     (λ own. differ (sym (eqb-true x.session by e) ∙ eqb-true x.session session own)))
 fetch_by false by session x xs e differ rest =
-    kept_cons session x x xs (change_first (is_session by) emptied xs) (same_lines x x refl refl) rest
+    kept_cons session x x xs (change_first (is_session by) member_emptied xs) (same_lines x x refl refl) rest
 
 pub kept_fetched : (by session : ℕ) (xs : List Member) → by ≢ session
-    → Kept session xs (change_first (is_session by) emptied xs)
+    → Kept session xs (change_first (is_session by) member_emptied xs)
 kept_fetched by session [] differ = begins_same []
 kept_fetched by session (x ∷ xs) differ =
     fetch_by (is_session by x) by session x xs refl differ (kept_fetched by session xs differ)

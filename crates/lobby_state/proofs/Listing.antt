@@ -9,13 +9,13 @@ use Rattle.lobby_state.specs.declared.member.Member.{Member}
 use Rattle.lobby_state.specs.declared.acts.name_list.WhichList.{WhichList}
 use Rattle.lobby_state.specs.declared.acts.name_list.WhichList.TheVariants.{Censor, Noplay}
 use Rattle.lobby_state.specs.Lobby.{is_session}
-use Rattle.lobby_state.specs.NameList.{change_among, list_causes, listing, names_on, naming, with_names_on}
+use Rattle.lobby_state.specs.NameList.{change_among, list_causes, listing, names_on, names_with, with_names_on}
 use Rattle.lobby_state.proofs.Lent.{at_place, change_at-set, change_first-found, change_first-missing, set-same}
 use Rattle.tables.specs.Rows.{change_at}
 use Rattle.tables.proofs.Placed.{find-found, find-missing, position-within}
 
 -- an adding may need memory, and a removing doesn't
-memory_is : (names : List (List ℕ)) (key : List ℕ) (on : Bool) → (naming names key on).memory ≡ on
+memory_is : (names : List (List ℕ)) (key : List ℕ) (on : Bool) → (names_with names key on).memory ≡ on
 memory_is names key true = refl
 memory_is names key false = refl
 
@@ -40,7 +40,7 @@ taken : (members : List Member) (session : ℕ) (which : WhichList) (key : List 
     (new : List (List ℕ))
     (result : Result (Unit {0}) Fail) → position (is_session session) members ≡ Some place
     → slice_get members place ≡ Some m
-    → Takes (naming (names_on which m) key on) (names_on which m) new result
+    → Takes (names_with (names_on which m) key on) (names_on which m) new result
     → Takes (change_among session which key on members) members (change_at place (with_names_on which new) members)
     result
 taken members session which key on place m new (Ok reply) here at t = (
@@ -71,10 +71,10 @@ pub takes_there : (members : List Member) (session : ℕ) (which : WhichList) (k
     (old new : List (List ℕ))
     (result : Result (Unit {0}) Fail) → Some place ≡ position (is_session session) members
     → ((m : Member) → slice_get members place ≡ Some m → old ≡ names_on which m)
-    → Takes (naming old key on) old new result
+    → Takes (names_with old key on) old new result
     → Takes (change_among session which key on members) members (change_at place (with_names_on which new) members)
     result
 takes_there members session which key on place old new result here reads t =
     let found = at_place members place (position-within (is_session session) members place (sym here)) in
     taken members session which key on place found.0 new result (sym here) found.1
-    (subst (λ (names : List (List ℕ)). Takes (naming names key on) names new result) (reads found.0 found.1) t)
+    (subst (λ (names : List (List ℕ)). Takes (names_with names key on) names new result) (reads found.0 found.1) t)

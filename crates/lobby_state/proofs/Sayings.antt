@@ -8,7 +8,7 @@ use Rattle.lobby_state.specs.declared.acts.LobbyReply.TheVariants.{Told}
 use Rattle.lobby_state.specs.declared.member.Member.{Member}
 use Rattle.lobby_state.specs.Lobby.{LobbyState, is_session, member_of, partner_in}
 use Rattle.lobby_state.specs.Ptell.{confided, is_partner_full, ptell_effect}
-use Rattle.lobby_state.specs.Said.{said}
+use Rattle.lobby_state.specs.Said.{spoken_line}
 use Rattle.lobby_state.specs.Shout.{hears_shouts, shout_effect, shouted}
 
 -- the act, by the member
@@ -26,7 +26,7 @@ pub shouts : (lobby new : LobbyState) (session count : ℕ) (text line : List �
     → count ≡ heard (hears_shouts session) lobby.members → line ≡ text
     → new
     ≡ record lobby
-    { members = broadcast (hears_shouts session) (said caller.name (codes " shouts: ") line) lobby.members }
+    { members = broadcast (hears_shouts session) (spoken_line caller.name (codes " shouts: ") line) lobby.members }
     → Takes (shout_effect lobby session text) lobby new (Ok (Told count))
 shouts lobby new session count text line caller own hearers same went =
     let here : Takes (shouting lobby session (Some caller) text) lobby new (Ok (Told count)) = (
@@ -53,7 +53,8 @@ pub confides : (lobby new : LobbyState) (session partner : ℕ) (text line : Lis
     → new
     ≡ record lobby {
       members =
-          broadcast (is_session partner) (said caller.name (codes " (your partner) tells you: ") line) lobby.members;
+          broadcast (is_session partner)
+          (spoken_line caller.name (codes " (your partner) tells you: ") line) lobby.members;
     }
     → Takes (ptell_effect lobby session text) lobby new (Ok (Told 1))
 confides lobby new session partner text line caller own other room same went =

@@ -12,7 +12,7 @@ use Rattle.fics_words.specs.declared.seats.Seats.{Seats}
 use Rattle.tables.specs.Rows.{change_first}
 use Rattle.lobby_state.specs.declared.member.Member.{Member}
 use Rattle.lobby_state.specs.Lobby.{is_session}
-use Rattle.lobby_state.specs.Planned.{AreApart}
+use Rattle.lobby_state.specs.Planned.{ArePlayersApart}
 use Rattle.lobby_state.specs.Players.{change_players}
 use Rattle.lobby_state.specs.Start.{in_seat}
 use Rattle.lobby_state.proofs.Lists.{map-map_same}
@@ -160,7 +160,7 @@ in_seat_session desk serial (Some number) m = refl
 
 -- the players of a game sit down, one after another
 pub all_seated : (desk serial : ℕ) (seats : Seats) (members : List Member)
-    → IsDistinct eqb (map (λ (m : Member). m.session) members) → AreApart seats
+    → IsDistinct eqb (map (λ (m : Member). m.session) members) → ArePlayersApart seats
     → change_players (λ m. in_seat desk serial (seat_number m.session (seat_list seats)) m) (seat_list seats) members
     ≡ map (λ m. in_seat desk serial (seat_number m.session (seat_list seats)) m) members
 all_seated desk serial seats members apart differ =

@@ -6,7 +6,7 @@ use Rattle.fics_words.specs.declared.seats.Seats.{Seats}
 use Rattle.seek_match.specs.declared.challenge.Challenge.{Challenge}
 use Rattle.lobby_state.specs.Lobby.{LobbyState}
 use Rattle.lobby_state.specs.SettledOffers.{IsGiversWithOthers, SettleOffers}
-use Rattle.lobby_state.specs.Start.{is_by_seated, is_giver, is_seated, is_settled, seated}
+use Rattle.lobby_state.specs.Start.{is_by_seated, is_giver, is_seated, is_settled, lobby_seated}
 use Rattle.seek_match.specs.declared.seek.Seek.{Seek}
 use Rattle.lobby_state.proofs.Lists.{Contains-filter}
 use Rattle.std.proofs.lemmas.Bool.{not-true}
@@ -35,7 +35,7 @@ neither false true giver other e h = cc
 neither false false giver other e h = refl
 
 pub settle_offers : (lobby : LobbyState) (desk serial : ℕ) (terms : Terms) (seats : Seats)
-    → SettleOffers lobby seats (seated lobby desk serial terms seats)
+    → SettleOffers lobby seats (lobby_seated lobby desk serial terms seats)
 settle_offers lobby desk serial terms seats =
     let plays : ℕ → Bool = is_seated seats in
     let giver : ℕ → Bool = is_giver lobby.members in

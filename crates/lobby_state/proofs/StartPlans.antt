@@ -24,8 +24,8 @@ use Rattle.lobby_state.specs.declared.member.Member.{Member}
 use Rattle.lobby_state.specs.Holds.{holds}
 use Rattle.lobby_state.specs.Lobby.{LobbyState, free_slot, most_games, gives, is_session, member_of, partner_in}
 use Rattle.lobby_state.specs.Pairing.{are_partners, beside, lack_partner, member_at, needs_partners, paired}
-use Rattle.lobby_state.specs.Planned.{AreApart, FitsVariant, IsMember, IsPlanned, SitCrosswise}
-use Rattle.lobby_state.specs.StartPlan.{has_white, opponents_of, player_of, second_board, start_plan}
+use Rattle.lobby_state.specs.Planned.{ArePlayersApart, FitsVariant, IsMember, IsPlanned, SitCrosswise}
+use Rattle.lobby_state.specs.StartPlan.{has_white, opponents_of, player_of, second_pair, start_plan}
 use Rattle.lobby_state.specs.ShelfRoom.{is_shelf_full, places_taken}
 use Rattle.lobby_state.specs.Terms.{AreTerms}
 use Rattle.lobby_state.specs.WellFormed.{IsWellFormed}
@@ -139,7 +139,10 @@ all_of_four P a b c d ha hb hc hd =
 -- ---- the seats of two and of four members
 
 two_apart : (accounts : List Account) (a b : Member) → Apart a b
-    → AreApart (record { first = record { white = player_of accounts a; black = player_of accounts b }; second = None })
+    → ArePlayersApart (record {
+      first = record { white = player_of accounts a; black = player_of accounts b };
+      second = None;
+    })
 two_apart accounts a b ab = record {
   sessions = pairs_of_two (λ one another. one.session ≢ another.session) _ _ ab.sessions;
   handles = pairs_of_two (λ one another. key_of one.name ≢ key_of another.name) _ _ ab.handles;
@@ -147,7 +150,7 @@ two_apart accounts a b ab = record {
 
 four_apart : (accounts : List Account) (a b c d : Member) → Apart a b → Apart a c → Apart a d → Apart b c → Apart b d
     → Apart c d
-    → AreApart (record {
+    → ArePlayersApart (record {
       first = record { white = player_of accounts a; black = player_of accounts b };
       second = Some (record { white = player_of accounts c; black = player_of accounts d });
     })
@@ -163,7 +166,7 @@ four_apart accounts a b c d ab ac ad bc bd cd = record {
 -- what a plan says of its seats
 record AreFit (lobby : LobbyState) (variant : Variant) (seats : Seats) : Type 0 where
   members : All (IsMember lobby) (seat_list seats)
-  apart : AreApart seats
+  apart : ArePlayersApart seats
   boards : FitsVariant variant seats
   partners : SitCrosswise lobby seats.first seats.second
 
@@ -335,7 +338,7 @@ seats_fit : (lobby : LobbyState) (variant : Variant) (white : Bool) (offering ac
     → IsThere lobby offering → IsThere lobby accepting → offering.session ≢ accepting.session → IsWellFormed lobby
     → AreFit lobby variant (record {
       first = opponents_of lobby.accounts white offering accepting;
-      second = second_board lobby.accounts white second first;
+      second = second_pair lobby.accounts white second first;
     })
 seats_fit lobby Chess white offering accepting None None one two away full own other opposed h =
     two_fit lobby Chess white offering accepting refl own other

@@ -16,13 +16,13 @@ use Rattle.lobby_state.specs.declared.acts.Plan.TheVariants.{Start, Clear, Resum
 use Rattle.lobby_state.specs.declared.member.Member.{Member}
 use Rattle.lobby_state.specs.Acts.{lobby_after, lobby_effect}
 use Rattle.lobby_state.specs.Clear.{off_desk}
-use Rattle.lobby_state.specs.Fetch.{emptied}
+use Rattle.lobby_state.specs.Fetch.{member_emptied}
 use Rattle.lobby_state.specs.Lobby.{LobbyState, is_session, lines_in, waiting_of}
-use Rattle.lobby_state.specs.Match.{with_line}
+use Rattle.lobby_state.specs.Match.{member_with_line}
 use Rattle.lobby_state.specs.Plans.{committed}
 use Rattle.lobby_state.specs.Resumed.{ask_line}
 use Rattle.lobby_state.specs.Start.{in_seat}
-use Rattle.lobby_state.specs.WaitingLines.{BeginsWith, Deed, Stays, after_all, all_given, lines_given}
+use Rattle.lobby_state.specs.WaitingLines.{BeginsWith, Deed, StaysInHall, after_all, all_given, lines_given}
 use Rattle.lobby_state.proofs.KeepsActs.{keeps_act}
 use Rattle.lobby_state.proofs.LinesKept.{Kept, Longer, begins_same, begins_then, kept_change, kept_map, one_line, same_lines}
 use Rattle.lobby_state.proofs.Refusals.{holds_after}
@@ -38,19 +38,21 @@ kept_after lobby by session act f b =
 
 -- and none waits after its own Fetch
 emptied_by : (b : Bool) (session : ℕ) (x : Member) (xs : List Member) → is_session session x ≡ b
-    → lines_in (find (is_session session) (change_first (is_session session) emptied xs)) ≡ []
-    → lines_in (find (is_session session) (cond b (emptied x ∷ xs) (x ∷ change_first (is_session session) emptied xs)))
+    → lines_in (find (is_session session) (change_first (is_session session) member_emptied xs)) ≡ []
+    → lines_in
+    (find (is_session session)
+    (cond b (member_emptied x ∷ xs) (x ∷ change_first (is_session session) member_emptied xs)))
     ≡ []
 emptied_by true session x xs e rest =
-    ap (λ (b : Bool). lines_in (cond b (Some (emptied x)) (find (is_session session) xs))) e
+    ap (λ (b : Bool). lines_in (cond b (Some (member_emptied x)) (find (is_session session) xs))) e
 emptied_by false session x xs e rest =
     ap (λ (b : Bool).
-    lines_in (cond b (Some x) (find (is_session session) (change_first (is_session session) emptied xs))))
+    lines_in (cond b (Some x) (find (is_session session) (change_first (is_session session) member_emptied xs))))
     e
     ∙ rest
 
 pub none_waits : (session : ℕ) (xs : List Member)
-    → lines_in (find (is_session session) (change_first (is_session session) emptied xs)) ≡ []
+    → lines_in (find (is_session session) (change_first (is_session session) member_emptied xs)) ≡ []
 none_waits session [] = refl
 none_waits session (x ∷ xs) = emptied_by (is_session session x) session x xs refl (none_waits session xs)
 
@@ -86,7 +88,7 @@ given_by false lobby by session act later e b h =
     begins_then (waiting_of lobby session) (waiting_of (lobby_after lobby by act) session) later
     (kept_after lobby by session act (λ _ same. differs by session e same) b) h
 
-pub all_kept : (lobby : LobbyState) (session : ℕ) (deeds : List Deed) → All (Stays session) deeds
+pub all_kept : (lobby : LobbyState) (session : ℕ) (deeds : List Deed) → All (StaysInHall session) deeds
     → BeginsWith (waiting_of lobby session)
     (all_given lobby session deeds ++ waiting_of (after_all lobby deeds) session)
 all_kept lobby session [] stays = begins_same (waiting_of lobby session)
@@ -97,8 +99,8 @@ all_kept lobby session (deed ∷ deeds) stays =
     subst (BeginsWith (waiting_of lobby session))
     (sym (append_assoc (if deed.by == session then lines_given lobby session deed.act else []) rest last))
     (given_by (deed.by == session) lobby deed.by session deed.act (rest ++ last) refl
-    (λ bye same. All-head (Stays session) deed deeds stays same bye)
-    (all_kept next session deeds (All-tail (Stays session) deed deeds stays)))
+    (λ bye same. All-head (StaysInHall session) deed deeds stays same bye)
+    (all_kept next session deeds (All-tail (StaysInHall session) deed deeds stays)))
 
 -- carrying out a plan touches no line
 seat_lines : (desk serial : ℕ) (number : Option ℕ) (m : Member) → Longer m (in_seat desk serial number m)
@@ -122,7 +124,8 @@ kept_plan lobby session (Start desk serial terms seats) game is_cleared = kept_s
 kept_plan lobby session (Resume desk serial number terms seats) game is_cleared =
     kept_start lobby session desk serial seats
 kept_plan lobby session (Ask from to number) game is_cleared =
-    kept_change (is_session to) (with_line (ask_line lobby from)) (one_line (ask_line lobby from)) session lobby.members
+    kept_change (is_session to) (member_with_line (ask_line lobby from)) (one_line (ask_line lobby from)) session
+    lobby.members
 kept_plan lobby session (Clear by desk serial) None true = kept_clear lobby session desk
 kept_plan lobby session (Clear by desk serial) (Some game) true = kept_clear lobby session desk
 kept_plan lobby session (Clear by desk serial) game false =

@@ -13,7 +13,7 @@ use Rattle.lobby_state.specs.declared.member.Member.{Member}
 use Rattle.lobby_state.specs.Places.{AreAtDesks}
 use Rattle.lobby_state.specs.Desks.{IsDesk, desks}
 use Rattle.lobby_state.specs.Lobby.{LobbyState, most_members, opening, is_session, member_of, places_in, places_of}
-use Rattle.lobby_state.specs.WellFormed.{IsWellFormed, IsBetweenMembers, AreChallengesOf, IsByMember, AreSeeksOf, AreCounted, IsShelfOf, IsAskedByMember, IsLinkOfMembers, ArePartnersOf, IsSeatOf, IsStarted, HasSeats, sessions_of}
+use Rattle.lobby_state.specs.WellFormed.{IsWellFormed, IsBetweenMembers, AreChallengesOf, IsByMember, AreSeeksOf, AreCounted, IsShelfOf, IsAskedByMember, IsLinkOfMembers, ArePartnersOf, IsSeatOf, IsStarted, HasSeats, sessions_in}
 use Rattle.lobby_state.proofs.Lists.{map-change_first_same, All-change_first, AllPairs-same, find-step}
 use Rattle.lobby_state.proofs.ChallengeRows.{AreChallengesOf-filter}
 use Rattle.lobby_state.proofs.SeekRows.{AreSeeksOf-filter, has_numbers_left}
@@ -33,9 +33,9 @@ pub kept : (lobby : LobbyState) (members : List Member) (challenges : List Chall
     (started : ℕ) (shelf : ShelfState)
     → map (λ m. m.session) members ≡ map (λ m. m.session) lobby.members
     → map (λ m. key_of m.name) members ≡ map (λ m. key_of m.name) lobby.members
-    → AreChallengesOf (sessions_of lobby.members) challenges
+    → AreChallengesOf (sessions_in lobby.members) challenges
     → length games ≡ desks → All (IsStarted started) games → All (HasSeats games) members
-    → IsShelfOf (sessions_of lobby.members) shelf → AreCounted lobby.accounts games started shelf
+    → IsShelfOf (sessions_in lobby.members) shelf → AreCounted lobby.accounts games started shelf
     → IsWellFormed lobby
     → IsWellFormed
     (record lobby { members = members; challenges = challenges; games = games; started = started; shelf = shelf })
@@ -68,7 +68,7 @@ member_changed lobby test change session name seats h =
 
 -- there are other challenges
 pub with_challenges : (lobby : LobbyState) (challenges : List Challenge)
-    → AreChallengesOf (sessions_of lobby.members) challenges → IsWellFormed lobby
+    → AreChallengesOf (sessions_in lobby.members) challenges → IsWellFormed lobby
     → IsWellFormed (record lobby { challenges = challenges })
 with_challenges lobby challenges are h = assumption (are, h)
 
@@ -77,18 +77,18 @@ pub challenges_gone : (lobby : LobbyState) (test : Challenge → Bool) → IsWel
     → IsWellFormed (record lobby { challenges = filter test lobby.challenges })
 challenges_gone lobby test h =
     with_challenges lobby (filter test lobby.challenges)
-    (AreChallengesOf-filter (sessions_of lobby.members) test lobby.challenges h.challenges) h
+    (AreChallengesOf-filter (sessions_in lobby.members) test lobby.challenges h.challenges) h
 
 -- there are at most as many sessions as members
-pub members_few : (lobby : LobbyState) → IsWellFormed lobby → length (sessions_of lobby.members) ≤ 256
+pub members_few : (lobby : LobbyState) → IsWellFormed lobby → length (sessions_in lobby.members) ≤ 256
 members_few lobby h = omega (arith, length-map lobby.members (λ (m : Member). m.session), h.hall)
 
 -- there is always a number left for a seek
 pub has_number_left : (lobby : LobbyState) → IsWellFormed lobby → length lobby.seeks < 65535
-has_number_left lobby h = has_numbers_left (sessions_of lobby.members) lobby.seeks (members_few lobby h) h.seeks
+has_number_left lobby h = has_numbers_left (sessions_in lobby.members) lobby.seeks (members_few lobby h) h.seeks
 
 -- there are other seeks
-pub with_seeks : (lobby : LobbyState) (seeks : List Seek) → AreSeeksOf (sessions_of lobby.members) seeks
+pub with_seeks : (lobby : LobbyState) (seeks : List Seek) → AreSeeksOf (sessions_in lobby.members) seeks
     → IsWellFormed lobby
     → IsWellFormed (record lobby { seeks = seeks })
 with_seeks lobby seeks are h = assumption (are, h)
@@ -97,7 +97,7 @@ with_seeks lobby seeks are h = assumption (are, h)
 pub seeks_gone : (lobby : LobbyState) (test : Seek → Bool) → IsWellFormed lobby
     → IsWellFormed (record lobby { seeks = filter test lobby.seeks })
 seeks_gone lobby test h =
-    with_seeks lobby (filter test lobby.seeks) (AreSeeksOf-filter (sessions_of lobby.members) test lobby.seeks h.seeks)
+    with_seeks lobby (filter test lobby.seeks) (AreSeeksOf-filter (sessions_in lobby.members) test lobby.seeks h.seeks)
     h
 
 -- others are in the channels
@@ -106,7 +106,7 @@ pub with_channels : (lobby : LobbyState) (channels : List Membership) → IsWell
 with_channels lobby channels h = assumption h
 
 -- there are other requests and links of partners
-pub with_partners : (lobby : LobbyState) (partners : PartnerLists) → ArePartnersOf (sessions_of lobby.members) partners
+pub with_partners : (lobby : LobbyState) (partners : PartnerLists) → ArePartnersOf (sessions_in lobby.members) partners
     → IsWellFormed lobby
     → IsWellFormed (record lobby { partners = partners })
 with_partners lobby partners are h = assumption (are, h)
@@ -114,7 +114,7 @@ with_partners lobby partners are h = assumption (are, h)
 -- some requests to resume go
 pub resumes_gone : (lobby : LobbyState) (test : Request → Bool) → IsWellFormed lobby
     → IsWellFormed (record lobby { shelf = record lobby.shelf { requests = filter test lobby.shelf.requests } })
-resumes_gone lobby test h = assumption (IsShelfOf-fewer (sessions_of lobby.members) lobby.shelf test h.shelf, h)
+resumes_gone lobby test h = assumption (IsShelfOf-fewer (sessions_in lobby.members) lobby.shelf test h.shelf, h)
 
 -- another save order can be made
 pub one_more_order : (lobby : LobbyState) → IsWellFormed lobby → lobby.shelf.made + 1 < 2 ^ 64

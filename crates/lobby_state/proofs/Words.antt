@@ -24,7 +24,7 @@ use Rattle.lobby_state.specs.Partner.{partner_words}
 use Rattle.lobby_state.specs.Pending.{pending_words, side_words}
 use Rattle.lobby_state.specs.Post.{seek_words}
 use Rattle.lobby_state.specs.Resumed.{resume_words}
-use Rattle.lobby_state.specs.Said.{IsText, IsWording, said}
+use Rattle.lobby_state.specs.Said.{IsText, IsWording, spoken_line}
 use Rattle.lobby_state.specs.Sought.{sought_words}
 use Rattle.lobby_state.specs.Stored.{names_words, stored_words}
 use Rattle.lobby_state.specs.TellChannel.{channel_words}
@@ -196,7 +196,7 @@ IsPrinted-link_words name h =
 
 -- a line of what a member says is a line
 pub IsLine-said : (name wording text : List ℕ) → IsHandle name → IsWording wording → IsText text
-    → IsLine (said name wording text)
+    → IsLine (spoken_line name wording text)
 IsLine-said name wording text h w t =
     let join = IsPrinted-append in
     let front = join 17 30 _ _ (IsPrinted-handle name h) (record { short = w.0; shows = w.1 }) in

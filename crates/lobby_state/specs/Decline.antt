@@ -8,7 +8,7 @@ use Rattle.lobby_state.specs.declared.member.Member.{Member}
 use Rattle.lobby_state.specs.Accept.{offer_of}
 use Rattle.lobby_state.specs.Broadcast.{broadcast}
 use Rattle.lobby_state.specs.Lobby.{LobbyState, is_session, member_of}
-use Rattle.lobby_state.specs.Said.{said}
+use Rattle.lobby_state.specs.Said.{spoken_line}
 use Rattle.seek_match.specs.declared.challenge.Challenge.{Challenge}
 use Rattle.seek_match.specs.Matches.{without_between}
 
@@ -19,7 +19,7 @@ declined lobby None offer = lobby
 declined lobby (Some caller) None = lobby
 declined lobby (Some caller) (Some offer) = record lobby {
   members =
-      broadcast (is_session offer.from) (said caller.name (codes " declines your challenge.") []) lobby.members;
+      broadcast (is_session offer.from) (spoken_line caller.name (codes " declines your challenge.") []) lobby.members;
   challenges = without_between offer.from offer.to lobby.challenges;
 }
 

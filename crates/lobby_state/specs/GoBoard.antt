@@ -25,13 +25,13 @@ example_boards : map other_seat (0 ∷ 1 ∷ 2 ∷ 3 ∷ []) ≡ 1 ∷ 0 ∷ 3 �
 example_boards = refl
 
 -- the opponent of a seat, which is the player in the other seat of the same board
-abbrev pub opponent_of : ℕ → Seats → Option Player
-opponent_of seat seats = slice_get (seat_list seats) (other_seat seat)
+abbrev pub opponent_seated : ℕ → Seats → Option Player
+opponent_seated seat seats = slice_get (seat_list seats) (other_seat seat)
 
 -- the player of this session is the seat's opponent in the game, if there is a game
 abbrev pub plays_against : ℕ → ℕ → Option ListedGame → Bool
 plays_against session seat None = false
-plays_against session seat (Some game) = holds (plays_as session) (opponent_of seat game.seats)
+plays_against session seat (Some game) = holds (plays_as session) (opponent_seated seat game.seats)
 
 -- the place is against the player of this session
 abbrev pub is_against : LobbyState → ℕ → Place → Bool

@@ -6,7 +6,7 @@ use Rattle.channel_feed.specs.Waiting.{without_last}
 use Rattle.lobby_state.specs.declared.member.Member.{Member}
 use Rattle.lobby_state.specs.Holds.{holds}
 use Rattle.lobby_state.specs.Lobby.{is_session}
-use Rattle.lobby_state.specs.Match.{is_full}
+use Rattle.lobby_state.specs.Match.{is_queue_full}
 
 -- the row puts another than the session's player into the channel
 abbrev pub is_other : ℕ → ℕ → Membership → Bool
@@ -20,7 +20,7 @@ from_next session channel (row ∷ rows) =
 
 -- the session is a member's for whom fewer than 512 lines wait
 abbrev pub has_room : ℕ → List Member → Bool
-has_room session members = holds (λ member. not (is_full member)) (find (is_session session) members)
+has_room session members = holds (λ member. not (is_queue_full member)) (find (is_session session) members)
 
 -- the member without the line that was put last for it
 abbrev pub less_one_line : Member → Member

@@ -25,17 +25,17 @@ abbrev pub is_closed : Member → Bool
 is_closed member = not member.wants.matches
 
 -- no more lines can wait for the member
-abbrev pub is_full : Member → Bool
-is_full member = are_full member.waiting
+abbrev pub is_queue_full : Member → Bool
+is_queue_full member = are_full member.waiting
 
 -- the member with one more line that waits for it, where fewer than 512 do
-abbrev pub with_line : List ℕ → Member → Member
-with_line line member = record member { waiting = with_one_more line member.waiting }
+abbrev pub member_with_line : List ℕ → Member → Member
+member_with_line line member = record member { waiting = with_one_more line member.waiting }
 
 -- the lobby where the member of that name has made this challenge, and whom the key names is told
 abbrev pub challenged_by : LobbyState → List ℕ → List ℕ → Challenge → LobbyState
 challenged_by lobby name to challenge = record lobby {
-  members = change_first (is_named to) (with_line (challenge_words name challenge.terms)) lobby.members;
+  members = change_first (is_named to) (member_with_line (challenge_words name challenge.terms)) lobby.members;
   challenges = with_challenge challenge lobby.challenges;
 }
 
@@ -55,7 +55,7 @@ match_causes lobby session caller other terms =
     (is_closed other || avoids (Some caller) other, Refuses) ∷
     (is_simul_of_four pairing, NotInVariant) ∷
     (lack_partner lobby pairing, NoPartner) ∷
-    (is_full other, QueueFull) ∷ []
+    (is_queue_full other, QueueFull) ∷ []
 
 -- a challenge is refused where the session isn't a member; where nobody has the handle, or that member is going; where
 -- it is the session itself, or in bughouse its partner; where one of the two has a place and gives no simul, whatever
@@ -73,7 +73,7 @@ match_effect lobby session to terms =
           (holds is_closed (named lobby to) || holds (avoids (member_of lobby session)) (named lobby to), Refuses) ∷
           (holds is_simul_of_four pairing, NotInVariant) ∷
           (holds (lack_partner lobby) pairing, NoPartner) ∷
-          (holds is_full (named lobby to), QueueFull) ∷ [];
+          (holds is_queue_full (named lobby to), QueueFull) ∷ [];
       memory = true;
       reply = Done;
       after = challenged lobby (member_of lobby session) (named lobby to) to terms;

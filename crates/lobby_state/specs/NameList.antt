@@ -35,14 +35,14 @@ with_names_on Censor names member = record member { censor = names }
 with_names_on Noplay names member = record member { noplay = names }
 
 -- the names afterwards: with this one where it says on, and else without it
-abbrev pub naming : List (List ℕ) → List ℕ → Bool → Effect (List (List ℕ)) (Unit {0})
-naming names key true = adding names key
-naming names key false = removing names key
+abbrev pub names_with : List (List ℕ) → List ℕ → Bool → Effect (List (List ℕ)) (Unit {0})
+names_with names key true = adding names key
+names_with names key false = removing names key
 
 -- the same change of a member's list
 abbrev pub listing : WhichList → List ℕ → Bool → Member → Effect Member (Unit {0})
 listing which key on member =
-    let change = naming (names_on which member) key on in
+    let change = names_with (names_on which member) key on in
     record {
       causes = change.causes;
       memory = change.memory;

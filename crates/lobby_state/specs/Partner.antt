@@ -10,8 +10,8 @@ use Rattle.lobby_state.specs.declared.member.Member.{Member}
 use Rattle.lobby_state.specs.Broadcast.{broadcast}
 use Rattle.lobby_state.specs.Holds.{holds}
 use Rattle.lobby_state.specs.Lobby.{LobbyState, is_session, member_of, named, partner_in}
-use Rattle.lobby_state.specs.Match.{is_full}
-use Rattle.lobby_state.specs.Said.{said}
+use Rattle.lobby_state.specs.Match.{is_queue_full}
+use Rattle.lobby_state.specs.Said.{spoken_line}
 
 -- the member has a partner
 abbrev pub has_partner : LobbyState → Member → Bool
@@ -29,7 +29,7 @@ asked_reply false = Asked
 -- the line that an ask by the player of this name sends: where the two are partners from then on, and else
 abbrev pub partner_words : Bool → List ℕ → List ℕ
 partner_words true name = codes "You are now the partner of " ++ name ++ codes "."
-partner_words false name = said name (codes " offers to be your partner.") []
+partner_words false name = spoken_line name (codes " offers to be your partner.") []
 
 -- the lobby where the member of this name has asked another: they are partners where the other has asked before, and
 -- else the request stands; and the other is told
@@ -60,7 +60,7 @@ abbrev pub ask_causes : LobbyState → ℕ → Member → List Cause
 ask_causes lobby session other =
     (is_session session other, BadOpponent) ∷
     (is_some (partner_in lobby session) || has_partner lobby other, HasPartner) ∷
-    (is_full other, QueueFull) ∷ []
+    (is_queue_full other, QueueFull) ∷ []
 
 -- an ask is refused where the session isn't a member; where nobody has the handle, or that member is going; where it is
 -- the session itself; where one of the two has a partner; and where 512 lines wait for the other
@@ -71,7 +71,7 @@ ask_effect lobby session to = record {
       (is_none (named lobby to), NoSuchPlayer) ∷
       (holds (is_session session) (named lobby to), BadOpponent) ∷
       (is_some (partner_in lobby session) || holds (has_partner lobby) (named lobby to), HasPartner) ∷
-      (holds is_full (named lobby to), QueueFull) ∷ [];
+      (holds is_queue_full (named lobby to), QueueFull) ∷ [];
   memory = true;
   reply = asked_reply (holds (is_asked_by lobby session) (named lobby to));
   after = partnered lobby session (member_of lobby session) (named lobby to);
@@ -79,7 +79,7 @@ ask_effect lobby session to = record {
 
 -- the line that a parting by the player of this name sends
 abbrev pub parting_words : List ℕ → List ℕ
-parting_words name = said name (codes " is no longer your partner.") []
+parting_words name = spoken_line name (codes " is no longer your partner.") []
 
 -- the lobby where a member has parted with its partner, who is told, if there is room for a line
 abbrev pub single : LobbyState → ℕ → Option Member → Option ℕ → LobbyState

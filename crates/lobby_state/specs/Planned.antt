@@ -18,10 +18,10 @@ use Rattle.lobby_state.specs.Desks.{IsDesk}
 use Rattle.lobby_state.specs.Lobby.{LobbyState, most_games, partner_in}
 use Rattle.lobby_state.specs.ShelfRoom.{places_taken}
 use Rattle.lobby_state.specs.Terms.{AreTerms}
-use Rattle.lobby_state.specs.WellFormed.{sessions_of}
+use Rattle.lobby_state.specs.WellFormed.{sessions_in}
 
 -- no two of the players are one, by their sessions or by their handles
-pub record AreApart (seats : Seats) : Type 0 where
+pub record ArePlayersApart (seats : Seats) : Type 0 where
   pub sessions : AllPairs (λ one another. one.session ≢ another.session) (seat_list seats)
   pub handles : AllPairs (λ one another. key_of one.name ≢ key_of another.name) (seat_list seats)
 
@@ -32,7 +32,7 @@ FitsVariant _ seats = IsNone seats.second
 
 -- the player is a member
 abbrev pub IsMember : LobbyState → Player → Type 0
-IsMember lobby player = Contains (sessions_of lobby.members) player.session
+IsMember lobby player = Contains (sessions_in lobby.members) player.session
 
 -- the one has the other as its partner
 abbrev pub HasPartner : LobbyState → Player → Player → Type 0
@@ -56,7 +56,7 @@ pub record CanStart (lobby : LobbyState) (desk serial : ℕ) (terms : Terms) (se
   pub room : places_taken lobby < most_stored
   pub are_terms : AreTerms terms
   pub members : All (IsMember lobby) (seat_list seats)
-  pub apart : AreApart seats
+  pub apart : ArePlayersApart seats
   pub boards : FitsVariant terms.variant seats
   pub partners : SitCrosswise lobby seats.first seats.second
 
@@ -75,13 +75,13 @@ pub record CanResume (lobby : LobbyState) (desk serial number : ℕ) (terms : Te
   pub few : lobby.started < most_games
   pub are_terms : AreTerms terms
   pub members : All (IsMember lobby) (seat_list seats)
-  pub apart : AreApart seats
+  pub apart : ArePlayersApart seats
   pub boards : FitsVariant terms.variant seats
 
 -- the one can ask the other to resume that game: both are members, and it lies on the shelf
 pub record CanAsk (lobby : LobbyState) (from to number : ℕ) : Type 0 where
-  pub by : Contains (sessions_of lobby.members) from
-  pub other : Contains (sessions_of lobby.members) to
+  pub by : Contains (sessions_in lobby.members) from
+  pub other : Contains (sessions_in lobby.members) to
   pub lies : is_used lobby.shelf.games number ≡ true
 
 -- the plan can be carried out in this lobby

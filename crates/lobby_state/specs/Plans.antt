@@ -16,8 +16,8 @@ use Rattle.lobby_state.specs.Desks.{IsDesk}
 use Rattle.lobby_state.specs.Lobby.{LobbyState}
 use Rattle.lobby_state.specs.Play.{play_effect}
 use Rattle.lobby_state.specs.Resume.{resume_effect}
-use Rattle.lobby_state.specs.Resumed.{asked_of, resumed}
-use Rattle.lobby_state.specs.Start.{seated}
+use Rattle.lobby_state.specs.Resumed.{asked_of, lobby_resumed}
+use Rattle.lobby_state.specs.Start.{lobby_seated}
 
 -- what a pair act does by the lobby alone: it changes nothing, and its reply is a plan, which is then carried out
 abbrev pub plan_effect : LobbyState → ℕ → PairAct → Effect LobbyState Plan
@@ -44,10 +44,11 @@ put_away lobby desk (Some game) = record (cleared lobby desk) { shelf = shelved 
 
 -- the lobby once the plan is carried out; a Clear has either freed the caller alone or cleared the desk
 abbrev pub committed : LobbyState → Plan → Option StoredGame → Bool → LobbyState
-committed lobby (Start desk serial terms seats) game is_cleared = seated lobby desk serial terms seats
+committed lobby (Start desk serial terms seats) game is_cleared = lobby_seated lobby desk serial terms seats
 committed lobby (Clearing session desk serial) game true = put_away lobby desk game
 committed lobby (Clearing session desk serial) game false = freed lobby session desk
-committed lobby (Resuming desk serial number terms seats) game is_cleared = resumed lobby desk serial number terms seats
+committed lobby (Resuming desk serial number terms seats) game is_cleared =
+    lobby_resumed lobby desk serial number terms seats
 committed lobby (Ask from to number) game is_cleared = asked_of lobby from to number
 
 -- the game that the lobby lists for the plan's desk once the plan is carried out, by the one that it listed before

@@ -44,8 +44,8 @@ seeking_effect lobby session name terms = record {
 }
 
 -- the member is taken: it has a place, or gives a simul
-abbrev pub is_taken : Member → Bool
-is_taken member = has_place member || gives member
+abbrev pub is_engaged : Member → Bool
+is_engaged member = has_place member || gives member
 
 -- a Post is refused where the session isn't a member; where the game isn't one of two players; where the member has a
 -- place or gives a simul; and where it has three seeks. The seek gets the least number that no seek has
@@ -54,7 +54,7 @@ post_effect lobby session terms = record {
   causes =
       (is_none (member_of lobby session), NotIn) ∷
       (needs_partners terms.variant, NotInVariant) ∷
-      (holds is_taken (member_of lobby session), Playing) ∷
+      (holds is_engaged (member_of lobby session), Playing) ∷
       (posting lobby.seeks session terms).causes;
   memory = true;
   reply = Number (next_number lobby.seeks);

@@ -8,13 +8,13 @@ use Rattle.lobby_state.specs.declared.member.Member.{Member}
 use Rattle.lobby_state.specs.Broadcast.{broadcast}
 use Rattle.lobby_state.specs.Holds.{holds}
 use Rattle.lobby_state.specs.Lobby.{LobbyState, is_session, member_of, partner_in}
-use Rattle.lobby_state.specs.Match.{is_full}
-use Rattle.lobby_state.specs.Said.{said}
+use Rattle.lobby_state.specs.Match.{is_queue_full}
+use Rattle.lobby_state.specs.Said.{spoken_line}
 
 -- no more lines can wait for this partner
 abbrev pub is_partner_full : LobbyState → Option ℕ → Bool
 is_partner_full lobby None = false
-is_partner_full lobby (Some partner) = holds is_full (member_of lobby partner)
+is_partner_full lobby (Some partner) = holds is_queue_full (member_of lobby partner)
 
 -- the lobby where the member has told its partner something
 abbrev pub confided : LobbyState → Option Member → Option ℕ → List ℕ → LobbyState
@@ -22,7 +22,7 @@ confided lobby None partner text = lobby
 confided lobby (Some caller) None text = lobby
 confided lobby (Some caller) (Some partner) text = record lobby {
   members =
-      broadcast (is_session partner) (said caller.name (codes " (your partner) tells you: ") text) lobby.members;
+      broadcast (is_session partner) (spoken_line caller.name (codes " (your partner) tells you: ") text) lobby.members;
 }
 
 -- a Ptell is refused where the session isn't a member; where it has no partner; and where 512 lines wait for the

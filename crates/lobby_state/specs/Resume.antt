@@ -19,7 +19,7 @@ use Rattle.lobby_state.specs.declared.acts.Plan.TheVariants.{Resume, Ask}
 use Rattle.lobby_state.specs.declared.member.Member.{Member}
 use Rattle.lobby_state.specs.Holds.{holds}
 use Rattle.lobby_state.specs.Lobby.{LobbyState, free_slot, gives, holder_of, is_busy, is_registered, is_session, member_of, named}
-use Rattle.lobby_state.specs.Match.{is_full}
+use Rattle.lobby_state.specs.Match.{is_queue_full}
 use Rattle.lobby_state.specs.Pairing.{is_crowded, needs_partners}
 use Rattle.lobby_state.specs.StartPlan.{has_no_desk, no_plan}
 
@@ -72,24 +72,24 @@ seated_as accounts name (Some member) =
     record { session = member.session; name = name; registered = is_registered accounts member }
 
 -- the player of the seat of that number, from 0 on
-abbrev pub seat_of : LobbyState → List (List ℕ) → ℕ → Player
-seat_of lobby names number =
+abbrev pub seat_numbered : LobbyState → List (List ℕ) → ℕ → Player
+seat_numbered lobby names number =
     let name = slice_index_or names number [] in seated_as lobby.accounts name (playing_as lobby name)
 
 -- the players of the board whose White has the seat of this number
-abbrev pub board_of : LobbyState → List (List ℕ) → ℕ → Opponents
-board_of lobby names number =
-    record { white = seat_of lobby names number; black = seat_of lobby names (number + 1) }
+abbrev pub seats_at_board : LobbyState → List (List ℕ) → ℕ → Opponents
+seats_at_board lobby names number =
+    record { white = seat_numbered lobby names number; black = seat_numbered lobby names (number + 1) }
 
 -- the second board of a pair
 abbrev pub second_of : LobbyState → List (List ℕ) → Variant → Option Opponents
-second_of lobby names Bughouse = Some (board_of lobby names 2)
+second_of lobby names Bughouse = Some (seats_at_board lobby names 2)
 second_of lobby names _ = None
 
 -- the players as they sat
 abbrev pub as_they_sat : LobbyState → List (List ℕ) → Variant → Seats
 as_they_sat lobby names variant =
-    record { first = board_of lobby names 0; second = second_of lobby names variant }
+    record { first = seats_at_board lobby names 0; second = second_of lobby names variant }
 
 -- the plan of the game at this desk under the next serial
 abbrev pub resume_at : LobbyState → Shelved → Option ℕ → Plan
@@ -100,8 +100,8 @@ resume_at lobby row (Some slot) =
 
 -- the game starts at the least free desk: refused where one of its players can't begin it now; where one of them has 32
 -- places; and where there is no desk for it
-abbrev pub going_on : LobbyState → Shelved → Effect LobbyState Plan
-going_on lobby row = record {
+abbrev pub resuming_at : LobbyState → Shelved → Effect LobbyState Plan
+resuming_at lobby row = record {
   causes =
       (are_held lobby row.game.terms.variant row.game.names, Playing) ∷
       (are_full_up lobby row.game.names, SimulFull) ∷
@@ -113,11 +113,11 @@ going_on lobby row = record {
 
 -- the caller asks the other: refused where one of the two can't begin the game now, and where 512 lines wait for the
 -- other
-abbrev pub asking : LobbyState → Member → Member → Shelved → Effect LobbyState Plan
-asking lobby caller other row = record {
+abbrev pub asking_to_resume : LobbyState → Member → Member → Shelved → Effect LobbyState Plan
+asking_to_resume lobby caller other row = record {
   causes =
       (is_held row.game.terms.variant caller || is_held row.game.terms.variant other, Playing) ∷
-      (is_full other, QueueFull) ∷ [];
+      (is_queue_full other, QueueFull) ∷ [];
   memory = false;
   reply = Ask caller.session other.session row.number;
   after = lobby;
@@ -126,7 +126,8 @@ asking lobby caller other row = record {
 -- the game of these three: it starts where all its players but the caller ask for it, and else the caller asks the
 -- other
 abbrev pub resuming : LobbyState → Resuming → Effect LobbyState Plan
-resuming lobby r = cond (would_start lobby r.caller r.row) (going_on lobby r.row) (asking lobby r.caller r.other r.row)
+resuming lobby r =
+    cond (would_start lobby r.caller r.row) (resuming_at lobby r.row) (asking_to_resume lobby r.caller r.other r.row)
 
 -- why these three can't resume, and the plan, where all are there
 abbrev pub resuming_causes : LobbyState → Option Resuming → List Cause

@@ -3,8 +3,8 @@ use Rattle.std.specs.Prelude.{ℕ, ◌≤◌, List, ◌++◌, length, All}
 use Rattle.fics_words.specs.Line.{IsPrintable, most_text_bytes}
 
 -- the line of what a member says: its name, how it says it, and its text
-abbrev pub said : List ℕ → List ℕ → List ℕ → List ℕ
-said name wording text = name ++ wording ++ text
+abbrev pub spoken_line : List ℕ → List ℕ → List ℕ → List ℕ
+spoken_line name wording text = name ++ wording ++ text
 
 -- what a member says has at most 800 bytes, so that the line of it isn't too long
 abbrev pub IsText : List ℕ → Type 0

@@ -7,7 +7,7 @@ use Rattle.lobby_state.specs.declared.acts.LobbyReply.TheVariants.{Told}
 use Rattle.lobby_state.specs.declared.member.Member.{Member}
 use Rattle.lobby_state.specs.Broadcast.{broadcast, heard}
 use Rattle.lobby_state.specs.Lobby.{LobbyState, is_session, member_of}
-use Rattle.lobby_state.specs.Said.{said}
+use Rattle.lobby_state.specs.Said.{spoken_line}
 
 -- the member is another one than the session's, and wants to hear what others shout
 abbrev pub hears_shouts : ℕ → Member → Bool
@@ -17,7 +17,7 @@ hears_shouts session member = not (is_session session member) && member.wants.sh
 abbrev pub shouted : LobbyState → ℕ → Option Member → List ℕ → LobbyState
 shouted lobby session None text = lobby
 shouted lobby session (Some caller) text = record lobby {
-  members = broadcast (hears_shouts session) (said caller.name (codes " shouts: ") text) lobby.members;
+  members = broadcast (hears_shouts session) (spoken_line caller.name (codes " shouts: ") text) lobby.members;
 }
 
 -- a Shout is refused where the session isn't a member; it tells how many heard it

@@ -37,8 +37,8 @@ abbrev pub is_bound : List Member → Seats → ℕ → Bool
 is_bound members seats session = is_seated seats session && not (is_giver members session)
 
 -- the challenge is between two players of the game
-abbrev pub is_between : Seats → Challenge → Bool
-is_between seats challenge = is_seated seats challenge.from && is_seated seats challenge.to
+abbrev pub is_between_seated : Seats → Challenge → Bool
+is_between_seated seats challenge = is_seated seats challenge.from && is_seated seats challenge.to
 
 -- the challenge is by or to a player of the game that gives no simul
 abbrev pub concerns_bound : List Member → Seats → Challenge → Bool
@@ -47,7 +47,7 @@ concerns_bound members seats challenge =
 
 -- the challenge goes as the game starts; those of a giver with somebody who isn't seated now stay
 abbrev pub is_settled : List Member → Seats → Challenge → Bool
-is_settled members seats challenge = is_between seats challenge || concerns_bound members seats challenge
+is_settled members seats challenge = is_between_seated seats challenge || concerns_bound members seats challenge
 
 -- the seek is by a player of the game
 abbrev pub is_by_seated : Seats → Seek → Bool
@@ -55,8 +55,8 @@ is_by_seated seats seek = is_seated seats seek.by
 
 -- the lobby once the game has started: the desk is in use, the players have their places, and their challenges go, but
 -- for a giver's with others, and their seeks and requests to resume
-abbrev pub seated : LobbyState → ℕ → ℕ → Terms → Seats → LobbyState
-seated lobby desk serial terms seats = record lobby {
+abbrev pub lobby_seated : LobbyState → ℕ → ℕ → Terms → Seats → LobbyState
+lobby_seated lobby desk serial terms seats = record lobby {
   members = map (λ member. in_seat desk serial (seat_number member.session (seat_list seats)) member) lobby.members;
   challenges = filter (λ challenge. not (is_settled lobby.members seats challenge)) lobby.challenges;
   seeks = filter (λ seek. not (is_by_seated seats seek)) lobby.seeks;

@@ -44,8 +44,8 @@ abbrev pub opponents_of : List Account → Bool → Member → Member → Oppone
 opponents_of accounts white one another = facing white (player_of accounts one) (player_of accounts another)
 
 -- two at the second board, where both are there
-abbrev pub second_board : List Account → Bool → Option Member → Option Member → Option Opponents
-second_board accounts white one another =
+abbrev pub second_pair : List Account → Bool → Option Member → Option Member → Option Opponents
+second_pair accounts white one another =
     sitting.second_board white (option_map (player_of accounts) one) (option_map (player_of accounts) another)
 
 -- who sits where: the two at the first board, and in bughouse their partners at the second, each with the colour that
@@ -55,7 +55,7 @@ seats_of lobby serial pairing =
     let white = has_white (gives pairing.offering) (gives pairing.accepting) pairing.terms.colour serial in
     record {
       first = opponents_of lobby.accounts white pairing.offering pairing.accepting;
-      second = second_board lobby.accounts white (beside_accepting lobby pairing) (beside_offering lobby pairing);
+      second = second_pair lobby.accounts white (beside_accepting lobby pairing) (beside_offering lobby pairing);
     }
 
 -- what stands for the plan where one of its parts is missing; such an act is refused
@@ -82,8 +82,8 @@ start_causes lobby pairing =
     (is_shelf_full lobby, ShelfFull) ∷ []
 
 -- a game of two members that are there, at the least free desk
-abbrev pub starting : LobbyState → Pairing → Effect LobbyState Plan
-starting lobby pairing = record {
+abbrev pub start_planned : LobbyState → Pairing → Effect LobbyState Plan
+start_planned lobby pairing = record {
   causes = start_causes lobby (Some pairing);
   memory = false;
   reply = start_plan lobby (Some pairing) (free_slot lobby);

@@ -30,13 +30,13 @@ abbrev pub lines_for : List Shelved → List ℕ → List (List ℕ)
 lines_for games key = map stored_line (filter (λ row. has_player key row.game) games)
 
 -- the same of a member, and none for nobody
-abbrev pub lines_of : List Shelved → Option Member → List (List ℕ)
-lines_of games None = []
-lines_of games (Some member) = lines_for games (key_of member.name)
+abbrev pub lines_stored : List Shelved → Option Member → List (List ℕ)
+lines_stored games None = []
+lines_stored games (Some member) = lines_for games (key_of member.name)
 
 -- the lines of the session's own games
 abbrev pub stored_lines : LobbyState → ℕ → List (List ℕ)
-stored_lines lobby session = lines_of lobby.shelf.games (member_of lobby session)
+stored_lines lobby session = lines_stored lobby.shelf.games (member_of lobby session)
 
 -- a Stored is refused where the session isn't a member
 abbrev pub stored_effect : LobbyState → ℕ → Effect LobbyState LobbyReply

@@ -9,7 +9,7 @@ use Rattle.lobby_state.specs.declared.acts.LobbyReply.TheVariants.{Told}
 use Rattle.lobby_state.specs.declared.member.Member.{Member}
 use Rattle.lobby_state.specs.Broadcast.{broadcast, heard}
 use Rattle.lobby_state.specs.Lobby.{LobbyState, is_session, member_of}
-use Rattle.lobby_state.specs.Said.{said}
+use Rattle.lobby_state.specs.Said.{spoken_line}
 
 -- what stands between the name and the text of a line to a channel
 abbrev pub channel_words : ℕ → List ℕ
@@ -24,7 +24,7 @@ abbrev pub channel_told : LobbyState → ℕ → ℕ → Option Member → List 
 channel_told lobby session channel None text = lobby
 channel_told lobby session channel (Some caller) text = record lobby {
   members = broadcast (hears_channel lobby.channels session channel)
-      (said caller.name (channel_words channel) text) lobby.members;
+      (spoken_line caller.name (channel_words channel) text) lobby.members;
 }
 
 -- a TellChannel is refused where the session isn't a member, and where it isn't in the channel; it tells how many heard

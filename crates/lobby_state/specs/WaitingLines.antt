@@ -36,8 +36,8 @@ all_given lobby session (deed ∷ deeds) =
     ++ all_given (lobby_after lobby deed.by deed.act) session deeds
 
 -- the act isn't the one by which the session goes
-abbrev pub Stays : ℕ → Deed → Type 0
-Stays session deed = deed.by ≡ session → deed.act ≢ Bye
+abbrev pub StaysInHall : ℕ → Deed → Type 0
+StaysInHall session deed = deed.by ≡ session → deed.act ≢ Bye
 
 -- the list begins with these lines
 pub record BeginsWith (first lines : List (List ℕ)) : Type 0 where

@@ -25,8 +25,8 @@ use Rattle.seek_match.specs.Matches.{AreChallenges}
 use Rattle.seek_match.specs.Seeks.{AreSeeks, is_by, most_seeks}
 
 -- the sessions of the members
-abbrev pub sessions_of : List Member → List ℕ
-sessions_of members = map (λ member. member.session) members
+abbrev pub sessions_in : List Member → List ℕ
+sessions_in members = map (λ member. member.session) members
 
 -- the challenge is by one member to another, and to a game that there can be
 pub record IsBetweenMembers (sessions : List ℕ) (challenge : Challenge) : Type 0 where
@@ -120,11 +120,11 @@ pub record IsWellFormed (lobby : LobbyState) : Type 0 where
   pub hall : length lobby.members ≤ most_members
   pub sessions : AllPairs (λ one another. one.session ≢ another.session) lobby.members
   pub handles : AllPairs (λ one another. key_of one.name ≢ key_of another.name) lobby.members
-  pub challenges : AreChallengesOf (sessions_of lobby.members) lobby.challenges
-  pub seeks : AreSeeksOf (sessions_of lobby.members) lobby.seeks
-  pub partners : ArePartnersOf (sessions_of lobby.members) lobby.partners
+  pub challenges : AreChallengesOf (sessions_in lobby.members) lobby.challenges
+  pub seeks : AreSeeksOf (sessions_in lobby.members) lobby.seeks
+  pub partners : ArePartnersOf (sessions_in lobby.members) lobby.partners
   pub games : length lobby.games ≡ desks
   pub serials : All (IsStarted lobby.started) lobby.games
   pub places : All (HasSeats lobby.games) lobby.members
-  pub shelf : IsShelfOf (sessions_of lobby.members) lobby.shelf
+  pub shelf : IsShelfOf (sessions_in lobby.members) lobby.shelf
   pub counted : AreCounted lobby.accounts lobby.games lobby.started lobby.shelf

@@ -17,8 +17,8 @@ abbrev pub is_before : List ℕ → List ℕ → Bool
 is_before name other = is_lt (slice_cmp nat_cmp (key_of name) (key_of other))
 
 -- no handle stands behind one whose key comes later
-abbrev pub AreInOrder : List (List ℕ) → Type 0
-AreInOrder names = AllPairs (λ one another. is_before another one ≡ false) names
+abbrev pub AreInOrderOfKeys : List (List ℕ) → Type 0
+AreInOrderOfKeys names = AllPairs (λ one another. is_before another one ≡ false) names
 
 -- handles in the order of their keys, with one more in its place
 abbrev pub with_name : List ℕ → List (List ℕ) → List (List ℕ)

@@ -2,7 +2,7 @@
 ghost use Rattle.std.specs.Prelude.{◌≡◌, ◌+◌, ◌<◌, ◌≤◌, ◌++◌, IfOk, OnErr, OnOk, Some, drop, length, slice_get, take};
 ghost use Rattle.lobby_state.specs.Broadcast.{broadcast, heard, hears, hearing};
 ghost use Rattle.lobby_state.specs.Lobby.{is_session};
-ghost use Rattle.lobby_state.specs.Said.{IsText, IsWording, said};
+ghost use Rattle.lobby_state.specs.Said.{IsText, IsWording, spoken_line};
 ghost use Rattle.lobby_state.specs.declared.member.Member.{Member};
 ghost use Rattle.tables.specs.Rows.{change_at};
 
@@ -29,7 +29,7 @@ impl Roster {
         requires text { IsText text.now }
         ensures told { IfOk result (λ told. told ≡ heard (P.passes test.now) self.old.members) }
         ensures ok { OnOk result (self.new ≡ record self.old {
-          members = broadcast (P.passes test.now) (said name wording.now text.now) self.old.members;
+          members = broadcast (P.passes test.now) (spoken_line name wording.now text.now) self.old.members;
         }) }
         ensures err { OnErr result (self.new ≡ self.old) }
     {
@@ -49,7 +49,7 @@ impl Roster {
         requires wording { IsWording wording.now }
         requires text { IsText text.now }
         ensures ok { OnOk result (self.new ≡ record self.old {
-          members = broadcast (is_session to) (said name wording.now text.now) self.old.members;
+          members = broadcast (is_session to) (spoken_line name wording.now text.now) self.old.members;
         }) }
         ensures err { OnErr result (self.new ≡ self.old) }
     {

@@ -1,6 +1,6 @@
 //! Which challenges stay as a game starts.
 ghost use Rattle.std.specs.Prelude.{◌≡◌, not};
-ghost use Rattle.lobby_state.specs.Start.{concerns_bound, is_between, is_bound, is_giver, is_settled};
+ghost use Rattle.lobby_state.specs.Start.{concerns_bound, is_between_seated, is_bound, is_giver, is_settled};
 
 use crate::members::Members;
 use collections::Predicate;
@@ -25,7 +25,7 @@ impl<'a> Predicate<Challenge> for Stays<'a> {
 
 /// Whether the challenge is between two players of the game.
 fn is_between(seats: &Seats, challenge: &Challenge) -> bool
-    ensures { result ≡ is_between seats.now challenge.now }
+    ensures { result ≡ is_between_seated seats.now challenge.now }
 {
     seats.number(challenge.from).is_some() && seats.number(challenge.to).is_some()
 }

@@ -18,8 +18,8 @@ ghost use Rattle.lobby_state.specs.Lobby.{most_members, waiting_of};
 ghost use Rattle.lobby_state.specs.Planned.{IsPlanned};
 ghost use Rattle.lobby_state.specs.Plans.{NamesDesk, committed, plan_of};
 ghost use Rattle.lobby_state.specs.SettledOffers.{SettleOffers};
-ghost use Rattle.lobby_state.specs.Start.{seated};
-ghost use Rattle.lobby_state.specs.WaitingLines.{BeginsWith, Deed, Stays, after_all, all_given, lines_given};
+ghost use Rattle.lobby_state.specs.Start.{lobby_seated};
+ghost use Rattle.lobby_state.specs.WaitingLines.{BeginsWith, Deed, StaysInHall, after_all, all_given, lines_given};
 ghost use Rattle.lobby_state.specs.WellFormed.{IsWellFormed};
 ghost use Rattle.lobby_state.specs.Who.{ListsEach, who_lines};
 
@@ -90,7 +90,7 @@ pub fn games_lists_what_is_found(lobby: &Lobby)
 /// in it; those of everybody else stay.
 pub fn starts_settle_offers(lobby: &Lobby)
     ensures { (desk serial : ℕ) (terms : Terms) (seats : Seats)
-        → SettleOffers lobby.now seats (seated lobby.now desk serial terms seats) }
+        → SettleOffers lobby.now seats (lobby_seated lobby.now desk serial terms seats) }
 {}
 
 /// Each line that waits for a member is given once and in order. A Fetch of its own is answered all that wait, and none
@@ -100,11 +100,11 @@ pub fn starts_settle_offers(lobby: &Lobby)
 pub fn waiting_lines_are_given_in_order(lobby: &Lobby, session: u32)
     ensures fetched { lines_given lobby.now session LobbyAct.Fetch ≡ waiting_of lobby.now session }
     ensures emptied { waiting_of (lobby_after lobby.now session LobbyAct.Fetch) session ≡ [] }
-    ensures others { (deed : Deed) → Stays session deed → (deed.by ≡ session → deed.act ≢ LobbyAct.Fetch)
+    ensures others { (deed : Deed) → StaysInHall session deed → (deed.by ≡ session → deed.act ≢ LobbyAct.Fetch)
         → BeginsWith (waiting_of lobby.now session) (waiting_of (lobby_after lobby.now deed.by deed.act) session) }
     ensures plans { (plan : Plan) (game : Option StoredGame) (cleared : Bool)
         → BeginsWith (waiting_of lobby.now session) (waiting_of (committed lobby.now plan game cleared) session) }
-    ensures run { (deeds : List Deed) → All (Stays session) deeds
+    ensures run { (deeds : List Deed) → All (StaysInHall session) deeds
         → BeginsWith (waiting_of lobby.now session)
         (all_given lobby.now session deeds ++ waiting_of (after_all lobby.now deeds) session) }
 {}

@@ -3,9 +3,9 @@ ghost use Rattle.std.specs.Prelude.{◌≡◌, OnOk, OnErr};
 ghost use Rattle.std.specs.List.{find};
 ghost use Rattle.tables.specs.Rows.{change_first};
 ghost use Rattle.lobby_state.specs.Enter.{new_member};
-ghost use Rattle.lobby_state.specs.Fetch.{emptied};
+ghost use Rattle.lobby_state.specs.Fetch.{member_emptied};
 ghost use Rattle.lobby_state.specs.Lobby.{is_session, is_named, gives, has_place, is_busy, lines_in};
-ghost use Rattle.lobby_state.specs.Match.{is_full, with_line};
+ghost use Rattle.lobby_state.specs.Match.{is_queue_full, member_with_line};
 ghost use Rattle.lobby_state.specs.Pairing.{is_crowded};
 
 use crate::inbox::Inbox;
@@ -87,7 +87,7 @@ impl Member {
 
     /// Whether no more lines can wait for the member.
     pub(crate) fn is_full(&self) -> bool
-        ensures { result ≡ is_full self.now }
+        ensures { result ≡ is_queue_full self.now }
     {
         self.waiting.is_full()
     }
@@ -95,7 +95,7 @@ impl Member {
 
 /// Puts a line behind those that wait for the member that the key names, where fewer than 512 do.
 pub(crate) fn add_line(members: &mut Members, to: HandleKey, line: Line) -> Result<(), NoMemory>
-    ensures ok { OnOk result (members.new ≡ change_first (is_named to) (with_line line) members.old) }
+    ensures ok { OnOk result (members.new ≡ change_first (is_named to) (member_with_line line) members.old) }
     ensures err { OnErr result (members.new ≡ members.old) }
 {
     let Some(place) = members.place_named(to) else {
@@ -108,7 +108,7 @@ pub(crate) fn add_line(members: &mut Members, to: HandleKey, line: Line) -> Resu
 /// Takes the lines that wait for the session.
 pub(crate) fn take_lines(alloc: Global, members: &mut Members, session: u32) -> Listed<Line>
     ensures lines { result ≡ lines_in (find (is_session session) members.old) }
-    ensures emptied { members.new ≡ change_first (is_session session) emptied members.old }
+    ensures emptied { members.new ≡ change_first (is_session session) member_emptied members.old }
 {
     let Some(place) = members.place(session) else {
         return Listed::new(alloc);

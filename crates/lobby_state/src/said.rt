@@ -1,6 +1,6 @@
 //! The lines of what members say to others.
 ghost use Rattle.std.specs.Prelude.{◌≡◌, ◌++◌, IfOk, OnOk, decimal};
-ghost use Rattle.lobby_state.specs.Said.{IsText, IsWording, said};
+ghost use Rattle.lobby_state.specs.Said.{IsText, IsWording, spoken_line};
 
 use fics_words::{Handle, Line, write_number};
 use memory::NoMemory;
@@ -10,7 +10,7 @@ use std::alloc::Global;
 pub fn said_line(alloc: Global, name: Handle, wording: &[u8], text: &[u8]) -> Result<Line, NoMemory>
     requires wording { IsWording wording.now }
     requires text { IsText text.now }
-    ensures { IfOk result (λ line. line ≡ said name wording.now text.now) }
+    ensures { IfOk result (λ line. line ≡ spoken_line name wording.now text.now) }
 {
     let bytes = joined(alloc, name.letters(), wording, text)?;
     Ok(Line::from_bytes(bytes))

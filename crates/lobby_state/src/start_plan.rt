@@ -3,7 +3,7 @@ ghost use Rattle.std.specs.Prelude.{◌≡◌, option_map};
 ghost use Rattle.fics_words.specs.Effect.{answer_of};
 ghost use Rattle.lobby_state.specs.Lobby.{gives};
 ghost use Rattle.lobby_state.specs.Pairing.{beside, paired};
-ghost use Rattle.lobby_state.specs.StartPlan.{has_white, offers_white, opponents_of, player_of, seats_of, second_board, starting};
+ghost use Rattle.lobby_state.specs.StartPlan.{has_white, offers_white, opponents_of, player_of, seats_of, second_pair, start_planned};
 
 use crate::acts::Plan;
 use crate::member::Member;
@@ -25,7 +25,7 @@ impl Roster {
         offering: &Member,
         terms: Terms,
     ) -> Result<Plan, Refusal>
-        ensures { result ≡ answer_of (starting self.now (paired offering.now accepting.now terms)) }
+        ensures { result ≡ answer_of (start_planned self.now (paired offering.now accepting.now terms)) }
     {
         if self.are_playing(offering, accepting, terms) {
             return Err(Refusal::Playing);
@@ -71,7 +71,7 @@ impl Roster {
         one: &Member,
         another: &Member,
     ) -> Option<Opponents>
-        ensures { result ≡ second_board self.now.accounts white (beside self.now variant one.now)
+        ensures { result ≡ second_pair self.now.accounts white (beside self.now variant one.now)
             (beside self.now variant another.now) }
     {
         let one = self.player_beside(variant, one);

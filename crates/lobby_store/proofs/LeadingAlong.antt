@@ -25,7 +25,7 @@ use Rattle.lobby_state.specs.declared.acts.Plan.TheVariants.{Start, Clear, Resum
 use Rattle.lobby_state.specs.Planned.{CanResume, IsPlanned}
 use Rattle.lobby_state.specs.Plans.{committed, put_away}
 use Rattle.lobby_state.specs.Reserve.{CanShelve}
-use Rattle.lobby_state.specs.Resumed.{resumed}
+use Rattle.lobby_state.specs.Resumed.{lobby_resumed}
 use Rattle.lobby_state.specs.WellFormed.{IsWellFormed}
 use Rattle.lobby_state.proofs.Follows.{ForStore, for_store}
 use Rattle.lobby_state.proofs.KeepsActs.{keeps_act}
@@ -117,7 +117,7 @@ leads_shelved lobby session desk serial game h can = record {
 
 leads_resumed : (lobby : LobbyState) (desk serial number : ℕ) (terms : Terms) (seats : Seats) → IsWellFormed lobby
     → CanResume lobby desk serial number terms seats
-    → LeadsAlong lobby (resumed lobby desk serial number terms seats)
+    → LeadsAlong lobby (lobby_resumed lobby desk serial number terms seats)
 leads_resumed lobby desk serial number terms seats h can = record {
   agrees = λ table agreed. orders-lead.comes_off table lobby.accounts lobby.shelf number h.shelf.sound
       (small_number 0 lobby.shelf.games number can.game h.shelf.sound.numbers can.lies) agreed;

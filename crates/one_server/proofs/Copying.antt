@@ -22,7 +22,7 @@ use Rattle.one_server.specs.declared.part.Part.TheVariants.{Lobby as TheLobby, D
 use Rattle.one_server.specs.Acts.{FitsAct, lobby_reply, desk_reply}
 use Rattle.one_server.specs.Copies.{AreOf, ListsFor, ItemsFor}
 use Rattle.one_server.specs.House.{house, pair_reply}
-use Rattle.one_server.specs.Whole.{IsWhole, parts_of}
+use Rattle.one_server.specs.Whole.{IsWhole, parts_with}
 use Rattle.one_server.specs.declared.act.Act.{Act}
 use Rattle.one_server.specs.declared.act.Act.TheVariants.{Lobby, Desk, Pair}
 use Rattle.one_server.specs.declared.act.Timed.{Timed}
@@ -50,10 +50,10 @@ same_reply : (one another : Reply) → Some one ≡ Some another → one ≡ ano
 same_reply one another e = cc
 
 module _ (lobby : LobbyState) (desks : List DeskState) (session moment : ℕ) (copies : Copies) (r : Reply)
-    (whole : IsWhole (parts_of lobby desks)) where
+    (whole : IsWhole (parts_with lobby desks)) where
   are_of_act : (act : Act) → FitsAct act → ListsFor lobby session act copies.lists
       → ItemsFor desks session act copies.items
-      → reply house (parts_of lobby desks) session (record { moment = moment; act = act }) ≡ Some r → AreOf copies r
+      → reply house (parts_with lobby desks) session (record { moment = moment; act = act }) ≡ Some r → AreOf copies r
   are_of_act (Lobby act) fits lists items e =
       let effect = lobby_effect lobby session act in
       let is = same_reply (lobby_reply (lobby_answer lobby session act)) r e in
@@ -70,15 +70,15 @@ module _ (lobby : LobbyState) (desks : List DeskState) (session moment : ℕ) (c
   are_of_act (Pair act) fits lists items e =
       let timed : Timed = record { moment = moment; act = Pair act } in
       let is =
-      same_reply (pair_reply (plan_of lobby session act) (other_of house (parts_of lobby desks) session timed)) r e in
+      same_reply (pair_reply (plan_of lobby session act) (other_of house (parts_with lobby desks) session timed)) r e in
       subst (λ (x : Reply). AreOf copies x) is
-      (of_pair (plan_of lobby session act) (other_of house (parts_of lobby desks) session timed) copies)
+      (of_pair (plan_of lobby session act) (other_of house (parts_with lobby desks) session timed) copies)
 
 -- copies that were made ahead of an act are of its reply
 pub are_of : (lobby : LobbyState) (desks : List DeskState) (session moment : ℕ) (act : Act) (copies : Copies)
     (r : Reply)
-    → IsWhole (parts_of lobby desks) → FitsAct act
+    → IsWhole (parts_with lobby desks) → FitsAct act
     → ListsFor lobby session act copies.lists → ItemsFor desks session act copies.items
-    → reply house (parts_of lobby desks) session (record { moment = moment; act = act }) ≡ Some r → AreOf copies r
+    → reply house (parts_with lobby desks) session (record { moment = moment; act = act }) ≡ Some r → AreOf copies r
 are_of lobby desks session moment act copies r whole fits lists items e =
     are_of_act lobby desks session moment copies r whole act fits lists items e

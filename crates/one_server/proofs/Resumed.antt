@@ -27,7 +27,7 @@ use Rattle.desk_boards.specs.Sound.{AreSoundBoards}
 use Rattle.desk_boards.proofs.SoundHalves.{all_of, each_of}
 use Rattle.linked_desk.specs.Desk.{GameState, DeskState, Occupant, occupant, occupant_of}
 use Rattle.linked_desk.specs.ShelfLaws.{IsOnAgain}
-use Rattle.linked_desk.specs.Sound.{HasSoundGame, IsSound}
+use Rattle.linked_desk.specs.Sound.{HasSoundGame, IsSoundGame}
 use Rattle.linked_desk.proofs.KeepsRestored.{players_restored, sound_restored}
 use Rattle.linked_desk.proofs.Resuming.{resuming_restores}
 use Rattle.lobby_state.specs.declared.acts.Plan.{Plan}
@@ -37,7 +37,7 @@ use Rattle.lobby_state.specs.declared.member.Member.{Member}
 use Rattle.lobby_state.specs.Lobby.{LobbyState, free_slot, member_of, named}
 use Rattle.lobby_state.specs.Planned.{IsPlanned}
 use Rattle.lobby_state.specs.Plans.{committed, desk_of, plan_of}
-use Rattle.lobby_state.specs.Resume.{Resuming, asking, going_on, meant, resume_at, resume_effect, resuming_of, resuming_plan, would_start}
+use Rattle.lobby_state.specs.Resume.{Resuming, asking_to_resume, resuming_at, meant, resume_at, resume_effect, resuming_of, resuming_plan, would_start}
 use Rattle.lobby_state.specs.WellFormed.{IsWellFormed}
 use Rattle.lobby_state.proofs.KeepsPlans.{plan_of-is}
 use Rattle.one_server.specs.declared.act.Timed.{Timed}
@@ -49,11 +49,11 @@ use Rattle.one_server.specs.declared.reply.Reply.TheVariants.{Pair as PairReplie
 use Rattle.one_server.specs.Acts.{planned_desk}
 use Rattle.one_server.specs.CarryingProof.{carried_by}
 use Rattle.one_server.specs.Clearing.{clear_reply}
-use Rattle.one_server.specs.Desks.{has_ended, is_left}
+use Rattle.one_server.specs.Desks.{has_ended, nobody_looks_on}
 use Rattle.one_server.specs.House.{house, pair_desk, pair_lobby, pair_reply}
 use Rattle.one_server.specs.Plans.{alone_reply}
 use Rattle.one_server.specs.ResumedGames.{IsRestored, IsResumed, ResumesAsLeft, resuming}
-use Rattle.one_server.specs.Resuming.{CanResumeAt, resume_desk, with_game}
+use Rattle.one_server.specs.Resuming.{CanResumeAt, resume_desk, desk_with_game}
 use Rattle.one_server.specs.Whole.{IsWhole}
 use Rattle.one_server.specs.WholeProof.{desk_at, formed_is, place_is}
 
@@ -72,7 +72,7 @@ at_position t halves b own all =
     ap (λ (x : Terms). position_after x.variant b.all b.number) own
     ∙ ap (λ (moves : List HalfMove). position_after t.variant moves b.number) (sym all)
 
-is_restored : (stored : StoredGame) (moment : ℕ) (game : GameState) → IsSound game → IsOnAgain stored moment game
+is_restored : (stored : StoredGame) (moment : ℕ) (game : GameState) → IsSoundGame game → IsOnAgain stored moment game
     → IsRestored stored moment game
 is_restored stored moment game s again =
     let sound : AreSoundBoards stored.terms game.boards =
@@ -108,7 +108,7 @@ plans_at lobby row None = tt
 plans_at lobby row (Some slot) = refl
 
 plans_if : (lobby : LobbyState) (r : Resuming) (starts : Bool)
-    → PlansOf (Some r.row) (cond starts (going_on lobby r.row) (asking lobby r.caller r.other r.row)).reply
+    → PlansOf (Some r.row) (cond starts (resuming_at lobby r.row) (asking_to_resume lobby r.caller r.other r.row)).reply
 plans_if lobby r true = plans_at lobby r.row (free_slot lobby)
 plans_if lobby r false = tt
 
@@ -183,7 +183,7 @@ module _ (parts : List Part) (session moment : ℕ) (name : List ℕ) (lobby : L
       reply_together house parts session timed (TheLobby lobby) (ADesk found.0) number first (ap planned_desk is)
       found.1
       ∙ ap (λ r. Some (pair_reply r (Some (ADesk found.0)))) is in
-      absurd (not_cleared (has_ended found.0 serial) (is_left found.0)
+      absurd (not_cleared (has_ended found.0 serial) (nobody_looks_on found.0)
       (said (clear_reply found.0 serial) Started (sym answer ∙ e)))
   by_plan (Resume number serial stored terms seats) is p of =
       let plan : Plan = Resume number serial stored terms seats in
@@ -205,12 +205,12 @@ module _ (parts : List Part) (session moment : ℕ) (name : List ℕ) (lobby : L
       is in
       let again = resuming_restores.stored found.0 serial c.game seats moment c.replays c.players in
       let there : desk ≡ again.0 =
-      ap (λ (o : Option StoredGame). with_game found.0 serial o seats moment) c.lies
+      ap (λ (o : Option StoredGame). desk_with_game found.0 serial o seats moment) c.lies
       ∙ ap (λ (o : Option DeskState). unwrap_or o found.0) again.1 in
       let game : GameState = again.2.0 in
       let plays : again.0.game ≡ Some game = again.2.1 in
-      let sound : IsSound game =
-      subst (λ (o : Option GameState). IfSome o IsSound) plays
+      let sound : IsSoundGame game =
+      subst (λ (o : Option GameState). IfSome o IsSoundGame) plays
       (subst (λ (o : Option DeskState). IfSome o HasSoundGame) again.1
       (sound_restored found.0 serial c.game seats moment c.replays c.pairs c.names timely)) in
       let listed : option_map occupant again.0.game

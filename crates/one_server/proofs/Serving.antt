@@ -23,18 +23,18 @@ use Rattle.one_server.specs.House.{house}
 use Rattle.one_server.specs.Server.{IsServed}
 use Rattle.one_server.specs.Desks.{vacant}
 use Rattle.one_server.specs.declared.part.Part.TheVariants.{Lobby as TheLobby, Desk as ADesk}
-use Rattle.one_server.specs.Whole.{IsInPlace, IsOpening, IsWhole, parts_of, vacant_from, opened}
+use Rattle.one_server.specs.Whole.{IsInPlace, IsOpening, IsWhole, parts_with, vacant_from, opened}
 use Rattle.one_server.specs.LawfulProof.{house_lawful}
 
 -- the parts of a server are whole
 pub whole_now : (opening : List Part) (log : List (Entry Timed Reply)) (lobby : LobbyState) (desks : List DeskState)
-    → IsServed opening log lobby desks → IsWhole (parts_of lobby desks)
+    → IsServed opening log lobby desks → IsWhole (parts_with lobby desks)
 whole_now opening log lobby desks s = subst IsWhole s.state (stays_whole house house_lawful opening log s.whole s.legal)
 
 pub one_more : (opening : List Part) (log : List (Entry Timed Reply)) (lobby new : LobbyState)
     (desks news : List DeskState) (session : ℕ) (act : Timed) (r : Reply)
-    → IsServed opening log lobby desks → IsEvent act → reply house (parts_of lobby desks) session act ≡ Some r
-    → after house (parts_of lobby desks) session act ≡ parts_of new news
+    → IsServed opening log lobby desks → IsEvent act → reply house (parts_with lobby desks) session act ≡ Some r
+    → after house (parts_with lobby desks) session act ≡ parts_with new news
     → IsServed opening (log ++ entry session act r ∷ []) new news
 one_more opening log lobby new desks news session act r s fits answers leaves = record {
   whole = s.whole;
@@ -101,7 +101,7 @@ open_desk lobby none i part (Some desk) e h =
     )
 
 open_place : (lobby : LobbyState) → lobby.games ≡ replicate desk_count None → (place : ℕ) (part : Part)
-    → slice_get (parts_of lobby (vacant_from 1 desk_count)) place ≡ Some part → IsInPlace lobby place part
+    → slice_get (parts_with lobby (vacant_from 1 desk_count)) place ≡ Some part → IsInPlace lobby place part
 open_place lobby none zero part e = subst (IsInPlace lobby 0) (front (TheLobby lobby) part e) refl
 open_place lobby none (suc i) part e =
     open_desk lobby none i part (slice_get (vacant_from 1 desk_count) i) refl
@@ -109,7 +109,7 @@ open_place lobby none (suc i) part e =
 
 -- a server opens in a whole state
 pub whole_opening : (lobby : LobbyState) → IsWellFormed lobby → IsOpening lobby
-    → IsWhole (parts_of lobby (vacant_from 1 desk_count))
+    → IsWhole (parts_with lobby (vacant_from 1 desk_count))
 whole_opening lobby formed o = record {
   count =
       let all : length (map ADesk (vacant_from 1 desk_count)) ≡ length (vacant_from 1 desk_count) =

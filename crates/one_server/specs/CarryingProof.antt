@@ -13,8 +13,8 @@ use Rattle.lobby_shelf.specs.Numbers.{game_in as row_game, has_number, stored_ga
 use Rattle.lobby_shelf.specs.declared.shelved.Shelved.{Shelved}
 use Rattle.linked_desk.specs.Desk.{GameState, DeskState, occupant}
 use Rattle.linked_desk.specs.Seating.{HasPairsFor}
-use Rattle.linked_desk.specs.Shelve.{shelved}
-use Rattle.linked_desk.specs.Sound.{IsSound}
+use Rattle.linked_desk.specs.Shelve.{stored_of}
+use Rattle.linked_desk.specs.Sound.{IsSoundGame}
 use Rattle.linked_desk.proofs.Shelved.{shelved_replays}
 use Rattle.lobby_state.specs.declared.acts.Plan.{Plan}
 use Rattle.lobby_state.specs.declared.acts.Plan.TheVariants.{Start, Clear, Resume, Ask}
@@ -25,7 +25,7 @@ use Rattle.lobby_state.specs.Plans.{desk_of}
 use Rattle.lobby_state.specs.Reserve.{CanShelve}
 use Rattle.lobby_state.specs.WellFormed.{IsWellFormed}
 use Rattle.one_server.specs.Clearing.{was_adjourned}
-use Rattle.one_server.specs.Desks.{listing, game_of}
+use Rattle.one_server.specs.Desks.{listing, listed_game}
 use Rattle.one_server.specs.Plans.{CanCarry}
 use Rattle.one_server.specs.StartingProof.{all_differ, pairs_for}
 use Rattle.one_server.specs.Whole.{IsListed}
@@ -54,14 +54,14 @@ vacant_in (Some g) e = absurd cc
 nothing_listed : (game : Option ListedGame) → Some None ≡ Some game → None ≡ game
 nothing_listed game e = cc
 
-vacant_by : (desk : DeskState) → Some None ≡ Some (game_of desk) → desk.game ≡ None
-vacant_by desk e = vacant_in desk.game (nothing_listed (game_of desk) e)
+vacant_by : (desk : DeskState) → Some None ≡ Some (listed_game desk) → desk.game ≡ None
+vacant_by desk e = vacant_in desk.game (nothing_listed (listed_game desk) e)
 
 -- a game that was adjourned replays, and its desk is in use
 shelving : (lobby : LobbyState) (session number serial : ℕ) (game : Option GameState) (adjourned : Bool)
-    → IfSome game IsSound
+    → IfSome game IsSoundGame
     → game_at lobby number ≡ option_map listing (option_map occupant game)
-    → CanShelve lobby (Clear session number serial) (cond adjourned (option_map shelved game) None)
+    → CanShelve lobby (Clear session number serial) (cond adjourned (option_map stored_of game) None)
 shelving lobby session number serial game false sound listed = tt
 shelving lobby session number serial None true sound listed = tt
 shelving lobby session number serial (Some g) true sound listed =

@@ -37,7 +37,7 @@ use Rattle.one_server.specs.declared.act.Timed.{Timed}
 use Rattle.one_server.specs.declared.part.Part.{Part}
 use Rattle.one_server.specs.declared.part.Part.TheVariants.{Lobby as TheLobby, Desk as ADesk}
 use Rattle.one_server.specs.Acts.{first_part, second_part, planned_desk, FitsAct}
-use Rattle.one_server.specs.Desks.{listing, game_of, has_ended, is_left, emptied}
+use Rattle.one_server.specs.Desks.{listing, listed_game, has_ended, nobody_looks_on, desk_emptied}
 use Rattle.one_server.specs.House.{house, pair_lobby, pair_desk}
 use Rattle.one_server.specs.CarryingProof.{carried_by}
 use Rattle.one_server.specs.Clearing.{kept_at}
@@ -49,7 +49,7 @@ use Rattle.one_server.specs.WholeProof.{formed_is, place_is, desk_at, whole_lobb
 
 -- a desk act leaves the game that the desk is in use for
 pub keeps_game : (desk : DeskState) (session moment serial : ℕ) (act : DeskAct)
-    → game_of (desk_after desk session moment serial act) ≡ game_of desk
+    → listed_game (desk_after desk session moment serial act) ≡ listed_game desk
 keeps_game desk session moment serial act = ap (option_map listing) (players-desk_after desk session moment serial act)
 
 first_in : (xs : List Part) (act : Act) → IsWhole xs → FitsAct act → first_part act < length xs
@@ -89,9 +89,9 @@ stays_cleared : (xs : List Part) (lobby : LobbyState) (session number serial : �
     → CanShelve lobby (Clear session number serial) kept → (is_over is_alone : Bool)
     → IsWhole
     (set (set xs 0 (TheLobby (cond is_over (committed lobby (Clear session number serial) kept is_alone) lobby))) number
-    (ADesk (cond (is_over && is_alone) (emptied desk) desk)))
+    (ADesk (cond (is_over && is_alone) (desk_emptied desk) desk)))
 stays_cleared xs lobby session number serial desk w e d p kept can true true =
-    whole_both xs lobby (committed lobby (Clear session number serial) kept true) number desk (emptied desk) w e d
+    whole_both xs lobby (committed lobby (Clear session number serial) kept true) number desk (desk_emptied desk) w e d
     (IsWellFormed-committed lobby (Clear session number serial) kept true p can (formed_is xs lobby w e))
     (games_put_away lobby session number serial kept) refl tt
 stays_cleared xs lobby session number serial desk w e d p kept can true false =
@@ -132,7 +132,7 @@ stays_planned xs lobby (Clear session own serial) number desk moment w e o d p t
     IsWhole (set (set xs 0 (TheLobby (plan_lobby lobby plan desk))) n (ADesk (plan_desk lobby plan desk moment))))
     same
     (stays_cleared xs lobby session own serial desk w e there p (kept_at desk) can (has_ended desk serial)
-    (is_left desk))
+    (nobody_looks_on desk))
 stays_planned xs lobby (Resume own serial stored terms seats) number desk moment w e o d p timely =
     let plan : Plan = Resume own serial stored terms seats in
     let same : own ≡ number = cc in

@@ -15,7 +15,7 @@ use Rattle.one_server.specs.declared.part.Part.{Part}
 use Rattle.one_server.specs.declared.part.Part.TheVariants.{Lobby as TheLobby, Desk as ADesk}
 use Rattle.one_server.specs.declared.act.Timed.{Timed}
 use Rattle.one_server.specs.Acts.{IsEvent, first_part, second_part}
-use Rattle.one_server.specs.Desks.{game_of}
+use Rattle.one_server.specs.Desks.{listed_game}
 use Rattle.one_server.specs.House.{house}
 use Rattle.one_server.specs.Lent.{AreBothOf, IsFirstOf}
 use Rattle.one_server.specs.Replies.{IsReply}
@@ -28,7 +28,7 @@ abbrev pub ListsItsDesks : List Part → Type 0
 ListsItsDesks parts =
     (lobby : LobbyState) (number : ℕ) (desk : DeskState) → slice_get parts 0 ≡ Some (TheLobby lobby)
     → slice_get parts number ≡ Some (ADesk desk)
-    → slice_get lobby.games (number - 1) ≡ Some (game_of desk)
+    → slice_get lobby.games (number - 1) ≡ Some (listed_game desk)
 
 -- each place of a member is a seat of its own, at a desk in use under that serial
 abbrev pub SeatsItsMembers : List Part → Type 0

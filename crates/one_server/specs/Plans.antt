@@ -8,7 +8,7 @@ use Rattle.lobby_state.specs.Lobby.{LobbyState}
 use Rattle.lobby_state.specs.Plans.{committed}
 use Rattle.lobby_state.specs.Reserve.{CanShelve}
 use Rattle.linked_desk.specs.Desk.{DeskState}
-use Rattle.linked_desk.specs.Seating.{AllDiffer, HasPairsFor, names_of, sessions_of, started}
+use Rattle.linked_desk.specs.Seating.{AllDiffer, HasPairsFor, names_of, sessions_seated, desk_started}
 use Rattle.one_server.specs.Clearing.{clear_desk, clear_lobby, clear_reply, kept_at}
 use Rattle.one_server.specs.Resuming.{CanResumeAt, resume_desk}
 use Rattle.one_server.specs.declared.reply.PairReply.{PairReply}
@@ -41,7 +41,7 @@ plan_lobby lobby (Ask from to number) desk = alone_lobby lobby (Ask from to numb
 
 -- the desk afterwards: a game starts there or goes on from where it was left, or the desk is vacant where it is cleared
 abbrev pub plan_desk : LobbyState → Plan → DeskState → ℕ → DeskState
-plan_desk lobby (Start number serial terms seats) desk moment = started desk serial terms seats moment
+plan_desk lobby (Start number serial terms seats) desk moment = desk_started desk serial terms seats moment
 plan_desk lobby (Clear session number serial) desk moment = clear_desk desk serial
 plan_desk lobby (Resume number serial stored terms seats) desk moment =
     resume_desk lobby desk serial stored seats moment
@@ -50,7 +50,7 @@ plan_desk lobby (Ask from to number) desk moment = desk
 -- a game can start at this desk: it is vacant, no two of the players are one, and there are as many as its variant has
 pub record CanStartAt (desk : DeskState) (terms : Terms) (seats : Seats) : Type 0 where
   pub vacant : desk.game ≡ None
-  pub sessions : AllDiffer (sessions_of seats)
+  pub sessions : AllDiffer (sessions_seated seats)
   pub names : AllDiffer (names_of seats)
   pub pairs : HasPairsFor terms seats
 

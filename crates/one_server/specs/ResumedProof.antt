@@ -13,9 +13,9 @@ use Rattle.game_records.specs.declared.stored_game.StoredGame.{StoredGame}
 use Rattle.game_records.specs.Replays.{Replays}
 use Rattle.desk_boards.specs.Replaying.{replayed}
 use Rattle.linked_desk.specs.Desk.{DeskState, GameState, occupant_of}
-use Rattle.linked_desk.specs.Restore.{restored, resumed}
+use Rattle.linked_desk.specs.Restore.{restored, game_resumed}
 use Rattle.linked_desk.specs.Seating.{AllDiffer, HasPairsFor, names_of}
-use Rattle.linked_desk.specs.Shelve.{names_in}
+use Rattle.linked_desk.specs.Shelve.{names_seated}
 use Rattle.linked_desk.specs.Sound.{HasSoundGame}
 use Rattle.linked_desk.proofs.KeepsRestored.{players_restored, sound_restored}
 use Rattle.linked_desk.proofs.Resuming.{resuming_restores}
@@ -30,8 +30,8 @@ use Rattle.lobby_state.proofs.KeepsPlans.{IsWellFormed-committed}
 use Rattle.one_server.specs.declared.part.Part.{Part}
 use Rattle.one_server.specs.declared.part.Part.TheVariants.{Lobby as TheLobby, Desk as ADesk}
 use Rattle.one_server.specs.CarryingProof.{carried_by}
-use Rattle.one_server.specs.Desks.{listing, game_of}
-use Rattle.one_server.specs.Resuming.{CanResumeAt, resume_desk, with_game}
+use Rattle.one_server.specs.Desks.{listing, listed_game}
+use Rattle.one_server.specs.Resuming.{CanResumeAt, resume_desk, desk_with_game}
 use Rattle.one_server.specs.Whole.{IsWhole}
 use Rattle.one_server.specs.WholeProof.{formed_is, place_is, whole_both}
 
@@ -39,7 +39,7 @@ use Rattle.one_server.specs.WholeProof.{formed_is, place_is, whole_both}
 -- players
 record HasResumed (number serial : ℕ) (terms : Terms) (seats : Seats) (desk : DeskState) : Type 0 where
   numbered : desk.number ≡ number
-  listed : game_of desk ≡ Some (record { serial = serial; terms = terms; seats = seats })
+  listed : listed_game desk ≡ Some (record { serial = serial; terms = terms; seats = seats })
   sound : HasSoundGame desk
 
 numbered_if : (desk : DeskState) (make : List Board → GameState) (found : Option (List Board)) (new : DeskState)
@@ -51,7 +51,7 @@ numbered_if desk make (Some boards) new is =
     ap (λ (d : DeskState). d.number) (sym same)
 
 has_resumed : (desk : DeskState) (serial : ℕ) (game : StoredGame) (seats : Seats) (moment : ℕ) → Replays game
-    → names_in seats ≡ game.names → HasPairsFor game.terms seats
+    → names_seated seats ≡ game.names → HasPairsFor game.terms seats
     → AllDiffer (names_of seats) → moment ≤ last_moment
     → HasResumed desk.number serial game.terms seats (unwrap_or (restored desk serial game seats moment) desk)
 has_resumed desk serial game seats moment replays players pairs names timely =
@@ -59,7 +59,7 @@ has_resumed desk serial game seats moment replays players pairs names timely =
     let is : restored desk serial game seats moment ≡ Some found.0 = found.1 in
     subst (λ (o : Option DeskState). HasResumed desk.number serial game.terms seats (unwrap_or o desk))
     (sym is) (record {
-      numbered = numbered_if desk (resumed desk.number serial game seats moment)
+      numbered = numbered_if desk (game_resumed desk.number serial game seats moment)
           (replayed game.terms game.halves moment) found.0 is;
       listed =
           ap (option_map listing)
@@ -75,7 +75,7 @@ resumed_at : (lobby : LobbyState) (desk : DeskState) (serial stored : ℕ) (seat
     → HasResumed desk.number serial c.game.terms seats (resume_desk lobby desk serial stored seats moment)
 resumed_at lobby desk serial stored seats moment c timely =
     subst (λ (o : Option StoredGame). HasResumed desk.number serial c.game.terms seats
-    (with_game desk serial o seats moment)) (sym c.lies)
+    (desk_with_game desk serial o seats moment)) (sym c.lies)
     (has_resumed desk serial c.game seats moment c.replays c.players c.pairs c.names timely)
 
 same_game : (one another : StoredGame) → Some one ≡ Some another → one ≡ another
@@ -96,7 +96,7 @@ stays_resumed xs lobby number serial stored terms seats desk moment w e d p time
     let there = resumed_at lobby desk serial stored seats moment c timely in
     let own : terms ≡ c.game.terms =
     p.its_terms ∙ ap (λ (g : StoredGame). g.terms) (same_game p.game c.game (sym p.lies ∙ c.lies)) in
-    let listed : game_of (resume_desk lobby desk serial stored seats moment)
+    let listed : listed_game (resume_desk lobby desk serial stored seats moment)
     ≡ Some (record { serial = serial; terms = terms; seats = seats }) =
     there.listed ∙ ap (λ (t : Terms). Some (record { serial = serial; terms = t; seats = seats })) (sym own) in
     whole_both xs lobby (committed lobby plan None true) number desk

@@ -9,7 +9,7 @@ use Rattle.one_server.specs.declared.part.Part.{Part}
 use Rattle.one_server.specs.declared.reply.Reply.{Reply}
 use Rattle.one_server.specs.House.{house}
 use Rattle.one_server.specs.Running.{RunnerState}
-use Rattle.one_server.specs.Whole.{IsWhole, parts_of}
+use Rattle.one_server.specs.Whole.{IsWhole, parts_with}
 
 -- what contracts see of the server: its opening state, and the acts that were made since, the oldest first
 pub record ServerState : Type 0 where
@@ -25,7 +25,7 @@ pub record IsServed (opening : List Part) (log : List (Entry Timed Reply)) (lobb
     (desks : List DeskState) : Type 0 where
   pub whole : IsWhole opening
   pub legal : Legal house opening log
-  pub state : state house opening log ≡ parts_of lobby desks
+  pub state : state house opening log ≡ parts_with lobby desks
 
 -- what is known of a session that was lent this server: it is by itself, it has seen the whole history, and it may meet
 -- running out of memory in any act, since each act is kept

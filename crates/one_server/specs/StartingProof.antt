@@ -10,7 +10,7 @@ use Rattle.fics_words.specs.Handle.{key_of}
 use Rattle.fics_words.specs.Seats.{seat_list}
 use Rattle.desk_boards.specs.Boards.{board_numbers}
 use Rattle.linked_desk.specs.Seating.{AllDiffer, MayPlay, NoneIs}
-use Rattle.lobby_state.specs.Planned.{AreApart, FitsVariant}
+use Rattle.lobby_state.specs.Planned.{ArePlayersApart, FitsVariant}
 use Rattle.lobby_state.specs.Terms.{AreTerms}
 
 none_is : {X Y : Type 0} (f : X → Y) (x : X) (xs : List X)
@@ -41,7 +41,8 @@ pairs_for Bughouse first None fits = cc
 pairs_for Bughouse first (Some more) fits = refl
 
 -- these players may play on these terms
-pub may_play : (terms : Terms) (seats : Seats) → AreTerms terms → AreApart seats → FitsVariant terms.variant seats
+pub may_play : (terms : Terms) (seats : Seats) → AreTerms terms → ArePlayersApart seats
+    → FitsVariant terms.variant seats
     → MayPlay terms seats
 may_play terms seats bounded apart fits = record {
   pairs = pairs_for terms.variant seats.first seats.second fits;

@@ -8,14 +8,14 @@ use Rattle.linked_desk.specs.Desk.{DeskState}
 use Rattle.linked_desk.specs.Sound.{HasSoundGame}
 use Rattle.one_server.specs.declared.part.Part.{Part}
 use Rattle.one_server.specs.declared.part.Part.TheVariants.{Lobby as TheLobby, Desk as ADesk}
-use Rattle.one_server.specs.Desks.{game_of, vacant}
+use Rattle.one_server.specs.Desks.{listed_game, vacant}
 
 -- the desk has its number and its game is sound, and the lobby lists for it the game that it is in use for: none
 -- exactly where the desk is vacant, and else that serial, those terms and those seats
 pub record IsListed (lobby : LobbyState) (number : ℕ) (desk : DeskState) : Type 0 where
   pub numbered : desk.number ≡ number
   pub sound : HasSoundGame desk
-  pub listed : slice_get lobby.games (number - 1) ≡ Some (game_of desk)
+  pub listed : slice_get lobby.games (number - 1) ≡ Some (listed_game desk)
 
 -- the part stands at its place: the lobby first, and then the desks
 abbrev pub IsInPlace : LobbyState → ℕ → Part → Type 0
@@ -31,8 +31,8 @@ pub record IsWhole (parts : List Part) : Type 0 where
   pub places : (place : ℕ) (part : Part) → slice_get parts place ≡ Some part → IsInPlace lobby place part
 
 -- the state of this lobby and these desks
-abbrev pub parts_of : LobbyState → List DeskState → List Part
-parts_of lobby desks = TheLobby lobby ∷ map ADesk desks
+abbrev pub parts_with : LobbyState → List DeskState → List Part
+parts_with lobby desks = TheLobby lobby ∷ map ADesk desks
 
 -- so many desks from this number on, all of them vacant
 abbrev pub vacant_from : ℕ → ℕ → List DeskState
@@ -46,4 +46,4 @@ pub record IsOpening (lobby : LobbyState) : Type 0 where
 
 -- the opening state: a lobby, and 128 vacant desks
 unfoldable pub opened : LobbyState → List Part
-opened lobby = parts_of lobby (vacant_from 1 desk_count)
+opened lobby = parts_with lobby (vacant_from 1 desk_count)

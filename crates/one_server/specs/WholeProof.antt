@@ -12,7 +12,7 @@ use Rattle.linked_desk.specs.Desk.{DeskState}
 use Rattle.linked_desk.specs.Sound.{HasSoundGame}
 use Rattle.one_server.specs.declared.part.Part.{Part}
 use Rattle.one_server.specs.declared.part.Part.TheVariants.{Lobby as TheLobby, Desk as ADesk}
-use Rattle.one_server.specs.Desks.{game_of}
+use Rattle.one_server.specs.Desks.{listed_game}
 use Rattle.one_server.specs.Whole.{IsListed, IsInPlace, IsWhole}
 
 -- what stands at a number after a write: what was written there, and elsewhere what stood there
@@ -89,7 +89,8 @@ whole_lobby xs lobby new w e formed games = record {
 
 -- a desk is written anew, for which the lobby lists what it listed before
 pub whole_desk : (xs : List Part) (number : ℕ) (desk new : DeskState) → IsWhole xs
-    → slice_get xs number ≡ Some (ADesk desk) → new.number ≡ desk.number → game_of new ≡ game_of desk → HasSoundGame new
+    → slice_get xs number ≡ Some (ADesk desk) → new.number ≡ desk.number → listed_game new ≡ listed_game desk
+    → HasSoundGame new
     → IsWhole (set xs number (ADesk new))
 whole_desk xs number desk new w e numbered game sound =
     let place : (1 ≤ number) × IsListed w.lobby number desk = w.places number (ADesk desk) e in
@@ -115,13 +116,13 @@ whole_desk xs number desk new w e numbered game sound =
 -- the lobby and a desk are written anew, and the lobby lists at the desk's number what the desk is in use for now
 pub whole_both : (xs : List Part) (lobby other : LobbyState) (number : ℕ) (desk new : DeskState) → IsWhole xs
     → slice_get xs 0 ≡ Some (TheLobby lobby) → slice_get xs number ≡ Some (ADesk desk)
-    → IsWellFormed other → other.games ≡ set lobby.games (number - 1) (game_of new) → new.number ≡ desk.number
+    → IsWellFormed other → other.games ≡ set lobby.games (number - 1) (listed_game new) → new.number ≡ desk.number
     → HasSoundGame new
     → IsWhole (set (set xs 0 (TheLobby other)) number (ADesk new))
 whole_both xs lobby other number desk new w e d formed games numbered sound =
     let place : (1 ≤ number) × IsListed lobby number desk = place_is xs lobby w e number (ADesk desk) d in
     let inside : number - 1 < length lobby.games =
-    slice_get_length lobby.games (number - 1) (game_of desk) place.1.listed in
+    slice_get_length lobby.games (number - 1) (listed_game desk) place.1.listed in
     let front : List Part = set xs 0 (TheLobby other) in
     record {
       count = length-set front number (ADesk new) ∙ (length-set xs 0 (TheLobby other) ∙ w.count);
@@ -136,14 +137,14 @@ whole_both xs lobby other number desk new w e d formed games numbered sound =
             numbered = numbered ∙ place.1.numbered;
             sound = sound;
             listed = ap (λ (gs : List (Option ListedGame)). slice_get gs (number - 1)) games
-                ∙ get_set_same lobby.games (number - 1) (game_of new) inside;
+                ∙ get_set_same lobby.games (number - 1) (listed_game new) inside;
           },
         ))
         | inr there ↦ elim (after_write xs 0 at (TheLobby other) part there.1) [
           | inl front_part ↦ at_front other at other part front_part.0 front_part.1
           | inr elsewhere ↦ listed_still lobby other at part
               (λ one. ap (λ (gs : List (Option ListedGame)). slice_get gs (at - 1)) games
-              ∙ get_set_else lobby.games (number - 1) (at - 1) (game_of new)
+              ∙ get_set_else lobby.games (number - 1) (at - 1) (listed_game new)
               (λ same. there.0 (omega (arith, place.0, same, one))))
               (place_is xs lobby w e at part elsewhere.1)
         ]

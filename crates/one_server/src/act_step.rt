@@ -10,7 +10,7 @@ ghost use Rattle.one_server.specs.declared.act.Act.TheVariants.{Pair};
 ghost use Rattle.one_server.specs.Acts.{IsEvent, desk_reply};
 ghost use Rattle.one_server.specs.House.{house};
 ghost use Rattle.one_server.specs.Plans.{CanCarry, plan_reply, plan_lobby, plan_desk};
-ghost use Rattle.one_server.specs.Whole.{IsWhole, parts_of};
+ghost use Rattle.one_server.specs.Whole.{IsWhole, parts_with};
 
 use crate::act::{Act, Timed};
 use crate::reply::Reply;
@@ -33,10 +33,10 @@ pub(crate) fn act_step(
     timed: &Timed,
 ) -> Result<Reply, NoMemory>
     requires event { IsEvent timed.now }
-    requires whole { IsWhole (parts_of lobby.old desks.old) }
-    ensures reply { IfOk result (λ r. reply house (parts_of lobby.old desks.old) session timed.now ≡ Some r) }
-    ensures after { OnOk result (after house (parts_of lobby.old desks.old) session timed.now
-        ≡ parts_of lobby.new desks.new) }
+    requires whole { IsWhole (parts_with lobby.old desks.old) }
+    ensures reply { IfOk result (λ r. reply house (parts_with lobby.old desks.old) session timed.now ≡ Some r) }
+    ensures after { OnOk result (after house (parts_with lobby.old desks.old) session timed.now
+        ≡ parts_with lobby.new desks.new) }
     ensures err_lobby { OnErr result (lobby.new ≡ lobby.old) }
     ensures err_desks { OnErr result (desks.new ≡ desks.old) }
 {
@@ -82,13 +82,13 @@ fn planned_step(
     act: &PairAct,
 ) -> Result<Reply, NoMemory>
     requires names { NamesDesk act.now }
-    requires whole { IsWhole (parts_of lobby.old desks.old) }
+    requires whole { IsWhole (parts_with lobby.old desks.old) }
     ensures reply { IfOk result
-        (λ r. reply house (parts_of lobby.old desks.old) session (record { moment = moment; act = Pair act.now })
+        (λ r. reply house (parts_with lobby.old desks.old) session (record { moment = moment; act = Pair act.now })
         ≡ Some r) }
     ensures after { OnOk result
-        (after house (parts_of lobby.old desks.old) session (record { moment = moment; act = Pair act.now })
-        ≡ parts_of lobby.new desks.new) }
+        (after house (parts_with lobby.old desks.old) session (record { moment = moment; act = Pair act.now })
+        ≡ parts_with lobby.new desks.new) }
     ensures err_lobby { OnErr result (lobby.new ≡ lobby.old) }
     ensures err_desks { OnErr result (desks.new ≡ desks.old) }
 {

@@ -1,13 +1,13 @@
 -- A text is read alike however it is cut.
 use Rattle.std.proofs.Common.{◌≡◌, ℕ, true, false, List, [], ◌∷◌, ◌++◌, Option, Some, None, refl, sym, ap, ◌∙◌}
 use Rattle.pgn_book.specs.declared.game.PgnGame.{PgnGame}
-use Rattle.pgn_book.specs.Games.{Reads}
-use Rattle.pgn_book.specs.Reading.{State, Outcome, adding, step, read_from, first_state, Gone, with_given, gone, gone_both, adding_all}
+use Rattle.pgn_book.specs.Games.{ReadsGames}
+use Rattle.pgn_book.specs.Reading.{State, Outcome, with_game_first, step, read_from, first_state, Gone, with_given, gone, gone_both, adding_all}
 use Rattle.pgn_book.specs.Laws.{ReadsInPieces}
 use Rattle.pgn_book.proofs.GamesTold.{reads_told}
 
 adding_more : (given : Option PgnGame) (h : Gone) (rest : List ℕ) →
-    adding given (adding_all h.games (read_from h.on rest))
+    with_game_first given (adding_all h.games (read_from h.on rest))
     ≡ adding_all (with_given given h).games (read_from (with_given given h).on rest)
 adding_more None h rest = refl
 adding_more (Some g) h rest = refl
@@ -17,7 +17,7 @@ read_on : (front rest : List ℕ) (s : Option State)
 read_on front rest None = refl
 read_on [] rest (Some s) = refl
 read_on (b ∷ front) rest (Some s) =
-    ap (adding (step s b).given) (read_on front rest (step s b).on)
+    ap (with_game_first (step s b).given) (read_on front rest (step s b).on)
     ∙ adding_more (step s b).given (gone (step s b).on front) rest
 
 given_more : (given : Option PgnGame) (h : Gone) (rest : List ℕ) →
@@ -34,7 +34,7 @@ gone_on (b ∷ front) rest (Some s) =
     ∙ given_more (step s b).given (gone (step s b).on front) rest
 
 nothing_reads : (front rest : List ℕ) (games : List PgnGame) → (gone (Some first_state) front).on ≡ None
-    → Reads (front ++ rest) games → ⊥
+    → ReadsGames (front ++ rest) games → ⊥
 nothing_reads front rest games e h =
     let read : read_from (Some first_state) (front ++ rest)
     ≡ adding_all (gone (Some first_state) front).games (read_from None rest) =

@@ -20,7 +20,7 @@ use Rattle.pgn_book.specs.declared.game.PgnResult.TheVariants.{White, Black, Dra
 use Rattle.pgn_book.specs.declared.game.PgnGame.{PgnGame}
 use Rattle.pgn_book.specs.Bytes.{is_among, is_space, is_letter, is_digit, move_signs, is_word_byte, StopsBefore}
 use Rattle.pgn_book.specs.Lexing.{Piece, Blank, Word, Quoted, Sign, escaped, IsWord, IsText, At, is_sign, Lexes}
-use Rattle.pgn_book.specs.Games.{result_text, on_board, position_of, Tag, all_tag_pieces, IsPassed, IsMoveWord, TellMoves, IsGame, Reads}
+use Rattle.pgn_book.specs.Games.{result_text, on_board, position_of_moves, Tag, all_tag_pieces, IsPassed, IsMoveWord, TellMoves, IsOneGame, ReadsGames}
 use Rattle.pgn_book.specs.Export.{tag_line, move_tokens, laid, movetext, export_text, IsExportable}
 use Rattle.pgn_book.specs.Laws.{ExportsReadBack}
 use Rattle.pgn_book.proofs.PiecesRead.{telling}
@@ -275,14 +275,14 @@ number_token n h =
 
 -- the pretty text of an allowed move
 record IsPrettyWord (before : List Move) (m : Move) : Type 0 where
-  allowed : Allowed (position_of before) m
-  token : IsToken (pretty_in (position_of before) m) (Word (pretty_in (position_of before) m) ∷ [])
-  move_word : IsMoveWord before (pretty_in (position_of before) m) m
+  allowed : Allowed (position_of_moves before) m
+  token : IsToken (pretty_in (position_of_moves before) m) (Word (pretty_in (position_of_moves before) m) ∷ [])
+  move_word : IsMoveWord before (pretty_in (position_of_moves before) m) m
 
 pretty_word : (before after : List Move) (m : Move) → IsLegal Chess (map on_board (before ++ m ∷ after))
     → IsPrettyWord before m
 pretty_word before after m legal =
-    let p : Position = position_of before in
+    let p : Position = position_of_moves before in
     let shown : Shown = shown_of p m in
     let allowed : Allowed p m = allowed_at before after m legal in
     let front : IsLegal Chess (map on_board before) =
@@ -327,7 +327,7 @@ numbered : (before : List Move) (m : Move) (moves : List Move) (wanted : Bool) �
     IsPrettyWord before m → MovesShown (before ++ m ∷ []) moves → MovesShown before (m ∷ moves)
 unfolding texts tolds
 numbered before m moves wanted e few is rest =
-    let word : List ℕ = pretty_in (position_of before) m in
+    let word : List ℕ = pretty_in (position_of_moves before) m in
     let n : ℕ = length before / 2 + 1 in
     let move_token : Token = record { text = word; told = Word word ∷ []; is = is.token } in
     let number : Token =
@@ -475,7 +475,7 @@ export_shown g h body =
     subst (λ (t : List ℕ). Shows true t (all_tag_pieces (seven_tags g) ++ told)) (sym split) s7
 
 export_game : (g : PgnGame) (h : IsExportable g) (body : MovesShown [] g.moves) →
-    IsGame (all_tag_pieces (seven_tags g) ++ (tolds body.tokens ++ Word (result_text g.result) ∷ [])) g
+    IsOneGame (all_tag_pieces (seven_tags g) ++ (tolds body.tokens ++ Word (result_text g.result) ∷ [])) g
 export_game g h body = record {
   tags = seven_tags g;
   body = tolds body.tokens;
@@ -504,7 +504,7 @@ export_game g h body = record {
   whole = refl;
 }
 
-export_read : (g : PgnGame) → IsExportable g → Reads (export_text g) (g ∷ [])
+export_read : (g : PgnGame) → IsExportable g → ReadsGames (export_text g) (g ∷ [])
 export_read g h =
     let body : MovesShown [] g.moves = moves_shown g.moves [] h.legal (omega (arith, h.most)) in
     let shown = export_shown g h body in

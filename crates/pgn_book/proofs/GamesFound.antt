@@ -16,13 +16,13 @@ use Rattle.rules_reading.specs.ReadsBack.{IsReadAs}
 use Rattle.pgn_book.specs.declared.game.PgnResult.TheVariants.{White, Black, Draw, Open}
 use Rattle.pgn_book.specs.declared.game.PgnGame.{PgnGame}
 use Rattle.pgn_book.specs.Bytes.{is_digit, is_name_byte}
-use Rattle.pgn_book.specs.Lexing.{Piece, Blank, Escape, Braces, Comment, Word, Glyph, Quoted, Sign, Opening, Closing, Within, is_skipped, is_sign, At, MayStand, behind, Lexes, at_start, unmarked}
-use Rattle.pgn_book.specs.Games.{result_text, is_result, position_of, Tag, IsTag, tag_pieces, all_tag_pieces, without_praise, IsPassed, IsMoveWord, Tells, TellMoves, IsGame, AreGames, Reads}
+use Rattle.pgn_book.specs.Lexing.{Piece, Blank, Escape, Braces, Comment, Word, Glyph, Quoted, Sign, Opening, Closing, Within, is_skipped, is_sign, At, MayStand, next_place, Lexes, at_start, unmarked}
+use Rattle.pgn_book.specs.Games.{result_text, is_result, position_of_moves, Tag, IsTag, tag_pieces, all_tag_pieces, without_praise, IsPassed, IsMoveWord, TellsMove, TellMoves, IsOneGame, AreGames, ReadsGames}
 use Rattle.pgn_book.specs.declared.stage.GameStage.{GameStage}
 use Rattle.pgn_book.specs.declared.stage.GameStage.TheVariants.{Before, Tags, Opened, Named, Told, Moves}
 use Rattle.pgn_book.specs.declared.tag_texts.TagTexts.{TagTexts}
 use Rattle.pgn_book.specs.declared.place.PlaceInText.TheVariants.{Between}
-use Rattle.pgn_book.specs.Reading.{Book, empty_row, no_book, noted, result_of, game_of, Taken, goes, fails, gives, staged, opened, closed, passed_over, quoted, named, from_word, move_read, with_move, moved, told, worded, signed, glyphed, took, Outcome, adding, is_before, all_told, state_at, read_from, first_state, tags_of}
+use Rattle.pgn_book.specs.Reading.{Book, empty_row, no_book, tag_noted, result_of, game_of_book, Taken, goes, fails, gives, staged, stage_opened, closed, piece_passed, quoted, tag_named, from_word, move_read, with_move, move_taken, piece_told, worded, signed, glyphed, took, Outcome, with_game_first, is_before, all_told, state_at, read_from, first_state, tags_of}
 use Rattle.pgn_book.specs.Laws.{ReaderReads}
 use Rattle.pgn_book.proofs.PiecesRead.{telling, lexed_read, start_read}
 use Rattle.pgn_book.proofs.GamesTold.{row_from, row_told, reads_told, book_at}
@@ -39,28 +39,29 @@ record TagsSoFar (row : TagTexts) : Type 0 where
 
 -- a book and the pieces that led to it
 abbrev SoFar : List Piece → GameStage → TagTexts → List Move → Type 0
-SoFar told Before row moves = (told ≡ []) × (row ≡ empty_row) × (moves ≡ [])
-SoFar told Tags row moves = (t : TagsSoFar row) × (told ≡ all_tag_pieces t.tags) × (moves ≡ [])
-SoFar told Opened row moves = (t : TagsSoFar row) × (told ≡ all_tag_pieces t.tags ++ Sign 91 ∷ []) × (moves ≡ [])
-SoFar told (Named name) row moves =
-    (t : TagsSoFar row) × (told ≡ all_tag_pieces t.tags ++ Sign 91 ∷ Word name ∷ []) × (moves ≡ [])
+SoFar piece_told Before row moves = (piece_told ≡ []) × (row ≡ empty_row) × (moves ≡ [])
+SoFar piece_told Tags row moves = (t : TagsSoFar row) × (piece_told ≡ all_tag_pieces t.tags) × (moves ≡ [])
+SoFar piece_told Opened row moves =
+    (t : TagsSoFar row) × (piece_told ≡ all_tag_pieces t.tags ++ Sign 91 ∷ []) × (moves ≡ [])
+SoFar piece_told (Named name) row moves =
+    (t : TagsSoFar row) × (piece_told ≡ all_tag_pieces t.tags ++ Sign 91 ∷ Word name ∷ []) × (moves ≡ [])
     × IsTag (record { name = name; text = [] })
-SoFar told Told row moves =
+SoFar piece_told Told row moves =
     (old : TagTexts) × (t : TagsSoFar old) × (tag : Tag)
-    × (told ≡ all_tag_pieces t.tags ++ Sign 91 ∷ Word tag.name ∷ Quoted tag.text ∷ []) × (moves ≡ []) × IsTag tag
-    × (row ≡ noted tag.name tag.text old)
-SoFar told Moves row moves =
-    (t : TagsSoFar row) × (body : List Piece) × (told ≡ all_tag_pieces t.tags ++ body) × TellMoves [] body moves
+    × (piece_told ≡ all_tag_pieces t.tags ++ Sign 91 ∷ Word tag.name ∷ Quoted tag.text ∷ []) × (moves ≡ []) × IsTag tag
+    × (row ≡ tag_noted tag.name tag.text old)
+SoFar piece_told Moves row moves =
+    (t : TagsSoFar row) × (body : List Piece) × (piece_told ≡ all_tag_pieces t.tags ++ body) × TellMoves [] body moves
     × (length moves ≤ 1200)
 
 -- what a piece more makes of it: it goes on, or a game is whole, or it fails
 abbrev OnwardBy : List Piece → Option PgnGame → Option Book → Type 0
-OnwardBy told given None = Unit {0}
-OnwardBy told None (Some book) = SoFar told book.stage book.row book.moves
-OnwardBy told (Some g) (Some book) = (book ≡ no_book) × IsGame told g
+OnwardBy piece_told given None = Unit {0}
+OnwardBy piece_told None (Some book) = SoFar piece_told book.stage book.row book.moves
+OnwardBy piece_told (Some g) (Some book) = (book ≡ no_book) × IsOneGame piece_told g
 
 abbrev Onward : List Piece → Taken → Type 0
-Onward told taken = OnwardBy told taken.given taken.on
+Onward piece_told taken = OnwardBy piece_told taken.given taken.on
 
 -- the tags before a tag, or before the moves
 abbrev IsFront : GameStage → Type 0
@@ -68,35 +69,36 @@ IsFront Before = Unit {0}
 IsFront Tags = Unit {0}
 IsFront _ = ⊥
 
-record FrontTags (told : List Piece) (row : TagTexts) (moves : List Move) : Type 0 where
+record FrontTags (piece_told : List Piece) (row : TagTexts) (moves : List Move) : Type 0 where
   so_far : TagsSoFar row
-  are : told ≡ all_tag_pieces so_far.tags
+  are : piece_told ≡ all_tag_pieces so_far.tags
   no_moves : moves ≡ []
 
-front_tags : (told : List Piece) (stage : GameStage) (row : TagTexts) (moves : List Move) → IsFront stage
-    → SoFar told stage row moves → FrontTags told row moves
+front_tags : (piece_told : List Piece) (stage : GameStage) (row : TagTexts) (moves : List Move) → IsFront stage
+    → SoFar piece_told stage row moves → FrontTags piece_told row moves
 unfolding row_from
-front_tags told Before row moves h s = record {
+front_tags piece_told Before row moves h s = record {
   so_far = record { tags = []; each = tt; row_is = s.1 };
   are = s.0;
   no_moves = s.2;
 }
-front_tags told Tags row moves h s = record { so_far = s.0; are = s.1; no_moves = s.2 }
-front_tags told Opened row moves h s = absurd h
-front_tags told (Named name) row moves h s = absurd h
-front_tags told Told row moves h s = absurd h
-front_tags told Moves row moves h s = absurd h
+front_tags piece_told Tags row moves h s = record { so_far = s.0; are = s.1; no_moves = s.2 }
+front_tags piece_told Opened row moves h s = absurd h
+front_tags piece_told (Named name) row moves h s = absurd h
+front_tags piece_told Told row moves h s = absurd h
+front_tags piece_told Moves row moves h s = absurd h
 
 -- the moves of a game that goes on, or that begin here
-record Ready (told : List Piece) (row : TagTexts) (moves : List Move) : Type 0 where
+record Ready (piece_told : List Piece) (row : TagTexts) (moves : List Move) : Type 0 where
   so_far : TagsSoFar row
   body : List Piece
-  are : told ≡ all_tag_pieces so_far.tags ++ body
+  are : piece_told ≡ all_tag_pieces so_far.tags ++ body
   tell : TellMoves [] body moves
   most : length moves ≤ 1200
 
-from_front : (told : List Piece) (row : TagTexts) (moves : List Move) → FrontTags told row moves → Ready told row moves
-from_front told row moves f = record {
+from_front : (piece_told : List Piece) (row : TagTexts) (moves : List Move) → FrontTags piece_told row moves
+    → Ready piece_told row moves
+from_front piece_told row moves f = record {
   so_far = f.so_far;
   body = [];
   are = f.are ∙ sym (append-nil (all_tag_pieces f.so_far.tags));
@@ -110,24 +112,24 @@ IsReady Tags = Unit {0}
 IsReady Moves = Unit {0}
 IsReady _ = ⊥
 
-ready : (told : List Piece) (stage : GameStage) (row : TagTexts) (moves : List Move) → IsReady stage
-    → SoFar told stage row moves → Ready told row moves
-ready told Before row moves h s = from_front told row moves (front_tags told Before row moves tt s)
-ready told Tags row moves h s = from_front told row moves (front_tags told Tags row moves tt s)
-ready told Opened row moves h s = absurd h
-ready told (Named name) row moves h s = absurd h
-ready told Told row moves h s = absurd h
-ready told Moves row moves h s = record { so_far = s.0; body = s.1; are = s.2; tell = s.3; most = s.4 }
+ready : (piece_told : List Piece) (stage : GameStage) (row : TagTexts) (moves : List Move) → IsReady stage
+    → SoFar piece_told stage row moves → Ready piece_told row moves
+ready piece_told Before row moves h s = from_front piece_told row moves (front_tags piece_told Before row moves tt s)
+ready piece_told Tags row moves h s = from_front piece_told row moves (front_tags piece_told Tags row moves tt s)
+ready piece_told Opened row moves h s = absurd h
+ready piece_told (Named name) row moves h s = absurd h
+ready piece_told Told row moves h s = absurd h
+ready piece_told Moves row moves h s = record { so_far = s.0; body = s.1; are = s.2; tell = s.3; most = s.4 }
 
 -- moves told by pieces, with a piece behind them
 tell-end : (before : List Move) (body : List Piece) (moves : List Move) (piece : Piece) (first : List Move)
     → TellMoves before body moves →
-    Tells (before ++ moves) piece first → TellMoves before (body ++ piece ∷ []) (moves ++ first)
+    TellsMove (before ++ moves) piece first → TellMoves before (body ++ piece ∷ []) (moves ++ first)
 tell-end before [] moves piece first h t =
     let none : before ++ moves ≡ before = ap (λ (l : List Move). before ++ l) h ∙ append-nil before in (
       first,
       [],
-      subst (λ (l : List Move). Tells l piece first) none t,
+      subst (λ (l : List Move). TellsMove l piece first) none t,
       refl,
       ap (λ (l : List Move). l ++ first) h ∙ sym (append-nil first),
     )
@@ -139,15 +141,16 @@ tell-end before (x ∷ body) moves piece first h t =
       one,
       rest ++ first,
       h.2,
-      tell-end (before ++ one) body rest piece first h.3 (subst (λ (l : List Move). Tells l piece first) along t),
+      tell-end (before ++ one) body rest piece first h.3 (subst (λ (l : List Move). TellsMove l piece first) along t),
       ap (λ (l : List Move). l ++ first) h.4 ∙ append_assoc one rest first,
     )
 
 -- a piece of the movetext more
-goes_to_moves : (told : List Piece) (row : TagTexts) (moves first : List Move) (piece : Piece) → Ready told row moves
-    → Tells moves piece first →
-    length (moves ++ first) ≤ 1200 → SoFar (told ++ piece ∷ []) Moves row (moves ++ first)
-goes_to_moves told row moves first piece r t most = (
+goes_to_moves : (piece_told : List Piece) (row : TagTexts) (moves first : List Move) (piece : Piece)
+    → Ready piece_told row moves
+    → TellsMove moves piece first →
+    length (moves ++ first) ≤ 1200 → SoFar (piece_told ++ piece ∷ []) Moves row (moves ++ first)
+goes_to_moves piece_told row moves first piece r t most = (
   r.so_far,
   r.body ++ piece ∷ [],
   ap (λ (l : List Piece). l ++ piece ∷ []) r.are ∙ append_assoc (all_tag_pieces r.so_far.tags) r.body (piece ∷ []),
@@ -155,32 +158,36 @@ goes_to_moves told row moves first piece r t most = (
   most,
 )
 
-passes : (told : List Piece) (row : TagTexts) (moves : List Move) (piece : Piece) → Ready told row moves
+passes : (piece_told : List Piece) (row : TagTexts) (moves : List Move) (piece : Piece) → Ready piece_told row moves
     → IsPassed piece →
-    SoFar (told ++ piece ∷ []) Moves row moves
-passes told row moves piece r is =
+    SoFar (piece_told ++ piece ∷ []) Moves row moves
+passes piece_told row moves piece r is =
     let none : moves ++ [] ≡ moves = append-nil moves in
-    subst (λ (l : List Move). SoFar (told ++ piece ∷ []) Moves row l) none
-    (goes_to_moves told row moves [] piece r (inl (is, refl))
+    subst (λ (l : List Move). SoFar (piece_told ++ piece ∷ []) Moves row l) none
+    (goes_to_moves piece_told row moves [] piece r (inl (is, refl))
     (subst (λ (l : List Move). length l ≤ 1200) (sym none) r.most))
 
-pass_onward : (told : List Piece) (stage : GameStage) (row : TagTexts) (moves : List Move) (piece : Piece)
-    → SoFar told stage row moves → IsPassed piece →
-    Onward (told ++ piece ∷ []) (passed_over stage (book_at stage row moves))
-pass_onward told Before row moves piece s is = passes told row moves piece (ready told Before row moves tt s) is
-pass_onward told Tags row moves piece s is = passes told row moves piece (ready told Tags row moves tt s) is
-pass_onward told Opened row moves piece s is = tt
-pass_onward told (Named name) row moves piece s is = tt
-pass_onward told Told row moves piece s is = tt
-pass_onward told Moves row moves piece s is = passes told row moves piece (ready told Moves row moves tt s) is
+pass_onward : (piece_told : List Piece) (stage : GameStage) (row : TagTexts) (moves : List Move) (piece : Piece)
+    → SoFar piece_told stage row moves → IsPassed piece →
+    Onward (piece_told ++ piece ∷ []) (piece_passed stage (book_at stage row moves))
+pass_onward piece_told Before row moves piece s is =
+    passes piece_told row moves piece (ready piece_told Before row moves tt s) is
+pass_onward piece_told Tags row moves piece s is =
+    passes piece_told row moves piece (ready piece_told Tags row moves tt s) is
+pass_onward piece_told Opened row moves piece s is = tt
+pass_onward piece_told (Named name) row moves piece s is = tt
+pass_onward piece_told Told row moves piece s is = tt
+pass_onward piece_told Moves row moves piece s is =
+    passes piece_told row moves piece (ready piece_told Moves row moves tt s) is
 
 -- ---- words
 
 -- one of two ways
-onward_by : (x : Bool) (told : List Piece) (a c : Taken) → (x ≡ true → Onward told a) → (x ≡ false → Onward told c)
-    → Onward told (cond x a c)
-onward_by true told a c h g = h refl
-onward_by false told a c h g = g refl
+onward_by : (x : Bool) (piece_told : List Piece) (a c : Taken) → (x ≡ true → Onward piece_told a)
+    → (x ≡ false → Onward piece_told c)
+    → Onward piece_told (cond x a c)
+onward_by true piece_told a c h g = h refl
+onward_by false piece_told a c h g = g refl
 
 -- what is read as a move
 read_found : (p : Position) (text : List ℕ) (m : Move) (word : Option MoveWord) → reading text ≡ word
@@ -196,21 +203,22 @@ pub move_found : (p : Position) (text : List ℕ) (m : Move) → move_read p tex
 unfolding move_read
 move_found p text m h = read_found p text m (reading text) refl h
 
-onward_move : (told : List Piece) (row : TagTexts) (moves : List Move) (word : List ℕ) → Ready told row moves
+onward_move : (piece_told : List Piece) (row : TagTexts) (moves : List Move) (word : List ℕ)
+    → Ready piece_told row moves
     → list_all is_digit word ≡ false → is_result word ≡ false →
     length moves < 1200 → (stage : GameStage) (m : Option Move)
-    → move_read (position_of moves) (without_praise word) ≡ m →
-    Onward (told ++ Word word ∷ []) (with_move (book_at stage row moves) m)
-onward_move told row moves word r number result room stage None e = tt
-onward_move told row moves word r number result room stage (Some m) e =
+    → move_read (position_of_moves moves) (without_praise word) ≡ m →
+    Onward (piece_told ++ Word word ∷ []) (with_move (book_at stage row moves) m)
+onward_move piece_told row moves word r number result room stage None e = tt
+onward_move piece_told row moves word r number result room stage (Some m) e =
     let is : IsMoveWord moves word m =
     record {
       no_number = number;
       no_result = result;
-      read = move_found (position_of moves) (without_praise word) m e;
+      read = move_found (position_of_moves moves) (without_praise word) m e;
     } in
     let long : length (moves ++ m ∷ []) ≡ length moves + 1 = length-append moves (m ∷ []) in
-    goes_to_moves told row moves (m ∷ []) (Word word) r (inr (record {
+    goes_to_moves piece_told row moves (m ∷ []) (Word word) r (inr (record {
       word = word;
       move = m;
       is = refl;
@@ -236,10 +244,10 @@ result_word word h =
     by false false false true p q r s h = (bytes_eq-Decides word (codes "*")).0 s
     by false false false false p q r s h = cc
 
-whole_game : (told : List Piece) (stage : GameStage) (row : TagTexts) (moves : List Move) (word : List ℕ)
-    → Ready told row moves → is_result word ≡ true →
-    IsGame (told ++ Word word ∷ []) (game_of (book_at stage row moves) word)
-whole_game told stage row moves word r h = record {
+whole_game : (piece_told : List Piece) (stage : GameStage) (row : TagTexts) (moves : List Move) (word : List ℕ)
+    → Ready piece_told row moves → is_result word ≡ true →
+    IsOneGame (piece_told ++ Word word ∷ []) (game_of_book (book_at stage row moves) word)
+whole_game piece_told stage row moves word r h = record {
   tags = r.so_far.tags;
   body = r.body;
   each_tag = r.so_far.each;
@@ -254,27 +262,28 @@ whole_game told stage row moves word r h = record {
 
 onward_told : (told_so : List Piece) (stage : GameStage) (row : TagTexts) (moves : List Move) (word : List ℕ)
     → IsReady stage → SoFar told_so stage row moves →
-    Onward (told_so ++ Word word ∷ []) (told (book_at stage row moves) word)
+    Onward (told_so ++ Word word ∷ []) (piece_told (book_at stage row moves) word)
 onward_told told_so stage row moves word h s =
     let book : Book = book_at stage row moves in
     let r : Ready told_so row moves = ready told_so stage row moves h s in
     let pieces : List Piece = told_so ++ Word word ∷ [] in
-    onward_by (list_all is_digit word) pieces (passed_over stage book)
-    (cond (is_result word) (gives (game_of book word)) (moved book word))
+    onward_by (list_all is_digit word) pieces (piece_passed stage book)
+    (cond (is_result word) (gives (game_of_book book word)) (move_taken book word))
     (λ e. pass_onward told_so stage row moves (Word word) s e)
-    (λ number. onward_by (is_result word) pieces (gives (game_of book word)) (moved book word)
+    (λ number. onward_by (is_result word) pieces (gives (game_of_book book word)) (move_taken book word)
     (λ e. (refl, whole_game told_so stage row moves word r e))
     (λ result.
-    onward_by (nat_lt (length moves) 1200) pieces (with_move book (move_read (position_of moves) (without_praise word)))
+    onward_by (nat_lt (length moves) 1200) pieces
+    (with_move book (move_read (position_of_moves moves) (without_praise word)))
     fails
     (λ e.
     onward_move told_so row moves word r number result (below (length moves) 1200 e) stage
-    (move_read (position_of moves) (without_praise word)) refl)
+    (move_read (position_of_moves moves) (without_praise word)) refl)
     (λ e. tt)))
 
 onward_named : (told_so : List Piece) (row : TagTexts) (moves : List Move) (word : List ℕ)
     → SoFar told_so Opened row moves →
-    Onward (told_so ++ Word word ∷ []) (named (book_at Opened row moves) word)
+    Onward (told_so ++ Word word ∷ []) (tag_named (book_at Opened row moves) word)
 onward_named told_so row moves word s =
     let book : Book = book_at Opened row moves in
     onward_by (list_all is_name_byte word
@@ -305,7 +314,7 @@ onward_glyph : (told_so : List Piece) (stage : GameStage) (row : TagTexts) (move
 onward_glyph told_so stage row moves [] s = tt
 onward_glyph told_so stage row moves (b ∷ word) s =
     onward_by (list_all is_digit (b ∷ word)) (told_so ++ Glyph (b ∷ word) ∷ [])
-    (passed_over stage (book_at stage row moves)) fails
+    (piece_passed stage (book_at stage row moves)) fails
     (λ e. pass_onward told_so stage row moves (Glyph (b ∷ word)) s (λ f. cc, e))
     (λ e. tt)
 
@@ -332,7 +341,7 @@ onward_text told_so Moves row moves text s = tt
 
 onward_opened : (told_so : List Piece) (stage : GameStage) (row : TagTexts) (moves : List Move)
     → SoFar told_so stage row moves →
-    Onward (told_so ++ Sign 91 ∷ []) (opened stage (book_at stage row moves))
+    Onward (told_so ++ Sign 91 ∷ []) (stage_opened stage (book_at stage row moves))
 onward_opened told_so Before row moves s =
     let f = front_tags told_so Before row moves tt s in
     (f.so_far, ap (λ (l : List Piece). l ++ Sign 91 ∷ []) f.are, f.no_moves)
@@ -350,10 +359,10 @@ tags-end [] tag = refl
 tags-end (t ∷ tags) tag = ap (λ (l : List Piece). tag_pieces t ++ l) (tags-end tags tag)
 
 row-end : (tags : List Tag) (tag : Tag) (row : TagTexts)
-    → row_from row (tags ++ tag ∷ []) ≡ noted tag.name tag.text (row_from row tags)
+    → row_from row (tags ++ tag ∷ []) ≡ tag_noted tag.name tag.text (row_from row tags)
 unfolding row_from
 row-end [] tag row = refl
-row-end (t ∷ tags) tag row = row-end tags tag (noted t.name t.text row)
+row-end (t ∷ tags) tag row = row-end tags tag (tag_noted t.name t.text row)
 
 onward_closed : (told_so : List Piece) (stage : GameStage) (row : TagTexts) (moves : List Move)
     → SoFar told_so stage row moves →
@@ -366,7 +375,7 @@ onward_closed told_so Told row moves (old, t, tag, are, none, is, row_is) = (
   record {
     tags = t.tags ++ tag ∷ [];
     each = each-push IsTag t.tags tag t.each is;
-    row_is = row_is ∙ ap (noted tag.name tag.text) t.row_is ∙ sym (row-end t.tags tag empty_row);
+    row_is = row_is ∙ ap (tag_noted tag.name tag.text) t.row_is ∙ sym (row-end t.tags tag empty_row);
   },
   ap (λ (l : List Piece). l ++ Sign 93 ∷ []) are
       ∙ append_assoc (all_tag_pieces t.tags) (Sign 91 ∷ Word tag.name ∷ Quoted tag.text ∷ []) (Sign 93 ∷ [])
@@ -388,11 +397,11 @@ onward_sign : (told_so : List Piece) (stage : GameStage) (row : TagTexts) (moves
 onward_sign told_so stage row moves b is s =
     let book : Book = book_at stage row moves in
     let pieces : List Piece = told_so ++ Sign b ∷ [] in
-    onward_by (b == 91) pieces (opened stage book) (cond (b == 93) (closed stage book) (passed_over stage book))
+    onward_by (b == 91) pieces (stage_opened stage book) (cond (b == 93) (closed stage book) (piece_passed stage book))
     (λ e.
-    subst (λ (x : ℕ). Onward (told_so ++ Sign x ∷ []) (opened stage book)) (sym (eqb-true b 91 e))
+    subst (λ (x : ℕ). Onward (told_so ++ Sign x ∷ []) (stage_opened stage book)) (sym (eqb-true b 91 e))
     (onward_opened told_so stage row moves s))
-    (λ no_opening. onward_by (b == 93) pieces (closed stage book) (passed_over stage book)
+    (λ no_opening. onward_by (b == 93) pieces (closed stage book) (piece_passed stage book)
     (λ e.
     subst (λ (x : ℕ). Onward (told_so ++ Sign x ∷ []) (closed stage book)) (sym (eqb-true b 93 e))
     (onward_closed told_so stage row moves s))
@@ -449,8 +458,8 @@ Further pieces =
 
 with_piece : (piece : Piece) (pieces told_so : List Piece) (given : Option PgnGame) (on : Option Book)
     → OnwardBy (told_so ++ piece ∷ []) given on →
-    (adding given (all_told on pieces)).whole ≡ true → Further pieces
-    → AreGames (told_so ++ piece ∷ pieces) (adding given (all_told on pieces)).games
+    (with_game_first given (all_told on pieces)).whole ≡ true → Further pieces
+    → AreGames (told_so ++ piece ∷ pieces) (with_game_first given (all_told on pieces)).games
 with_piece piece pieces told_so None None o h again = absurd (let f : false ≡ true = h in cc)
 with_piece piece pieces told_so (Some g) None o h again = absurd (let f : false ≡ true = h in cc)
 with_piece piece pieces told_so None (Some b) o h again =
@@ -496,10 +505,10 @@ all_known : (pieces : List Piece) (at : At) (text : List ℕ) → Lexes at text 
 all_known [] at text h = tt
 all_known (piece ∷ pieces) at text h =
     known_if (is_skipped piece) piece (telling pieces) (known_piece at piece h.0 h.2)
-    (all_known pieces (behind at piece) h.0 h.3)
+    (all_known pieces (next_place at piece) h.0 h.3)
 
 found_reads : (text : List ℕ) (games : List PgnGame)
-    → read_from (Some first_state) text ≡ record { games = games; whole = true } → Reads text games
+    → read_from (Some first_state) text ≡ record { games = games; whole = true } → ReadsGames text games
 found_reads text games h =
     let from_start : read_from (Some (state_at (Between true) 0 no_book)) (unmarked text)
     ≡ record { games = games; whole = true } =

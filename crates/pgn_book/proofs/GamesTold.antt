@@ -12,12 +12,12 @@ use Rattle.pgn_book.specs.declared.game.PgnResult.TheVariants.{White, Black, Dra
 use Rattle.pgn_book.specs.declared.game.PgnGame.{PgnGame}
 use Rattle.pgn_book.specs.Bytes.{is_digit, is_name_byte}
 use Rattle.pgn_book.specs.Lexing.{Piece, Blank, Escape, Braces, Comment, Word, Glyph, Quoted, Sign, Opening, Closing, Within, at_start, unmarked}
-use Rattle.pgn_book.specs.Games.{result_text, is_result, position_of, Tag, IsTag, all_tag_pieces, first_text, row_of, without_praise, IsPassed, IsMoveWord, Tells, TellMoves, IsGame, AreGames, Reads, OneReading}
+use Rattle.pgn_book.specs.Games.{result_text, is_result, position_of_moves, Tag, IsTag, all_tag_pieces, first_text, row_of, without_praise, IsPassed, IsMoveWord, TellsMove, TellMoves, IsOneGame, AreGames, ReadsGames, OneReading}
 use Rattle.pgn_book.specs.Reading as reader
 use Rattle.pgn_book.specs.declared.stage.GameStage.{GameStage}
 use Rattle.pgn_book.specs.declared.stage.GameStage.TheVariants.{Before, Tags, Opened, Named, Told, Moves}
 use Rattle.pgn_book.specs.declared.tag_texts.TagTexts.{TagTexts}
-use Rattle.pgn_book.specs.Reading.{Book, empty_row, no_book, noted_as, noted, result_of, game_of, Taken, goes, fails, passed_over, from_word, move_read, with_move, told, took, Outcome, adding, all_told, read_from, first_state, tags_of}
+use Rattle.pgn_book.specs.Reading.{Book, empty_row, no_book, noted_as, tag_noted, result_of, game_of_book, Taken, goes, fails, piece_passed, from_word, move_read, with_move, piece_told, took, Outcome, with_game_first, all_told, read_from, first_state, tags_of}
 use Rattle.pgn_book.proofs.PiecesRead.{telling, lexed_read, start_read}
 use Rattle.std.proofs.lemmas.Bool.{and_from}
 
@@ -54,20 +54,20 @@ front_ready Moves h = absurd h
 
 one_tag : (stage : GameStage) (row : TagTexts) (tag : Tag) (rest : List Piece) → IsFront stage → IsTag tag →
     all_told (Some (book_at stage row [])) (Sign 91 ∷ Word tag.name ∷ Quoted tag.text ∷ Sign 93 ∷ rest)
-    ≡ all_told (Some (book_at Tags (noted tag.name tag.text row) [])) rest
+    ≡ all_told (Some (book_at Tags (tag_noted tag.name tag.text row) [])) rest
 unfolding took
 one_tag Before row tag rest front is =
     let test : (list_all is_name_byte tag.name && not (bytes_eq tag.name (codes "FEN"))) ≡ true =
     and_from (list_all is_name_byte tag.name) (not (bytes_eq tag.name (codes "FEN"))) is.bytes (ap not is.not_FEN) in
     ap (λ (t : Bool).
     let taken : Taken = cond t (goes (book_at (Named tag.name) row [])) fails in
-    adding taken.given (all_told taken.on (Quoted tag.text ∷ Sign 93 ∷ rest))) test
+    with_game_first taken.given (all_told taken.on (Quoted tag.text ∷ Sign 93 ∷ rest))) test
 one_tag Tags row tag rest front is =
     let test : (list_all is_name_byte tag.name && not (bytes_eq tag.name (codes "FEN"))) ≡ true =
     and_from (list_all is_name_byte tag.name) (not (bytes_eq tag.name (codes "FEN"))) is.bytes (ap not is.not_FEN) in
     ap (λ (t : Bool).
     let taken : Taken = cond t (goes (book_at (Named tag.name) row [])) fails in
-    adding taken.given (all_told taken.on (Quoted tag.text ∷ Sign 93 ∷ rest))) test
+    with_game_first taken.given (all_told taken.on (Quoted tag.text ∷ Sign 93 ∷ rest))) test
 one_tag Opened row tag rest front is = absurd front
 one_tag (Named name) row tag rest front is = absurd front
 one_tag Told row tag rest front is = absurd front
@@ -76,7 +76,7 @@ one_tag Moves row tag rest front is = absurd front
 -- the texts that are kept behind some tags
 unfoldable pub row_from : TagTexts → List Tag → TagTexts
 row_from row [] = row
-row_from row (tag ∷ tags) = row_from (noted tag.name tag.text row) tags
+row_from row (tag ∷ tags) = row_from (tag_noted tag.name tag.text row) tags
 
 -- what is read when all tags were
 record TagsTold (stage : GameStage) (row : TagTexts) (tags : List Tag) (more : List Piece) : Type 0 where
@@ -90,7 +90,7 @@ tags_told : (tags : List Tag) (stage : GameStage) (row : TagTexts) (more : List 
 unfolding row_from
 tags_told [] stage row more front each = record { at = stage; front = front; told_so = refl }
 tags_told (tag ∷ tags) stage row more front each =
-    let rest = tags_told tags Tags (noted tag.name tag.text row) more tt each.1 in
+    let rest = tags_told tags Tags (tag_noted tag.name tag.text row) more tt each.1 in
     record {
       at = rest.at;
       front = rest.front;
@@ -117,14 +117,14 @@ noted-kept key name text None first = by (bytes_eq name key)
 
 -- a place of the row is that of a name
 record IsOfName (f : TagTexts → Option (List ℕ)) (key : List ℕ) : Type 0 where
-  keeps : (name text : List ℕ) (row : TagTexts) → f (noted name text row) ≡ noted_as key name text (f row)
+  keeps : (name text : List ℕ) (row : TagTexts) → f (tag_noted name text row) ≡ noted_as key name text (f row)
 
 first_kept : (f : TagTexts → Option (List ℕ)) (key : List ℕ) (h : IsOfName f key) (tags : List Tag) (row : TagTexts) →
     f (row_from row tags) ≡ kept (f row) (first_text key tags)
 unfolding row_from
 first_kept f key h [] row = kept-none (f row)
 first_kept f key h (tag ∷ tags) row =
-    first_kept f key h tags (noted tag.name tag.text row)
+    first_kept f key h tags (tag_noted tag.name tag.text row)
     ∙ ap (λ (o : Option (List ℕ)). kept o (first_text key tags)) (h.keeps tag.name tag.text row)
     ∙ noted-kept key tag.name tag.text (f row) (first_text key tags)
 
@@ -151,7 +151,7 @@ abbrev IsNumber : List ℕ → Type 0
 IsNumber word = list_all is_digit word ≡ true
 
 pass_by : (stage : GameStage) (row : TagTexts) (moves : List Move) → IsReady stage
-    → passed_over stage (book_at stage row moves) ≡ goes (book_at Moves row moves)
+    → piece_passed stage (book_at stage row moves) ≡ goes (book_at Moves row moves)
 pass_by Before row moves h = refl
 pass_by Tags row moves h = refl
 pass_by Opened row moves h = absurd h
@@ -160,7 +160,7 @@ pass_by Told row moves h = absurd h
 pass_by Moves row moves h = refl
 
 word_told : (stage : GameStage) (row : TagTexts) (moves : List Move) (word : List ℕ) → IsReady stage →
-    took (book_at stage row moves) (Word word) ≡ told (book_at stage row moves) word
+    took (book_at stage row moves) (Word word) ≡ piece_told (book_at stage row moves) word
 unfolding took
 word_told Before row moves word h = refl
 word_told Tags row moves word h = refl
@@ -175,7 +175,7 @@ glyph_passed : (stage : GameStage) (row : TagTexts) (moves : List Move) (word : 
 unfolding took
 glyph_passed stage row moves [] h some number = absurd (some refl)
 glyph_passed stage row moves (b ∷ word) h some number =
-    ap (λ (t : Bool). cond t (passed_over stage (book_at stage row moves)) fails) number ∙ pass_by stage row moves h
+    ap (λ (t : Bool). cond t (piece_passed stage (book_at stage row moves)) fails) number ∙ pass_by stage row moves h
 
 passed_took : (stage : GameStage) (row : TagTexts) (moves : List Move) (piece : Piece) → IsReady stage
     → IsPassed piece →
@@ -189,9 +189,9 @@ passed_took stage row moves (Word word) h is =
     word_told stage row moves word h
     ∙ ap
     (λ (t : Bool).
-    cond t (passed_over stage (book_at stage row moves))
-    (cond (is_result word) (reader.gives (game_of (book_at stage row moves) word))
-    (reader.moved (book_at stage row moves) word)))
+    cond t (piece_passed stage (book_at stage row moves))
+    (cond (is_result word) (reader.gives (game_of_book (book_at stage row moves) word))
+    (reader.move_taken (book_at stage row moves) word)))
     is
     ∙ pass_by stage row moves h
 passed_took stage row moves (Glyph word) h is = glyph_passed stage row moves word h is.0 is.1
@@ -214,16 +214,17 @@ move_took stage row moves word m h is room =
     word_told stage row moves word h
     ∙ ap
     (λ (t : Bool).
-    cond t (passed_over stage book) (cond (is_result word) (reader.gives (game_of book word)) (reader.moved book word)))
+    cond t (piece_passed stage book)
+    (cond (is_result word) (reader.gives (game_of_book book word)) (reader.move_taken book word)))
     is.no_number
-    ∙ ap (λ (t : Bool). cond t (reader.gives (game_of book word)) (reader.moved book word)) is.no_result
-    ∙ ap (λ (t : Bool). cond t (with_move book (move_read (position_of moves) (without_praise word))) fails)
+    ∙ ap (λ (t : Bool). cond t (reader.gives (game_of_book book word)) (reader.move_taken book word)) is.no_result
+    ∙ ap (λ (t : Bool). cond t (with_move book (move_read (position_of_moves moves) (without_praise word))) fails)
     (is_below (length moves) 1200 room)
-    ∙ ap (with_move book) (read_as (position_of moves) (without_praise word) m is.read)
+    ∙ ap (with_move book) (read_as (position_of_moves moves) (without_praise word) m is.read)
 
 -- a piece that tells these moves
 tells_took : (stage : GameStage) (row : TagTexts) (moves : List Move) (piece : Piece) (first : List Move)
-    → IsReady stage → Tells moves piece first →
+    → IsReady stage → TellsMove moves piece first →
     length moves + length first ≤ 1200
     → took (book_at stage row moves) piece ≡ goes (book_at Moves row (moves ++ first))
 tells_took stage row moves piece first h (inl (is, none)) most =
@@ -267,7 +268,7 @@ body_told (piece ∷ body) stage row before moves more h tells most =
       at = rest.at;
       ready = rest.ready;
       told_so =
-          ap (λ (t : Taken). adding t.given (all_told t.on (body ++ more)))
+          ap (λ (t : Taken). with_game_first t.given (all_told t.on (body ++ more)))
           (tells_took stage row before piece first h tells.2 few.0)
           ∙ rest.told_so
           ∙ ap (λ (l : List Move). all_told (Some (book_at rest.at row l)) more)
@@ -282,7 +283,8 @@ result_again Black = refl
 result_again Draw = refl
 result_again Open = refl
 
-result_told : (r : PgnResult) (book : Book) → told book (result_text r) ≡ reader.gives (game_of book (result_text r))
+result_told : (r : PgnResult) (book : Book)
+    → piece_told book (result_text r) ≡ reader.gives (game_of_book book (result_text r))
 result_told White book = refl
 result_told Black book = refl
 result_told Draw book = refl
@@ -290,8 +292,8 @@ result_told Open book = refl
 
 -- ---- games
 
-game_told : (first : List Piece) (g : PgnGame) (rest : List Piece) → IsGame first g →
-    all_told (Some no_book) (first ++ rest) ≡ adding (Some g) (all_told (Some no_book) rest)
+game_told : (first : List Piece) (g : PgnGame) (rest : List Piece) → IsOneGame first g →
+    all_told (Some no_book) (first ++ rest) ≡ with_game_first (Some g) (all_told (Some no_book) rest)
 game_told first g rest h =
     let end : List Piece = Word (result_text g.result) ∷ [] in
     let behind_body : List Piece = Word (result_text g.result) ∷ rest in
@@ -306,21 +308,22 @@ game_told first g rest h =
     let book : Book = book_at body.at row g.moves in
     let texts : tags_of row ≡ g.tags = row_told h.tags ∙ sym h.row in
     let result : result_of (result_text g.result) ≡ g.result = result_again g.result in
-    let same : game_of book (result_text g.result) ≡ g =
+    let same : game_of_book book (result_text g.result) ≡ g =
     (λ i. record { tags = texts i; moves = g.moves; result = result i }) in
     ap (all_told (Some no_book)) split ∙ tags.told_so ∙ body.told_so
-    ∙ ap (λ (t : Taken). adding t.given (all_told t.on rest))
+    ∙ ap (λ (t : Taken). with_game_first t.given (all_told t.on rest))
     (word_told body.at row g.moves (result_text g.result) body.ready ∙ result_told g.result book)
-    ∙ ap (λ (x : PgnGame). adding (Some x) (all_told (Some no_book) rest)) same
+    ∙ ap (λ (x : PgnGame). with_game_first (Some x) (all_told (Some no_book) rest)) same
 
 games_told : (games : List PgnGame) (pieces : List Piece) → AreGames pieces games
     → all_told (Some no_book) pieces ≡ record { games = games; whole = true }
 games_told [] pieces h = ap (all_told (Some no_book)) h
 games_told (g ∷ games) pieces h =
-    ap (all_told (Some no_book)) h.2 ∙ game_told h.0 g h.1 h.3 ∙ ap (adding (Some g)) (games_told games h.1 h.4)
+    ap (all_told (Some no_book)) h.2 ∙ game_told h.0 g h.1 h.3
+    ∙ ap (with_game_first (Some g)) (games_told games h.1 h.4)
 
 -- a text that the grammar reads is read so
-pub reads_told : (text : List ℕ) (games : List PgnGame) → Reads text games
+pub reads_told : (text : List ℕ) (games : List PgnGame) → ReadsGames text games
     → read_from (Some first_state) text ≡ record { games = games; whole = true }
 reads_told text games h =
     start_read text ∙ lexed_read h.pieces at_start (unmarked text) (Some no_book) h.lexed

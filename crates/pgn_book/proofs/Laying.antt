@@ -9,7 +9,7 @@ use Rattle.chess_model.specs.MoveList.{HalfMove}
 use Rattle.chess_model.specs.Position.{Position, position_after, Stands}
 use Rattle.chess_model.specs.Allowed.{Allowed, IsLegal}
 use Rattle.rules_reading.specs.ReadsBack.{pretty_in}
-use Rattle.pgn_book.specs.Games.{on_board, position_of}
+use Rattle.pgn_book.specs.Games.{on_board, position_of_moves}
 use Rattle.pgn_book.specs.Export.{number_at, move_tokens, laid}
 use Rattle.pgn_book.specs.Pages.{Page, Lays}
 
@@ -27,13 +27,14 @@ laid_text a b xs h =
 
 pub tokens_more : (before xs : List Move) (m : Move) →
     move_tokens before (xs ++ m ∷ [])
-    ≡ move_tokens before xs ++ (number_at (length (before ++ xs)) ++ pretty_in (position_of (before ++ xs)) m ∷ [])
+    ≡ move_tokens before xs
+    ++ (number_at (length (before ++ xs)) ++ pretty_in (position_of_moves (before ++ xs)) m ∷ [])
 tokens_more before [] m =
-    ap (λ (l : List Move). number_at (length l) ++ pretty_in (position_of l) m ∷ []) (sym (append-nil before))
+    ap (λ (l : List Move). number_at (length l) ++ pretty_in (position_of_moves l) m ∷ []) (sym (append-nil before))
 tokens_more before (x ∷ xs) m =
     let front : List (List ℕ) = number_at (length before) in
-    let token : List ℕ = pretty_in (position_of before) x in
-    let end : List Move → List (List ℕ) = λ l. number_at (length l) ++ pretty_in (position_of l) m ∷ [] in
+    let token : List ℕ = pretty_in (position_of_moves before) x in
+    let end : List Move → List (List ℕ) = λ l. number_at (length l) ++ pretty_in (position_of_moves l) m ∷ [] in
     ap (λ (t : List (List ℕ)). front ++ token ∷ t) (tokens_more (before ++ x ∷ []) xs m)
     ∙ ap (λ (l : List Move). front ++ token ∷ (move_tokens (before ++ x ∷ []) xs ++ end l))
     (append_assoc before (x ∷ []) xs)
@@ -41,13 +42,13 @@ tokens_more before (x ∷ xs) m =
 
 -- a position that stands for a list of moves is the one after it
 pub stands_at : (p : Position) (moves : List Move) → p.variant ≡ Chess → Stands p (map on_board moves) 1
-    → p ≡ position_of moves
+    → p ≡ position_of_moves moves
 stands_at p moves chess stands =
     stands.same ∙ ap (λ v. position_after v (map on_board moves) 1) chess
 
 -- each move of a legal list is allowed in the position after those before it
 pub allowed_at : (before after : List Move) (m : Move) → IsLegal Chess (map on_board (before ++ m ∷ after))
-    → Allowed (position_of before) m
+    → Allowed (position_of_moves before) m
 allowed_at before after m legal =
     legal.each (map on_board before) (map on_board after) (on_board m) (map-append on_board before (m ∷ after))
 
@@ -69,7 +70,7 @@ pub allowed_next : (a b : Page) (p : Position) (moves all : List Move) (n : ℕ)
     HaveLaid a b p moves n → n < length moves → m ≡ get_or moves n m → Allowed p m
 allowed_next a b p moves all n m legal same h within e =
     let split : all ≡ take n moves ++ m ∷ drop (suc n) moves = sym same ∙ split_at moves n m within e in
-    let here : Allowed (position_of (take n moves)) m =
+    let here : Allowed (position_of_moves (take n moves)) m =
     allowed_at (take n moves) (drop (suc n) moves) m
     (subst (λ (l : List Move). IsLegal Chess (map on_board l)) split legal) in
     subst (λ q. Allowed q m) (sym (stands_at p (take n moves) h.variant h.stands)) here
@@ -84,13 +85,14 @@ laid_next a b c p q moves n m h within e lays same stands =
     let more : take (n + 1) moves ≡ front ++ m ∷ [] =
     take_more moves n m within ∙ ap (λ (x : Move). front ++ x ∷ []) (sym e) in
     let place : length front ≡ n = length-take-le n moves (omega arith) in
-    let at : p ≡ position_of front = stands_at p front h.variant h.stands in
-    let here : Lays b c (number_at (length front) ++ pretty_in (position_of front) m ∷ []) =
+    let at : p ≡ position_of_moves front = stands_at p front h.variant h.stands in
+    let here : Lays b c (number_at (length front) ++ pretty_in (position_of_moves front) m ∷ []) =
     subst (λ q. Lays b c (number_at (length front) ++ pretty_in q m ∷ [])) at
     (subst (λ (k : ℕ). Lays b c (number_at k ++ pretty_in p m ∷ [])) (sym place) lays) in
     record {
       lays = subst (λ (l : List (List ℕ)). Lays a c l) (sym (ap (move_tokens []) more ∙ tokens_more [] front m))
-          (lays_both a b c (move_tokens [] front) (number_at (length front) ++ pretty_in (position_of front) m ∷ [])
+          (lays_both a b c (move_tokens [] front)
+          (number_at (length front) ++ pretty_in (position_of_moves front) m ∷ [])
           h.lays here);
       variant = same ∙ h.variant;
       stands =

@@ -13,7 +13,7 @@ use Rattle.rules_reading.specs.ReadsBack.{pretty_in}
 use Rattle.pgn_book.specs.declared.game.PgnResult.{PgnResult}
 use Rattle.pgn_book.specs.declared.game.PgnResult.TheVariants.{White, Black, Draw, Open}
 use Rattle.pgn_book.specs.Bytes.{is_word_byte}
-use Rattle.pgn_book.specs.Games.{result_text, on_board, position_of}
+use Rattle.pgn_book.specs.Games.{result_text, on_board, position_of_moves}
 use Rattle.pgn_book.specs.Export.{number_at, move_tokens, laid, movetext}
 use Rattle.pgn_book.specs.Laws.{LinesFit}
 use Rattle.pgn_book.proofs.Laying.{allowed_at}
@@ -165,13 +165,14 @@ moves_short (m ∷ moves) before rest legal few all =
     let later : AllShort (move_tokens (before ++ m ∷ []) moves ++ rest) =
     moves_short moves (before ++ m ∷ []) rest
     (subst (λ (l : List Move). IsLegal Chess (map on_board l)) (sym split) legal) (omega arith) all in
-    let here : IsShort (pretty_in (position_of before) m) =
-    pretty_short (position_of before) m (allowed_at before moves m legal) in
+    let here : IsShort (pretty_in (position_of_moves before) m) =
+    pretty_short (position_of_moves before) m (allowed_at before moves m legal) in
     subst AllShort
     (sym (append_assoc (number_at (length before))
-    (pretty_in (position_of before) m ∷ move_tokens (before ++ m ∷ []) moves) rest))
+    (pretty_in (position_of_moves before) m ∷ move_tokens (before ++ m ∷ []) moves) rest))
     (numbered_short (nat_eq (length before % 2) 0) (length before / 2 + 1)
-    (pretty_in (position_of before) m ∷ (move_tokens (before ++ m ∷ []) moves ++ rest)) (omega arith) (here, later))
+    (pretty_in (position_of_moves before) m ∷ (move_tokens (before ++ m ∷ []) moves ++ rest)) (omega arith)
+    (here, later))
 
 pub lines_fit : LinesFit
 lines_fit g h =

@@ -11,11 +11,11 @@ use Rattle.pgn_book.specs.declared.tag_texts.TagTexts.{TagTexts}
 use Rattle.pgn_book.specs.declared.stage.GameStage.{GameStage}
 use Rattle.pgn_book.specs.declared.stage.GameStage.TheVariants.{Before, Tags, Opened, Named, Told, Moves}
 use Rattle.pgn_book.specs.Bytes.{is_word_byte}
-use Rattle.pgn_book.specs.Games.{Reads}
+use Rattle.pgn_book.specs.Games.{ReadsGames}
 use Rattle.pgn_book.specs.Reading.{Book, took, Outcome, State, state_at, begun_behind, piece_of, step, read_from, first_state, Gone, with_given, gone, adding_all}
 use Rattle.pgn_book.specs.Reader.{line_behind, line_if, line_from}
 use Rattle.pgn_book.specs.BadLines.{IsBeginning, is_feed, line_of_end, IsLeftOn, OneLine}
-use Rattle.pgn_book.specs.Sound.{IsSound, IsSoundPlace, IsSoundIf}
+use Rattle.pgn_book.specs.Sound.{IsSoundState, IsSoundPlace, IsSoundIf}
 use Rattle.pgn_book.proofs.Cuts.{reads_in_pieces}
 use Rattle.pgn_book.proofs.GamesFound.{reader_reads}
 use Rattle.pgn_book.proofs.SoundStates.{step_sound, first_sound}
@@ -185,7 +185,7 @@ IsLineStart (Between fresh) = Unit {0}
 IsLineStart InBraces = Unit {0}
 IsLineStart _ = ⊥
 
-end_line : (s : State) → IsLineStart s.place → IsSound s → CanEnd s
+end_line : (s : State) → IsLineStart s.place → IsSoundState s → CanEnd s
 unfolding step
 end_line s start h = by s.place s.depth s.book start h.place
   where
@@ -256,9 +256,10 @@ record HasFront (text : List ℕ) : Type 0 where
   begins : IsBeginning front
 
 -- a byte more
-front_more : (done : List ℕ) (b : ℕ) (s t : State) → IsSound s → (gone (Some first_state) (done ++ b ∷ [])).on ≡ Some t
+front_more : (done : List ℕ) (b : ℕ) (s t : State) → IsSoundState s
+    → (gone (Some first_state) (done ++ b ∷ [])).on ≡ Some t
     → (step s b).on ≡ Some t →
-    IsSound t → HasFront done → HasFront (done ++ b ∷ [])
+    IsSoundState t → HasFront done → HasFront (done ++ b ∷ [])
 front_more done b s t sound gone_so e is h = by (b == 10) refl
   where
     by : (x : Bool) → (b == 10) ≡ x → HasFront (done ++ b ∷ [])
@@ -285,11 +286,11 @@ front_more done b s t sound gone_so e is h = by (b == 10) refl
 -- what holds of each state behind some bytes
 abbrev FrontsOn : List ℕ → Type 0
 FrontsOn rest =
-    (done : List ℕ) (s t : State) → IsSound s → (gone (Some first_state) done).on ≡ Some s → HasFront done
+    (done : List ℕ) (s t : State) → IsSoundState s → (gone (Some first_state) done).on ≡ Some s → HasFront done
     → (gone (Some s) rest).on ≡ Some t →
     HasFront (done ++ rest)
 
-front_by : (b : ℕ) (rest done : List ℕ) (s t : State) (on : Option State) → FrontsOn rest → IsSound s
+front_by : (b : ℕ) (rest done : List ℕ) (s t : State) (on : Option State) → FrontsOn rest → IsSoundState s
     → (gone (Some first_state) done).on ≡ Some s → HasFront done →
     (step s b).on ≡ on → IsSoundIf on → (gone on rest).on ≡ Some t → HasFront (done ++ b ∷ rest)
 front_by b rest done s t None again sound e h f is later = absurd (let no : None ≡ Some t = later in cc)
@@ -345,7 +346,7 @@ line_most : (one other : List ℕ) → feeds other ≤ feeds one → line_of_end
 line_most one other h = omega (arith, h)
 
 -- the text isn't read, and the reader leaves it on that line
-pub left_on : (text : List ℕ) → ((games : List PgnGame) → Reads text games → ⊥)
+pub left_on : (text : List ℕ) → ((games : List PgnGame) → ReadsGames text games → ⊥)
     → IsLeftOn text (line_from 1 (Some first_state) text)
 left_on text unread =
     let to : GoesTo first_state 1 text = goes_to text first_state 1 in
@@ -382,7 +383,7 @@ left_on text unread =
         ∙ sym (append_assoc to.part (b ∷ []) (more ++ begins.more)) in
         absurd
         (reads_in_pieces.lost (to.part ++ b ∷ []) (more ++ begins.more) begins.games (lost to b (more ++ behind) g)
-        (subst (λ (t : List ℕ). Reads t begins.games) text_is begins.read))
+        (subst (λ (t : List ℕ). ReadsGames t begins.games) text_is begins.read))
 
 pub one_line : OneLine
 one_line text one other h g =

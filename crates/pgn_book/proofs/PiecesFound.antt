@@ -6,10 +6,10 @@ use Rattle.std.proofs.lemmas.Bool.{eqb-true, eqb-false, and_parts}
 use Rattle.move_reader.proofs.ByteMeanings.{below}
 use Rattle.pgn_book.specs.declared.game.PgnGame.{PgnGame}
 use Rattle.pgn_book.specs.Bytes.{is_among, is_space, is_word_byte, Every, StopsBefore}
-use Rattle.pgn_book.specs.Lexing.{Piece, Blank, Escape, Braces, Comment, Word, Glyph, Quoted, Sign, Opening, Closing, Within, escaped, escaped_byte, spelling, is_of_line, is_of_braces, is_of_text, is_sign, is_reserved, IsRestOfLine, IsWord, IsText, At, MayStand, behind, Lexes}
+use Rattle.pgn_book.specs.Lexing.{Piece, Blank, Escape, Braces, Comment, Word, Glyph, Quoted, Sign, Opening, Closing, Within, escaped, escaped_byte, piece_spelling, is_of_line, is_of_braces, is_of_text, is_sign, is_reserved, IsRestOfLine, IsWord, IsText, At, MayStand, next_place, Lexes}
 use Rattle.pgn_book.specs.declared.place.PlaceInText.{PlaceInText}
 use Rattle.pgn_book.specs.declared.place.PlaceInText.TheVariants.{Start, AfterOne, AfterTwo, Between, InLine, InBraces, InWord, InQuotes, InStroke}
-use Rattle.pgn_book.specs.Reading.{Book, Taken, took, Outcome, adding, State, state_at, to_place, Step, silent, outside, opens, closes, nested, skipping, spaced, begun, begun_behind, piece_of, longer, word_ended, step, is_before, is_at_rest, resting, read_from}
+use Rattle.pgn_book.specs.Reading.{Book, Taken, took, Outcome, with_game_first, State, state_at, to_place, Step, silent, outside, opens, closes, nested, skipping, spaced, piece_begun, begun_behind, piece_of, longer, word_ended, step, is_before, is_at_rest, resting, read_from}
 use Rattle.pgn_book.proofs.PiecesRead.{each_among}
 
 -- what follows ends behind a whole game
@@ -19,15 +19,15 @@ Whole s text = (read_from s text).whole ≡ true
 never : {A : Type 0} → false ≡ true → A
 never e = absurd (let f : false ≡ true = e in cc)
 
-pub adding_whole : (given : Option PgnGame) (o : Outcome) → (adding given o).whole ≡ o.whole
+pub adding_whole : (given : Option PgnGame) (o : Outcome) → (with_game_first given o).whole ≡ o.whole
 adding_whole None o = refl
 adding_whole (Some g) o = refl
 
 -- what is read behind a byte ends whole too
 stepped : (s : State) (b : ℕ) (text : List ℕ) (t : Step) → step s b ≡ t → Whole (Some s) (b ∷ text) → Whole t.on text
 stepped s b text t e h =
-    let whole : (adding t.given (read_from t.on text)).whole ≡ true =
-    ap (λ (x : Step). (adding x.given (read_from x.on text)).whole) (sym e) ∙ h in
+    let whole : (with_game_first t.given (read_from t.on text)).whole ≡ true =
+    ap (λ (x : Step). (with_game_first x.given (read_from x.on text)).whole) (sym e) ∙ h in
     sym (adding_whole t.given (read_from t.on text)) ∙ whole
 
 -- one of two ways
@@ -107,8 +107,8 @@ FoundAll text =
     (place : PlaceInText) (depth : ℕ) (book : Book) → Whole (Some (state_at place depth book)) text
     → Found place depth text
 
-piece_found : (at : At) (piece : Piece) (rest : List ℕ) → MayStand at piece rest → FoundAt (behind at piece) rest
-    → FoundAt at (spelling piece ++ rest)
+piece_found : (at : At) (piece : Piece) (rest : List ℕ) → MayStand at piece rest → FoundAt (next_place at piece) rest
+    → FoundAt at (piece_spelling piece ++ rest)
 piece_found at piece rest h f = record { pieces = piece ∷ f.pieces; lexed = (rest, refl, h, f.lexed) }
 
 moved_text : (at : At) (one other : List ℕ) → one ≡ other → FoundAt at other → FoundAt at one
@@ -353,7 +353,7 @@ found_skipping b text all fresh depth book space h =
 
 -- what is found from between two pieces on
 found_begun : (b : ℕ) (text : List ℕ) (all : FoundAll text) (fresh : Bool) (depth : ℕ) (book : Book)
-    → Whole (begun fresh depth book b) text →
+    → Whole (piece_begun fresh depth book b) text →
     FoundAt (here depth fresh) (b ∷ text)
 found_begun b text all fresh depth book h =
     by_word (which (is_word_byte b && nat_eq depth 0) (Some (state_at (InWord false (b ∷ [])) depth book))

@@ -7,11 +7,11 @@ use Rattle.std.proofs.lemmas.Slice.Eq.{bytes_eq-Decides}
 use Rattle.move_reader.proofs.ByteMeanings.{is_below}
 use Rattle.pgn_book.specs.declared.game.PgnGame.{PgnGame}
 use Rattle.pgn_book.specs.Bytes.{is_among, spaces, is_space, is_word_byte, Every, StopsBefore}
-use Rattle.pgn_book.specs.Lexing.{Piece, Blank, Escape, Braces, Comment, Word, Glyph, Quoted, Sign, Opening, Closing, Within, escaped, spelling, is_of_line, is_of_braces, is_of_text, is_sign, is_reserved, At, MayStand, behind, Lexes, is_skipped, unmarked}
+use Rattle.pgn_book.specs.Lexing.{Piece, Blank, Escape, Braces, Comment, Word, Glyph, Quoted, Sign, Opening, Closing, Within, escaped, piece_spelling, is_of_line, is_of_braces, is_of_text, is_sign, is_reserved, At, MayStand, next_place, Lexes, is_skipped, unmarked}
 use Rattle.pgn_book.specs.declared.stage.GameStage.{GameStage}
 use Rattle.pgn_book.specs.declared.stage.GameStage.TheVariants.{Before, Tags, Opened, Named, Told, Moves}
 use Rattle.pgn_book.specs.declared.place.PlaceInText.TheVariants.{AfterOne, AfterTwo, Between, InLine, InBraces, InWord, InQuotes, InStroke}
-use Rattle.pgn_book.specs.Reading.{Book, no_book, Taken, opened, closed, passed_over, quoted, took, Outcome, adding, nothing_read, all_told, State, state_at, to_place, Step, silent, outside, opens, closes, nested, skipping, spaced, begun, begun_behind, piece_of, longer, word_ended, step, resting, read_from, first_state}
+use Rattle.pgn_book.specs.Reading.{Book, no_book, Taken, stage_opened, closed, piece_passed, quoted, took, Outcome, with_game_first, nothing_read, all_told, State, state_at, to_place, Step, silent, outside, opens, closes, nested, skipping, spaced, piece_begun, begun_behind, piece_of, longer, word_ended, step, resting, read_from, first_state}
 use Rattle.rules_reading.proofs.Answered.{cond-both, cond-second}
 
 -- a property of each of some bytes
@@ -30,7 +30,7 @@ each_among P (x ∷ xs) b all h =
 -- a step that gives no game
 goes_on : (s : State) (on : Option State) (b : ℕ) (text : List ℕ) → step s b ≡ silent on
     → read_from (Some s) (b ∷ text) ≡ read_from on text
-goes_on s on b text e = ap (λ (t : Step). adding t.given (read_from t.on text)) e
+goes_on s on b text e = ap (λ (t : Step). with_game_first t.given (read_from t.on text)) e
 
 -- ---- the rest of a line, and braces
 
@@ -121,7 +121,7 @@ begins_behind depth (Some book) b rest = refl
 
 -- what is read behind a word that makes that of a book
 abbrev read_behind : Taken → ℕ → List ℕ → Outcome
-read_behind taken depth rest = adding taken.given (read_from (to_place (Between false) depth taken.on) rest)
+read_behind taken depth rest = with_game_first taken.given (read_from (to_place (Between false) depth taken.on) rest)
 
 word_read : (glyph : Bool) (word rest done : List ℕ) (depth : ℕ) (book : Book) → Every is_word_byte word
     → length done + length word ≤ 255 →
@@ -130,12 +130,12 @@ word_read : (glyph : Bool) (word rest done : List ℕ) (depth : ℕ) (book : Boo
     ≡ read_behind (took book (piece_of glyph (done ++ word))) depth rest
 word_read glyph [] [] done depth book h most stops =
     let taken : Taken = took book (piece_of glyph done) in
-    ap (adding taken.given) (rests depth taken.on)
+    ap (with_game_first taken.given) (rests depth taken.on)
     ∙ ap (λ (w : List ℕ). read_behind (took book (piece_of glyph w)) depth []) (sym (append-nil done))
 word_read glyph [] (b ∷ rest) done depth book h most stops =
     let taken : Taken = took book (piece_of glyph done) in
-    ap (λ (t : Step). adding t.given (read_from t.on rest)) (step_behind glyph done depth book b stops)
-    ∙ ap (adding taken.given) (begins_behind depth taken.on b rest)
+    ap (λ (t : Step). with_game_first t.given (read_from t.on rest)) (step_behind glyph done depth book b stops)
+    ∙ ap (with_game_first taken.given) (begins_behind depth taken.on b rest)
     ∙ ap (λ (w : List ℕ). read_behind (took book (piece_of glyph w)) depth (b ∷ rest)) (sym (append-nil done))
 word_read glyph (b ∷ word) rest done depth book h most stops =
     let parts = and_parts (is_word_byte b) (list_all is_word_byte word) h in
@@ -330,7 +330,7 @@ first_quote fresh book = refl
 
 -- ---- only words give games
 
-passed_over-silent : (stage : GameStage) (book : Book) → (passed_over stage book).given ≡ None
+passed_over-silent : (stage : GameStage) (book : Book) → (piece_passed stage book).given ≡ None
 passed_over-silent Before book = refl
 passed_over-silent Tags book = refl
 passed_over-silent Opened book = refl
@@ -338,7 +338,7 @@ passed_over-silent (Named name) book = refl
 passed_over-silent Told book = refl
 passed_over-silent Moves book = refl
 
-opened-silent : (stage : GameStage) (book : Book) → (opened stage book).given ≡ None
+opened-silent : (stage : GameStage) (book : Book) → (stage_opened stage book).given ≡ None
 opened-silent Before book = refl
 opened-silent Tags book = refl
 opened-silent Opened book = refl
@@ -369,9 +369,9 @@ cond-silent false x y h g = g
 sign-silent : (book : Book) (b : ℕ) → (took book (Sign b)).given ≡ None
 unfolding took
 sign-silent book b =
-    cond-silent (b == 91) (opened book.stage book)
-    (cond (b == 93) (closed book.stage book) (passed_over book.stage book)) (opened-silent book.stage book)
-    (cond-silent (b == 93) (closed book.stage book) (passed_over book.stage book) (closed-silent book.stage book)
+    cond-silent (b == 91) (stage_opened book.stage book)
+    (cond (b == 93) (closed book.stage book) (piece_passed book.stage book)) (opened-silent book.stage book)
+    (cond-silent (b == 93) (closed book.stage book) (piece_passed book.stage book) (closed-silent book.stage book)
     (passed_over-silent book.stage book))
 
 text-silent : (book : Book) (text : List ℕ) → (took book (Quoted text)).given ≡ None
@@ -399,18 +399,18 @@ at_state at book = to_place (Between at.fresh) at.depth book
 -- what is read behind a piece
 abbrev read_after : At → Piece → List ℕ → Book → Outcome
 read_after at piece rest book =
-    cond (is_skipped piece) (read_from (at_state (behind at piece) (Some book)) rest)
-    (adding (took book piece).given (read_from (at_state (behind at piece) (took book piece).on) rest))
+    cond (is_skipped piece) (read_from (at_state (next_place at piece) (Some book)) rest)
+    (with_game_first (took book piece).given (read_from (at_state (next_place at piece) (took book piece).on) rest))
 
 -- a piece that gives no game
-quietly : (taken : Taken) (outcome : Outcome) → taken.given ≡ None → outcome ≡ adding taken.given outcome
-quietly taken outcome e = ap (λ (g : Option PgnGame). adding g outcome) (sym e)
+quietly : (taken : Taken) (outcome : Outcome) → taken.given ≡ None → outcome ≡ with_game_first taken.given outcome
+quietly taken outcome e = ap (λ (g : Option PgnGame). with_game_first g outcome) (sym e)
 
 one_more : (word : List ℕ) (b : ℕ) → length (b ∷ word) ≤ 255 → length (b ∷ []) + length word ≤ 255
 one_more word b h = omega arith
 
 piece_read : (at : At) (piece : Piece) (rest : List ℕ) (book : Book) → MayStand at piece rest →
-    read_from (at_state at (Some book)) (spelling piece ++ rest) ≡ read_after at piece rest book
+    read_from (at_state at (Some book)) (piece_spelling piece ++ rest) ≡ read_after at piece rest book
 piece_read at (Blank b) rest book h =
     goes_on (state_at (Between at.fresh) at.depth book) (Some (state_at (Between (b == 10)) at.depth book)) b rest
     (first_space at.fresh at.depth book b h)
@@ -480,12 +480,13 @@ abbrev pub telling : List Piece → List Piece
 telling pieces = filter (λ piece. not (is_skipped piece)) pieces
 
 both : (skipped : Bool) (given : Option PgnGame) (x x' y y' : Outcome) → x ≡ x' → y ≡ y'
-    → cond skipped x (adding given y) ≡ cond skipped x' (adding given y')
+    → cond skipped x (with_game_first given y) ≡ cond skipped x' (with_game_first given y')
 both true given x x' y y' h g = h
-both false given x x' y y' h g = ap (adding given) g
+both false given x x' y y' h g = ap (with_game_first given) g
 
 told_so : (skipped : Bool) (book : Book) (piece : Piece) (pieces : List Piece) →
-    cond skipped (all_told (Some book) pieces) (adding (took book piece).given (all_told (took book piece).on pieces))
+    cond skipped (all_told (Some book) pieces)
+    (with_game_first (took book piece).given (all_told (took book piece).on pieces))
     ≡ all_told (Some book) (cond (not skipped) (piece ∷ pieces) pieces)
 told_so true book piece pieces = refl
 told_so false book piece pieces = refl
@@ -499,7 +500,7 @@ lexed_read [] at text (Some book) h =
 lexed_read (piece ∷ pieces) at text None h = refl
 lexed_read (piece ∷ pieces) at text (Some book) h =
     let rest : List ℕ = h.0 in
-    let next : At = behind at piece in
+    let next : At = next_place at piece in
     let taken : Taken = took book piece in
     ap (read_from (at_state at (Some book))) h.1
     ∙ piece_read at piece rest book h.2
@@ -520,7 +521,7 @@ start_step : (b : ℕ) (rest : List ℕ) → (b == 239) ≡ false
     → read_from (Some first_state) (b ∷ rest) ≡ read_from (Some (state_at (Between true) 0 no_book)) (b ∷ rest)
 unfolding step
 start_step b rest e =
-    ap (λ (t : Bool). read_from (cond t (Some (state_at AfterOne 0 no_book)) (begun true 0 no_book b)) rest) e
+    ap (λ (t : Bool). read_from (cond t (Some (state_at AfterOne 0 no_book)) (piece_begun true 0 no_book b)) rest) e
 
 -- a part of the mark begins no piece
 lone_mark : (rest : List ℕ) → read_from (Some (state_at (Between true) 0 no_book)) (239 ∷ rest) ≡ nothing_read

@@ -9,13 +9,13 @@ use Rattle.chess_model.specs.declared.variant.Variant.TheVariants.{Chess}
 use Rattle.chess_model.specs.Position.{Position, Stands}
 use Rattle.chess_model.specs.WordAnswer.{word_answer}
 use Rattle.move_reader.specs.Reading.{reading}
-use Rattle.pgn_book.specs.Games.{on_board, position_of}
+use Rattle.pgn_book.specs.Games.{on_board, position_of_moves}
 use Rattle.pgn_book.specs.Reading.{from_word, move_read}
 use Rattle.pgn_book.proofs.Laying.{stands_at}
 
 pub at_moves : (p : Position) (kept moves : List Move) → p.variant ≡ Chess → Stands p (map on_board kept) 1
-    → kept ≡ moves → p ≡ position_of moves
-at_moves p kept moves chess stands e = stands_at p kept chess stands ∙ ap position_of e
+    → kept ≡ moves → p ≡ position_of_moves moves
+at_moves p kept moves chess stands e = stands_at p kept chess stands ∙ ap position_of_moves e
 
 pub word_read : (p q : Position) (text : List ℕ) (word : MoveWord) (r : Result Move Rejection)
     → Some word ≡ reading text

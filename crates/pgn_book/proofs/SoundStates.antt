@@ -22,11 +22,11 @@ use Rattle.pgn_book.specs.declared.stage.GameStage.{GameStage}
 use Rattle.pgn_book.specs.declared.stage.GameStage.TheVariants.{Before, Tags, Opened, Named, Told, Moves}
 use Rattle.pgn_book.specs.Bytes.{is_among, is_space, is_digit, is_name_byte, is_word_byte}
 use Rattle.pgn_book.specs.Lexing.{IsText, is_sign, is_of_line, is_of_braces, is_of_text}
-use Rattle.pgn_book.specs.Games.{is_result, on_board, position_of, without_praise}
+use Rattle.pgn_book.specs.Games.{is_result, on_board, position_of_moves, without_praise}
 use Rattle.pgn_book.specs.Export.{IsExportable}
-use Rattle.pgn_book.specs.Reading.{Book, no_book, noted, noted_as, game_of, Taken, goes, fails, gives, staged, opened, closed, passed_over, quoted, named, move_read, with_move, moved, told, worded, signed, glyphed, took, Outcome, adding, State, Step, state_at, to_place, outside, opens, closes, nested, skipping, spaced, begun, begun_behind, piece_of, longer, silent, word_ended, started, ended_in, in_line, in_braces, in_quotes, in_stroke, step, step_in, resting, finished_in, read_from, first_state, Gone, with_given, gone}
-use Rattle.pgn_book.specs.Taking.{on_if, IsStep, between}
-use Rattle.pgn_book.specs.Sound.{IsTextIfTold, IsSoundBook, IsSoundPlace, IsSound, IsSoundIf}
+use Rattle.pgn_book.specs.Reading.{Book, no_book, tag_noted, noted_as, game_of_book, Taken, goes, fails, gives, staged, stage_opened, closed, piece_passed, quoted, tag_named, move_read, with_move, move_taken, piece_told, worded, signed, glyphed, took, Outcome, with_game_first, State, Step, state_at, to_place, outside, opens, closes, nested, skipping, spaced, piece_begun, begun_behind, piece_of, longer, silent, word_ended, text_started, ended_in, in_line, in_braces, in_quotes, in_stroke, step, step_in, resting, finished_in, read_from, first_state, Gone, with_given, gone}
+use Rattle.pgn_book.specs.Taking.{on_if, IsStepOfByte, between}
+use Rattle.pgn_book.specs.Sound.{IsTextIfTold, IsSoundBook, IsSoundPlace, IsSoundState, IsSoundIf}
 use Rattle.pgn_book.specs.Laws.{ReadsExportable}
 use Rattle.pgn_book.proofs.GamesFound.{move_found}
 use Rattle.pgn_book.proofs.GamesTold.{reads_told}
@@ -82,7 +82,7 @@ at_stage stage book h = record {
   black = h.black;
 }
 
-passing : (stage : GameStage) (book : Book) → IsSoundBook book → IsSoundTaken (passed_over stage book)
+passing : (stage : GameStage) (book : Book) → IsSoundBook book → IsSoundTaken (piece_passed stage book)
 passing Before book h = going (staged Moves book) (at_stage Moves book h)
 passing Tags book h = going (staged Moves book) (at_stage Moves book h)
 passing Opened book h = failing
@@ -90,7 +90,7 @@ passing (Named name) book h = failing
 passing Told book h = failing
 passing Moves book h = going book h
 
-opening : (stage : GameStage) (book : Book) → IsSoundBook book → IsSoundTaken (opened stage book)
+opening : (stage : GameStage) (book : Book) → IsSoundBook book → IsSoundTaken (stage_opened stage book)
 opening Before book h = going (staged Opened book) (at_stage Opened book h)
 opening Tags book h = going (staged Opened book) (at_stage Opened book h)
 opening Opened book h = failing
@@ -121,7 +121,7 @@ quoting Before book text is h = failing
 quoting Tags book text is h = failing
 quoting Opened book text is h = failing
 quoting (Named name) book text is h =
-    going (record { stage = Told; row = noted name text book.row; moves = book.moves })
+    going (record { stage = Told; row = tag_noted name text book.row; moves = book.moves })
     (record {
       legal = h.legal;
       most = h.most;
@@ -135,7 +135,7 @@ quoting (Named name) book text is h =
 quoting Told book text is h = failing
 quoting Moves book text is h = failing
 
-naming : (book : Book) (word : List ℕ) → IsSoundBook book → IsSoundTaken (named book word)
+naming : (book : Book) (word : List ℕ) → IsSoundBook book → IsSoundTaken (tag_named book word)
 naming book word h =
     sound_if (list_all is_name_byte word && not (bytes_eq word (codes "FEN"))) (goes (staged (Named word) book)) fails
     (λ e. going (staged (Named word) book) (at_stage (Named word) book h)) (λ e. failing)
@@ -150,12 +150,12 @@ allowed_answer p text m h =
     answer.choice.allowed
 
 moving_on : (book : Book) (text : List ℕ) (m : Option Move) → length book.moves < 1200 → IsSoundBook book
-    → move_read (position_of book.moves) text ≡ m →
+    → move_read (position_of_moves book.moves) text ≡ m →
     IsSoundTaken (with_move book m)
 moving_on book text None room h e = failing
 moving_on book text (Some m) room h e =
-    let allowed : Allowed (position_of book.moves) m =
-    allowed_answer (position_of book.moves) text m (move_found (position_of book.moves) text m e) in
+    let allowed : Allowed (position_of_moves book.moves) m =
+    allowed_answer (position_of_moves book.moves) text m (move_found (position_of_moves book.moves) text m e) in
     let long : length (book.moves ++ m ∷ []) ≡ length book.moves + 1 = length-append book.moves (m ∷ []) in
     going (record { stage = Moves; row = book.row; moves = book.moves ++ m ∷ [] })
     (record {
@@ -171,15 +171,16 @@ moving_on book text (Some m) room h e =
       black = h.black;
     })
 
-moving : (book : Book) (word : List ℕ) → IsSoundBook book → IsSoundTaken (moved book word)
+moving : (book : Book) (word : List ℕ) → IsSoundBook book → IsSoundTaken (move_taken book word)
 moving book word h =
     let text : List ℕ = without_praise word in
-    sound_if (nat_lt (length book.moves) 1200) (with_move book (move_read (position_of book.moves) text)) fails
-    (λ e. moving_on book text (move_read (position_of book.moves) text) (below (length book.moves) 1200 e) h refl)
+    sound_if (nat_lt (length book.moves) 1200) (with_move book (move_read (position_of_moves book.moves) text)) fails
+    (λ e. moving_on book text (move_read (position_of_moves book.moves) text) (below (length book.moves) 1200 e) h refl)
     (λ e. failing)
 
 -- a text of a game is one that was told, or another that may stand in a tag
-shown : (absent : List ℕ) (told : Option (List ℕ)) → IsText absent → IsTextIfTold told → IsText (unwrap_or told absent)
+shown : (absent : List ℕ) (piece_told : Option (List ℕ)) → IsText absent → IsTextIfTold piece_told
+    → IsText (unwrap_or piece_told absent)
 shown absent None h g = h
 shown absent (Some text) h g = g
 
@@ -189,7 +190,7 @@ no_text = record { bytes = refl; most = omega arith }
 no_date : IsText (codes "????.??.??")
 no_date = record { bytes = refl; most = omega arith }
 
-ending : (book : Book) (word : List ℕ) → IsSoundBook book → IsSoundTaken (gives (game_of book word))
+ending : (book : Book) (word : List ℕ) → IsSoundBook book → IsSoundTaken (gives (game_of_book book word))
 ending book word h = record {
   given = record {
     legal = h.legal;
@@ -204,13 +205,13 @@ ending book word h = record {
   on = empty_book;
 }
 
-telling : (book : Book) (word : List ℕ) → IsSoundBook book → IsSoundTaken (told book word)
+telling : (book : Book) (word : List ℕ) → IsSoundBook book → IsSoundTaken (piece_told book word)
 telling book word h =
-    sound_if (list_all is_digit word) (passed_over book.stage book)
-    (cond (is_result word) (gives (game_of book word)) (moved book word))
+    sound_if (list_all is_digit word) (piece_passed book.stage book)
+    (cond (is_result word) (gives (game_of_book book word)) (move_taken book word))
     (λ e. passing book.stage book h)
     (λ e.
-    sound_if (is_result word) (gives (game_of book word)) (moved book word) (λ f. ending book word h)
+    sound_if (is_result word) (gives (game_of_book book word)) (move_taken book word) (λ f. ending book word h)
     (λ f. moving book word h))
 
 wording : (stage : GameStage) (book : Book) (word : List ℕ) → IsSoundBook book → IsSoundTaken (worded stage book word)
@@ -224,15 +225,16 @@ wording Moves book word h = telling book word h
 glyphing : (book : Book) (word : List ℕ) → IsSoundBook book → IsSoundTaken (glyphed book word)
 glyphing book [] h = failing
 glyphing book (b ∷ word) h =
-    sound_if (list_all is_digit (b ∷ word)) (passed_over book.stage book) fails (λ e. passing book.stage book h)
+    sound_if (list_all is_digit (b ∷ word)) (piece_passed book.stage book) fails (λ e. passing book.stage book h)
     (λ e. failing)
 
 signing : (book : Book) (b : ℕ) → IsSoundBook book → IsSoundTaken (signed book b)
 signing book b h =
-    sound_if (b == 91) (opened book.stage book) (cond (b == 93) (closed book.stage book) (passed_over book.stage book))
+    sound_if (b == 91) (stage_opened book.stage book)
+    (cond (b == 93) (closed book.stage book) (piece_passed book.stage book))
     (λ e. opening book.stage book h)
     (λ e.
-    sound_if (b == 93) (closed book.stage book) (passed_over book.stage book) (λ f. closing book.stage book h)
+    sound_if (b == 93) (closed book.stage book) (piece_passed book.stage book) (λ f. closing book.stage book h)
     (λ f. passing book.stage book h))
 
 -- ---- states
@@ -257,7 +259,7 @@ behind_piece place depth (Some book) is h = record { place = is book.stage; book
 
 -- what is passed over is in the moves
 behind_passed : (depth : ℕ) (stage : GameStage) (book : Book) → book.stage ≡ stage → IsSoundBook book
-    → IsSoundIf (to_place (Between false) depth (passed_over stage book).on)
+    → IsSoundIf (to_place (Between false) depth (piece_passed stage book).on)
 behind_passed depth Before book e h = record { place = inr refl; book = at_stage Moves book h }
 behind_passed depth Tags book e h = record { place = inr refl; book = at_stage Moves book h }
 behind_passed depth Opened book e h = tt
@@ -279,19 +281,19 @@ sound_outside book b h =
 sound_opens : (depth : ℕ) (book : Book) → IsSoundBook book → IsSoundIf (opens depth book)
 unfolding took
 sound_opens depth book h =
-    on_either (nat_lt depth 100) (to_place (Between false) (depth + 1) (passed_over book.stage book).on) None
+    on_either (nat_lt depth 100) (to_place (Between false) (depth + 1) (piece_passed book.stage book).on) None
     (λ e. behind_passed (depth + 1) book.stage book refl h) (λ e. tt)
 
 sound_closes : (depth : ℕ) (book : Book) → IsSoundBook book → IsSoundIf (closes depth book)
 unfolding took
 sound_closes depth book h =
-    on_either (nat_eq depth 0) None (to_place (Between false) (depth - 1) (passed_over book.stage book).on)
+    on_either (nat_eq depth 0) None (to_place (Between false) (depth - 1) (piece_passed book.stage book).on)
     (λ e. tt) (λ e. behind_passed (depth - 1) book.stage book refl h)
 
 sound_nested : (depth : ℕ) (book : Book) (b : ℕ) → IsSoundBook book → IsSoundIf (nested depth book b)
 unfolding took
 sound_nested depth book b h =
-    let within : Option State = to_place (Between false) depth (passed_over book.stage book).on in
+    let within : Option State = to_place (Between false) depth (piece_passed book.stage book).on in
     let behind : Option State = cond (nat_eq depth 0) (outside book b) within in
     on_either (b == 40) (opens depth book) (cond (b == 41) (closes depth book) behind)
     (λ e. sound_opens depth book h)
@@ -315,7 +317,7 @@ sound_skipping fresh depth book b at h =
     (λ g. sound_nested depth book b h)))
 
 sound_begun : (fresh : Bool) (depth : ℕ) (book : Book) (b : ℕ) → InMoves depth book.stage → IsSoundBook book
-    → IsSoundIf (begun fresh depth book b)
+    → IsSoundIf (piece_begun fresh depth book b)
 sound_begun fresh depth book b at h =
     on_either (is_word_byte b && nat_eq depth 0) (here (InWord false (b ∷ [])) depth book) (spaced fresh depth book b)
     (λ e. record { place = eqb-true depth 0 (and_parts (is_word_byte b) (nat_eq depth 0) e).1; book = h })
@@ -387,8 +389,9 @@ took_word false book word h = wording book.stage book word h
 sound_step_in : (place : PlaceInText) (depth : ℕ) (book : Book) (b : ℕ) → IsSoundPlace place depth book.stage
     → IsSoundBook book → IsSoundStep (step_in place depth book b)
 sound_step_in Start depth book b at h =
-    quietly (started depth book b)
-    (on_either (b == 239) (here AfterOne depth book) (begun true depth book b) (λ e. record { place = at; book = h })
+    quietly (text_started depth book b)
+    (on_either (b == 239) (here AfterOne depth book) (piece_begun true depth book b)
+    (λ e. record { place = at; book = h })
     (λ e. sound_begun true depth book b at h))
 sound_step_in AfterOne depth book b at h =
     quietly (cond (b == 187) (here AfterTwo depth book) None)
@@ -397,7 +400,7 @@ sound_step_in AfterTwo depth book b at h =
     quietly (cond (b == 191) (here (Between true) depth book) None)
     (on_either (b == 191) (here (Between true) depth book) None (λ e. record { place = at; book = h }) (λ e. tt))
 sound_step_in (Between fresh) depth book b at h =
-    quietly (begun fresh depth book b) (sound_begun fresh depth book b at h)
+    quietly (piece_begun fresh depth book b) (sound_begun fresh depth book b at h)
 sound_step_in InLine depth book b at h =
     quietly (in_line depth book b)
     (on_either (is_of_line b) (here InLine depth book) (here (Between true) depth book)
@@ -418,11 +421,11 @@ sound_step_in (InQuotes text) depth book b at h =
 sound_step_in (InStroke text) depth book b at h =
     quietly (in_stroke text depth book b) (sound_in_stroke text depth book b at.0 at.1 h)
 
-pub step_sound : (s : State) (b : ℕ) → IsSound s → IsSoundStep (step s b)
+pub step_sound : (s : State) (b : ℕ) → IsSoundState s → IsSoundStep (step s b)
 unfolding step
 step_sound s b h = sound_step_in s.place s.depth s.book b h.place h.book
 
-pub first_sound : IsSound first_state
+pub first_sound : IsSoundState first_state
 first_sound = record { place = inl refl; book = empty_book }
 
 -- ---- the end of a text, and clauses of the calls
@@ -430,7 +433,7 @@ first_sound = record { place = inl refl; book = empty_book }
 abbrev at_end : State → Step
 at_end s = ended_in s.place s.depth s.book
 
-pub end_sound : (s : State) → IsSound s → IsSoundStep (at_end s)
+pub end_sound : (s : State) → IsSoundState s → IsSoundStep (at_end s)
 end_sound s h = by s.place s.depth s.book h.place h.book
   where
     by : (place : PlaceInText) (depth : ℕ) (book : Book) → IsSoundPlace place depth book.stage → IsSoundBook book
@@ -459,26 +462,26 @@ pub record IsSoundRead (read : Read) (s : State) : Type 0 where
   pub given : IfSome read.game IsExportable
   pub on : IsSoundIf (on_if read.goes_on s)
 
-read_sound : (read : Read) (new : State) (t : Step) → IsStep read new t → IsSoundStep t → IsSoundRead read new
+read_sound : (read : Read) (new : State) (t : Step) → IsStepOfByte read new t → IsSoundStep t → IsSoundRead read new
 read_sound read new t is h = record {
   given = as_some read.game (subst (λ (x : Step). IsExportableIf x.given) is h.given);
   on = subst (λ (x : Step). IsSoundIf x.on) is h.on;
 }
 
-sound_on : (goes : Bool) (s : State) → goes ≡ true → IsSoundIf (on_if goes s) → IsSound s
+sound_on : (goes : Bool) (s : State) → goes ≡ true → IsSoundIf (on_if goes s) → IsSoundState s
 sound_on true s e h = h
 sound_on false s e h = cc
 
 pub byte_sound : (old new : State) (goes : Bool) (byte : ℕ) (read : Read) → goes ≡ true → IsSoundIf (on_if goes old)
-    → IsStep read new (step old byte) → IsSoundRead read new
+    → IsStepOfByte read new (step old byte) → IsSoundRead read new
 byte_sound old new goes byte read e h is =
     read_sound read new (step old byte) is (step_sound old byte (sound_on goes old e h))
 
 pub last_sound : (old new rested : State) (goes : Bool) (read : Read) → goes ≡ true → IsSoundIf (on_if goes old)
-    → IsStep read (between new) (at_end old) →
+    → IsStepOfByte read (between new) (at_end old) →
     rested ≡ between new → IsSoundRead read rested
 last_sound old new rested goes read e h is same =
-    read_sound read rested (at_end old) (subst (λ (s : State). IsStep read s (at_end old)) (sym same) is)
+    read_sound read rested (at_end old) (subst (λ (s : State). IsStepOfByte read s (at_end old)) (sym same) is)
     (end_sound old (sound_on goes old e h))
 
 pub some_given : (given : Option PgnGame) (g : PgnGame) → given ≡ Some g → IfSome given IsExportable → IsExportable g
@@ -490,7 +493,7 @@ abbrev pub EachExportable : List PgnGame → Type 0
 EachExportable games = AllByRecursion IsExportable games
 
 more_given : (given : Option PgnGame) (o : Outcome) → IsExportableIf given → EachExportable o.games
-    → EachExportable (adding given o).games
+    → EachExportable (with_game_first given o).games
 more_given None o h all = all
 more_given (Some g) o h all = (h, all)
 

@@ -6,8 +6,8 @@ use Rattle.pgn_book.specs.declared.place.PlaceInText.{PlaceInText}
 use Rattle.pgn_book.specs.declared.place.PlaceInText.TheVariants.{Between, InWord, InQuotes, InStroke}
 use Rattle.pgn_book.specs.Bytes.{is_among, move_signs, is_name_byte, is_word_byte}
 use Rattle.pgn_book.specs.Lexing.{is_sign, is_of_text}
-use Rattle.pgn_book.specs.Reading.{Book, Taken, State, Step, silent, state_at, to_place, took, passed_over, signed, quoted, glyphed, worded, piece_of, opens, closes, outside, nested, in_quotes, longer, step, step_in}
-use Rattle.pgn_book.specs.Taking.{on_if, IsTaken, IsTakenSilently, IsStep}
+use Rattle.pgn_book.specs.Reading.{Book, Taken, State, Step, silent, state_at, to_place, took, piece_passed, signed, quoted, glyphed, worded, piece_of, opens, closes, outside, nested, in_quotes, longer, step, step_in}
+use Rattle.pgn_book.specs.Taking.{on_if, IsTaken, IsTakenSilently, IsStepOfByte}
 
 pub word_by_name : (b : ℕ) (x : Bool) → x ≡ is_name_byte b → x ≡ true → x ≡ is_word_byte b
 unfolding is_word_byte
@@ -29,33 +29,33 @@ placed_by on depth new taken t = on_place on depth new ∙ sym (ap (λ (x : Take
 
 pub close_at : (place : PlaceInText) (d : ℕ) (b new : Book) (now : State) (on : Bool) → state_at place d b ≡ now
     → nat_eq d 0 ≡ false
-    → IsTakenSilently on new (passed_over b.stage b)
+    → IsTakenSilently on new (piece_passed b.stage b)
     → on_if on (state_at (Between false) (d - 1) new) ≡ closes now.depth now.book
 unfolding took
 close_at place d b new now on e h t =
-    let there : Option State = to_place (Between false) (d - 1) (passed_over b.stage b).on in
-    placed_by on (d - 1) new (passed_over b.stage b) t ∙ sym (ap (λ (x : Bool). cond x None there) h)
+    let there : Option State = to_place (Between false) (d - 1) (piece_passed b.stage b).on in
+    placed_by on (d - 1) new (piece_passed b.stage b) t ∙ sym (ap (λ (x : Bool). cond x None there) h)
     ∙ ap (λ (s : State). closes s.depth s.book) e
 
 pub open_at : (place : PlaceInText) (d : ℕ) (b new : Book) (now : State) (on : Bool) → state_at place d b ≡ now
     → nat_lt d 100 ≡ true
-    → IsTakenSilently on new (passed_over b.stage b)
+    → IsTakenSilently on new (piece_passed b.stage b)
     → on_if on (state_at (Between false) (d + 1) new) ≡ opens now.depth now.book
 unfolding took
 open_at place d b new now on e h t =
-    let there : Option State = to_place (Between false) (d + 1) (passed_over b.stage b).on in
-    placed_by on (d + 1) new (passed_over b.stage b) t ∙ sym (ap (λ (x : Bool). cond x there None) h)
+    let there : Option State = to_place (Between false) (d + 1) (piece_passed b.stage b).on in
+    placed_by on (d + 1) new (piece_passed b.stage b) t ∙ sym (ap (λ (x : Bool). cond x there None) h)
     ∙ ap (λ (s : State). opens s.depth s.book) e
 
 pub nest_at : (place : PlaceInText) (d : ℕ) (b new : Book) (now : State) (byte : ℕ) (on : Bool)
     → state_at place d b ≡ now → (byte == 40) ≡ false
-    → (byte == 41) ≡ false → nat_eq d 0 ≡ false → IsTakenSilently on new (passed_over b.stage b)
+    → (byte == 41) ≡ false → nat_eq d 0 ≡ false → IsTakenSilently on new (piece_passed b.stage b)
     → on_if on (state_at (Between false) d new) ≡ nested now.depth now.book byte
 unfolding took
 nest_at place d b new now byte on e no_open no_close h t =
-    let there : Option State = to_place (Between false) d (passed_over b.stage b).on in
+    let there : Option State = to_place (Between false) d (piece_passed b.stage b).on in
     let inside : Option State = cond (nat_eq d 0) (outside b byte) there in
-    placed_by on d new (passed_over b.stage b) t ∙ sym (ap (λ (x : Bool). cond x (outside b byte) there) h)
+    placed_by on d new (piece_passed b.stage b) t ∙ sym (ap (λ (x : Bool). cond x (outside b byte) there) h)
     ∙ sym (ap (λ (x : Bool). cond x (closes d b) inside) no_close)
     ∙ sym (ap (λ (x : Bool). cond x (opens d b) (cond (byte == 41) (closes d b) inside)) no_open)
     ∙ ap (λ (s : State). nested s.depth s.book byte) e
@@ -116,7 +116,7 @@ word_taken place d b new now glyph word read e h t =
 pub step_silent : (place kind : PlaceInText) (d : ℕ) (b : Book) (now new : State) (byte : ℕ) (on : Bool) (read : Read)
     (f : Option State)
     → state_at place d b ≡ now → kind ≡ place → step_in kind d b byte ≡ silent f → on_if on new ≡ f
-    → read ≡ record { game = None; goes_on = on } → IsStep read new (step now byte)
+    → read ≡ record { game = None; goes_on = on } → IsStepOfByte read new (step now byte)
 unfolding step
 step_silent place kind d b now new byte on read f e k h g r =
     ap (λ (s : State). step s byte) (sym e) ∙ ap (λ (p : PlaceInText). step_in p d b byte) (sym k) ∙ h
@@ -125,7 +125,7 @@ step_silent place kind d b now new byte on read f e k h g r =
 
 pub step_loud : (place kind : PlaceInText) (d : ℕ) (b : Book) (now new : State) (byte : ℕ) (read : Read)
     → state_at place d b ≡ now
-    → kind ≡ place → IsStep read new (step_in kind d b byte) → IsStep read new (step now byte)
+    → kind ≡ place → IsStepOfByte read new (step_in kind d b byte) → IsStepOfByte read new (step now byte)
 unfolding step
 step_loud place kind d b now new byte read e k h =
     ap (λ (s : State). step s byte) (sym e) ∙ ap (λ (p : PlaceInText). step_in p d b byte) (sym k) ∙ h

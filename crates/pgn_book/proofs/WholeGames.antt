@@ -9,9 +9,9 @@ use Rattle.pgn_book.specs.declared.place.PlaceInText.TheVariants.{Start, AfterOn
 use Rattle.pgn_book.specs.declared.stage.GameStage.{GameStage}
 use Rattle.pgn_book.specs.declared.stage.GameStage.TheVariants.{Before, Tags, Opened, Named, Told, Moves}
 use Rattle.pgn_book.specs.Bytes.{is_space, spaces, is_digit, is_name_byte, is_word_byte}
-use Rattle.pgn_book.specs.Games.{Reads, is_result, position_of, without_praise}
-use Rattle.pgn_book.specs.Reading.{Book, no_book, game_of, Taken, goes, fails, gives, staged, passed_over, move_read, with_move, moved, told, worded, glyphed, took, Outcome, adding, State, state_at, piece_of, longer, silent, word_ended, step, step_in, resting, finished_in, read_from, first_state, Gone, with_given, gone, gone_both, adding_all}
-use Rattle.pgn_book.specs.Sound.{IsSound, IsSoundPlace, IsSoundIf}
+use Rattle.pgn_book.specs.Games.{ReadsGames, is_result, position_of_moves, without_praise}
+use Rattle.pgn_book.specs.Reading.{Book, no_book, game_of_book, Taken, goes, fails, gives, staged, piece_passed, move_read, with_move, move_taken, piece_told, worded, glyphed, took, Outcome, with_game_first, State, state_at, piece_of, longer, silent, word_ended, step, step_in, resting, finished_in, read_from, first_state, Gone, with_given, gone, gone_both, adding_all}
+use Rattle.pgn_book.specs.Sound.{IsSoundState, IsSoundPlace, IsSoundIf}
 use Rattle.pgn_book.specs.Runs.{outcome_of, begun_with, WholeGamesAreTold}
 use Rattle.pgn_book.proofs.Cuts.{reads_in_pieces}
 use Rattle.pgn_book.proofs.GamesFound.{reader_reads}
@@ -23,7 +23,7 @@ abbrev pub listed : Option PgnGame → List PgnGame
 listed None = []
 listed (Some g) = g ∷ []
 
-adding_listed : (given : Option PgnGame) (o : Outcome) → (adding given o).games ≡ listed given ++ o.games
+adding_listed : (given : Option PgnGame) (o : Outcome) → (with_game_first given o).games ≡ listed given ++ o.games
 adding_listed None o = refl
 adding_listed (Some g) o = refl
 
@@ -40,7 +40,7 @@ leaves_if : (x : Bool) (a c : Taken) → LeavesNone a → LeavesNone c → Leave
 leaves_if true a c h g = h
 leaves_if false a c h g = g
 
-passed_leaves : (stage : GameStage) (book : Book) → LeavesNone (passed_over stage book)
+passed_leaves : (stage : GameStage) (book : Book) → LeavesNone (piece_passed stage book)
 passed_leaves Before book = inl refl
 passed_leaves Tags book = inl refl
 passed_leaves Opened book = inl refl
@@ -52,14 +52,14 @@ move_leaves : (book : Book) (m : Option Move) → LeavesNone (with_move book m)
 move_leaves book None = inl refl
 move_leaves book (Some m) = inl refl
 
-told_leaves : (book : Book) (word : List ℕ) → LeavesNone (told book word)
+told_leaves : (book : Book) (word : List ℕ) → LeavesNone (piece_told book word)
 told_leaves book word =
-    leaves_if (list_all is_digit word) (passed_over book.stage book)
-    (cond (is_result word) (gives (game_of book word)) (moved book word)) (passed_leaves book.stage book)
-    (leaves_if (is_result word) (gives (game_of book word)) (moved book word) (inr refl)
+    leaves_if (list_all is_digit word) (piece_passed book.stage book)
+    (cond (is_result word) (gives (game_of_book book word)) (move_taken book word)) (passed_leaves book.stage book)
+    (leaves_if (is_result word) (gives (game_of_book book word)) (move_taken book word) (inr refl)
     (leaves_if (nat_lt (length book.moves) 1200)
-    (with_move book (move_read (position_of book.moves) (without_praise word))) fails
-    (move_leaves book (move_read (position_of book.moves) (without_praise word))) (inl refl)))
+    (with_move book (move_read (position_of_moves book.moves) (without_praise word))) fails
+    (move_leaves book (move_read (position_of_moves book.moves) (without_praise word))) (inl refl)))
 
 worded_leaves : (stage : GameStage) (book : Book) (word : List ℕ) → LeavesNone (worded stage book word)
 worded_leaves Before book word = told_leaves book word
@@ -74,7 +74,7 @@ worded_leaves Moves book word = told_leaves book word
 glyph_leaves : (book : Book) (word : List ℕ) → LeavesNone (glyphed book word)
 glyph_leaves book [] = inl refl
 glyph_leaves book (b ∷ word) =
-    leaves_if (list_all is_digit (b ∷ word)) (passed_over book.stage book) fails (passed_leaves book.stage book)
+    leaves_if (list_all is_digit (b ∷ word)) (piece_passed book.stage book) fails (passed_leaves book.stage book)
     (inl refl)
 
 word_leaves : (glyph : Bool) (book : Book) (word : List ℕ) → LeavesNone (took book (piece_of glyph word))
@@ -98,10 +98,10 @@ word_whole : (glyph : Bool) (word : List ℕ) (depth : ℕ) (book : Book) (taken
 word_whole glyph word depth book taken g same deep (inl none) e = no_game g (sym none ∙ e)
 word_whole glyph word depth book taken g same deep (inr empty) e =
     let ended : finished_in (InWord glyph word) depth book ≡ record { games = g ∷ []; whole = true } =
-    ap (λ (t : Taken). adding t.given (resting depth t.on)) (sym same)
-    ∙ ap (λ (o : Option PgnGame). adding o (resting depth taken.on)) e
-    ∙ ap (λ (on : Option Book). adding (Some g) (resting depth on)) empty
-    ∙ ap (λ (d : ℕ). adding (Some g) (resting d (Some no_book))) deep in
+    ap (λ (t : Taken). with_game_first t.given (resting depth t.on)) (sym same)
+    ∙ ap (λ (o : Option PgnGame). with_game_first o (resting depth taken.on)) e
+    ∙ ap (λ (on : Option Book). with_game_first (Some g) (resting depth on)) empty
+    ∙ ap (λ (d : ℕ). with_game_first (Some g) (resting d (Some no_book))) deep in
     record { games = ap (λ (o : Outcome). o.games) ended; whole = ap (λ (o : Outcome). o.whole) ended }
 
 -- by whether the byte goes on with the word
@@ -110,7 +110,7 @@ word_given : (x : Bool) (on : Option State) (taken : Taken) (depth b : ℕ) (g :
 word_given true on taken depth b g e = no_game g e
 word_given false on taken depth b g e = e
 
-given_whole : (s : State) (b : ℕ) (g : PgnGame) → IsSound s → (step s b).given ≡ Some g → EndsWhole s g
+given_whole : (s : State) (b : ℕ) (g : PgnGame) → IsSoundState s → (step s b).given ≡ Some g → EndsWhole s g
 unfolding step
 given_whole s b g h e = by s.place s.depth s.book h.place e
   where
@@ -135,7 +135,7 @@ record HasRead (text : List ℕ) (games : List PgnGame) : Type 0 where
   front : List ℕ
   rest : List ℕ
   split : text ≡ front ++ rest
-  read : Reads front games
+  read : ReadsGames front games
 
 longer_text : (text more : List ℕ) (games : List PgnGame) → HasRead text games → HasRead (text ++ more) games
 longer_text text more games h = record {
@@ -149,7 +149,7 @@ longer_text text more games h = record {
 read_here : (done : List ℕ) (s : State) (games ended : List PgnGame) → (begun_with done).on ≡ Some s
     → (begun_with done).games ≡ games →
     (finished_in s.place s.depth s.book).games ≡ ended → (finished_in s.place s.depth s.book).whole ≡ true
-    → Reads done (games ++ ended)
+    → ReadsGames done (games ++ ended)
 read_here done s games ended on are is whole =
     let parts : outcome_of done ≡ adding_all (begun_with done).games (finished_in s.place s.depth s.book) =
     ap outcome_of (sym (append-nil done)) ∙ reads_in_pieces.read (Some first_state) done []
@@ -163,7 +163,7 @@ read_here done s games ended on are is whole =
 -- what holds behind each beginning
 abbrev ReadsOn : List ℕ → Type 0
 ReadsOn rest =
-    (done : List ℕ) (games : List PgnGame) (s : State) → IsSound s → (begun_with done).on ≡ Some s
+    (done : List ℕ) (games : List PgnGame) (s : State) → IsSoundState s → (begun_with done).on ≡ Some s
     → (begun_with done).games ≡ games → HasRead done games →
     HasRead (done ++ rest) (games ++ (gone (Some s) rest).games)
 
@@ -189,7 +189,7 @@ one_byte done b s on games given was are e f =
     ended (Some g) (Some s) = refl
 
 -- a game more was whole before the byte
-read_more : (done : List ℕ) (b : ℕ) (s : State) (games : List PgnGame) (given : Option PgnGame) → IsSound s
+read_more : (done : List ℕ) (b : ℕ) (s : State) (games : List PgnGame) (given : Option PgnGame) → IsSoundState s
     → (begun_with done).on ≡ Some s → (begun_with done).games ≡ games →
     (step s b).given ≡ given → HasRead done games → HasRead (done ++ b ∷ []) (games ++ listed given)
 read_more done b s games None sound on are e h =
@@ -204,7 +204,7 @@ read_more done b s games (Some g) sound on are e h =
     }
 
 reads_by : (b : ℕ) (rest : List ℕ) → ReadsOn rest
-    → (done : List ℕ) (games : List PgnGame) (s : State) (on : Option State) → IsSound s
+    → (done : List ℕ) (games : List PgnGame) (s : State) (on : Option State) → IsSoundState s
     → (begun_with done).on ≡ Some s →
     (begun_with done).games ≡ games → (step s b).on ≡ on → IsSoundIf on → HasRead done games →
     HasRead (done ++ b ∷ rest) (games ++ (listed (step s b).given ++ (gone on rest).games))
@@ -253,9 +253,9 @@ abbrev Ends : Outcome → Type 0
 Ends o = (o.games ≡ []) ⊎ (o.whole ≡ true)
 
 word_ends : (depth : ℕ) (taken : Taken) → depth ≡ 0 → LeavesNone taken
-    → Ends (adding taken.given (resting depth taken.on))
+    → Ends (with_game_first taken.given (resting depth taken.on))
 word_ends depth taken deep (inl none) =
-    inl (ap (λ (o : Option PgnGame). (adding o (resting depth taken.on)).games) none)
+    inl (ap (λ (o : Option PgnGame). (with_game_first o (resting depth taken.on)).games) none)
 word_ends depth taken deep (inr empty) =
     inr (adding_whole taken.given (resting depth taken.on) ∙ ap (λ (on : Option Book). (resting depth on).whole) empty
     ∙ ap (λ (d : ℕ). (resting d (Some no_book)).whole) deep)
@@ -356,7 +356,7 @@ behind_text : (text other : List ℕ) (b : ℕ) (behind : List ℕ) → text ≡
 behind_text text other b behind e = e ∙ sym (append_assoc other (b ∷ []) behind)
 
 begun_all : (text other : List ℕ) (b : ℕ) (behind : List ℕ) (fewer : List PgnGame) → text ≡ other ++ b ∷ behind
-    → is_space b ≡ true → Reads other fewer →
+    → is_space b ≡ true → ReadsGames other fewer →
     (more : List PgnGame) × ((begun_with text).games ≡ fewer ++ more)
 begun_all text other b behind fewer e space read =
     let front : List ℕ = other ++ b ∷ [] in
@@ -370,7 +370,7 @@ begun_all text other b behind fewer e space read =
     )
 
 ended_all : (text other : List ℕ) (b : ℕ) (behind : List ℕ) (fewer : List PgnGame) → text ≡ other ++ b ∷ behind
-    → is_space b ≡ true → Reads other fewer →
+    → is_space b ≡ true → ReadsGames other fewer →
     (more : List PgnGame) × ((outcome_of text).games ≡ fewer ++ more)
 ended_all text other b behind fewer e space read =
     let front : List ℕ = other ++ b ∷ [] in

@@ -3,11 +3,11 @@ use Rattle.std.proofs.Common.{◌≡◌, ◌≢◌, ℕ, true, false, List, [], 
 use Rattle.pgn_book.specs.declared.game.PgnGame.{PgnGame}
 use Rattle.pgn_book.specs.declared.reader.PgnStep.{PgnStep}
 use Rattle.pgn_book.specs.declared.reader.PgnStep.TheVariants.{Game, More, Bad}
-use Rattle.pgn_book.specs.Games.{Reads}
-use Rattle.pgn_book.specs.Reading.{State, Outcome, adding, nothing_read, read_from, first_state, Gone, with_given, gone, adding_all}
-use Rattle.pgn_book.specs.Reader.{Reader, fresh_reader, line_from, GoesOn, IsNext, IsLast}
+use Rattle.pgn_book.specs.Games.{ReadsGames}
+use Rattle.pgn_book.specs.Reading.{State, Outcome, with_game_first, nothing_read, read_from, first_state, Gone, with_given, gone, adding_all}
+use Rattle.pgn_book.specs.Reader.{Reader, fresh_reader, line_from, ReaderGoesOn, IsNext, IsLast}
 use Rattle.pgn_book.specs.BadLines.{IsLeftOn}
-use Rattle.pgn_book.specs.Runs.{outcome_of, begun_with, with_games, HasGiven, EndsSo, Call, Feed, Next, Halted, MakeAll, Ends, text_of, game_in, games_of, RunsReadTheText}
+use Rattle.pgn_book.specs.Runs.{outcome_of, begun_with, with_games, HasGiven, EndsSo, Call, Feed, Next, Halted, MakeAll, Ends, text_of_calls, game_of_step, games_of, RunsReadTheText}
 use Rattle.pgn_book.proofs.GamesFound.{reader_reads}
 use Rattle.pgn_book.proofs.LinesLeft.{left_on}
 use Rattle.pgn_book.proofs.WholeGames.{listed}
@@ -42,14 +42,14 @@ more_begun games (Some x) g =
     ap (λ (l : List PgnGame). record { games = l; on = g.on }) (sym (append_assoc games (x ∷ []) g.games))
 
 more_read : (games : List PgnGame) (given : Option PgnGame) (o : Outcome)
-    → adding_all games (adding given o) ≡ adding_all (games ++ listed given) o
+    → adding_all games (with_game_first given o) ≡ adding_all (games ++ listed given) o
 more_read games None o =
     ap (λ (l : List PgnGame). record { games = l ++ o.games; whole = o.whole }) (sym (append-nil games))
 more_read games (Some x) o =
     ap (λ (l : List PgnGame). record { games = l; whole = o.whole }) (sym (append_assoc games (x ∷ []) o.games))
 
 pub given_more : (text : List ℕ) (games : List PgnGame) (given : Option PgnGame) (old new : Reader)
-    → HasGiven text games old → GoesOn old given new →
+    → HasGiven text games old → ReaderGoesOn old given new →
     HasGiven text (games ++ listed given) new
 given_more text games given old new h g = record {
   begun = λ more.
@@ -61,25 +61,26 @@ given_more text games given old new h g = record {
 
 pub next_given : (text : List ℕ) (games : List PgnGame) (step : PgnStep) (old new : Reader) → HasGiven text games old
     → IsNext old step new →
-    HasGiven text (games ++ game_in step) new
+    HasGiven text (games ++ game_of_step step) new
 next_given text games (Game g) old new h is = given_more text games (Some g) old new h is
 next_given text games More old new h is = given_more text games None old new h is.0.goes_on
 next_given text games (Bad line) old new h is = given_more text games None old new h is.0.goes_on
 
 all_given : (calls : List Call) (text : List ℕ) (games : List PgnGame) (old new : Reader) → HasGiven text games old
     → MakeAll old calls new →
-    HasGiven (text ++ text_of calls) (games ++ games_of calls) new
+    HasGiven (text ++ text_of_calls calls) (games ++ games_of calls) new
 all_given [] text games old new h made =
     subst (λ (r : Reader). HasGiven (text ++ []) (games ++ []) r) (sym made)
     (subst (λ (t : List ℕ). HasGiven t (games ++ []) old) (sym (append-nil text))
     (subst (λ (l : List PgnGame). HasGiven text l old) (sym (append-nil games)) h))
 all_given (Feed piece ∷ calls) text games old new h made =
-    subst (λ (t : List ℕ). HasGiven t (games ++ games_of calls) new) (append_assoc text piece (text_of calls))
+    subst (λ (t : List ℕ). HasGiven t (games ++ games_of calls) new) (append_assoc text piece (text_of_calls calls))
     (all_given calls (text ++ piece) games made.0 new (fed_more text piece games old made.0 h made.1) made.2)
 all_given (Next step ∷ calls) text games old new h made =
-    subst (λ (l : List PgnGame). HasGiven (text ++ text_of calls) l new)
-    (append_assoc games (game_in step) (games_of calls))
-    (all_given calls text (games ++ game_in step) made.0 new (next_given text games step old made.0 h made.1) made.2)
+    subst (λ (l : List PgnGame). HasGiven (text ++ text_of_calls calls) l new)
+    (append_assoc games (game_of_step step) (games_of calls))
+    (all_given calls text (games ++ game_of_step step) made.0 new (next_given text games step old made.0 h made.1)
+    made.2)
 all_given (Halted ∷ calls) text games old new h made =
     all_given calls text games made.0 new (subst (HasGiven text games) (sym made.1) h) made.2
 
@@ -116,14 +117,14 @@ game_more text games g old new h is = record {
 }
 
 pub all_read : (text : List ℕ) (games : List PgnGame) (old new : Reader) → EndsSo text games old → IsLast old More new
-    → Reads text games
+    → ReadsGames text games
 all_read text games old new h is =
     reader_reads.sound text games
     (h.read ∙ ap (adding_all games) is
     ∙ ap (λ (l : List PgnGame). record { games = l; whole = true }) (append-nil games))
 
 -- a text that isn't whole isn't read
-unread : (text : List ℕ) → (outcome_of text).whole ≡ false → (games : List PgnGame) → Reads text games → ⊥
+unread : (text : List ℕ) → (outcome_of text).whole ≡ false → (games : List PgnGame) → ReadsGames text games → ⊥
 unread text e games h =
     let whole : true ≡ false = ap (λ (o : Outcome). o.whole) (sym (reader_reads.complete text games h)) ∙ e in
     cc
@@ -178,14 +179,15 @@ next_none text games r h empty on = by r.on refl
 -- ---- whole runs
 
 from_fresh : (calls : List Call) (fed : Reader) → MakeAll fresh_reader calls fed
-    → HasGiven (text_of calls) (games_of calls) fed
+    → HasGiven (text_of_calls calls) (games_of calls) fed
 from_fresh calls fed made = all_given calls [] [] fresh_reader fed none_given made
 
 whole_so : (games before : List PgnGame) (text : List ℕ) (r : Reader) → EndsSo text before r → Ends r games More
-    → Reads text (before ++ games)
-whole_so [] before text r h ends = subst (Reads text) (sym (append-nil before)) (all_read text before r ends.0 h ends.1)
+    → ReadsGames text (before ++ games)
+whole_so [] before text r h ends =
+    subst (ReadsGames text) (sym (append-nil before)) (all_read text before r ends.0 h ends.1)
 whole_so (g ∷ games) before text r h ends =
-    subst (Reads text) (append_assoc before (g ∷ []) games)
+    subst (ReadsGames text) (append_assoc before (g ∷ []) games)
     (whole_so games (before ++ g ∷ []) text ends.0 (game_more text before g r ends.0 h ends.1) ends.2)
 
 bad_so : (games before : List PgnGame) (text : List ℕ) (line : ℕ) (r : Reader) → EndsSo text before r
@@ -200,19 +202,19 @@ bad_so (g ∷ games) before text line r h ends =
 pub runs_read : RunsReadTheText
 runs_read = record {
   whole = λ calls fed games made ends.
-      whole_so games (games_of calls) (text_of calls) fed
-      (begins_end (text_of calls) (games_of calls) fed (from_fresh calls fed made)) ends;
+      whole_so games (games_of calls) (text_of_calls calls) fed
+      (begins_end (text_of_calls calls) (games_of calls) fed (from_fresh calls fed made)) ends;
   bad = λ calls fed games line made ends.
       let lost =
-      bad_so games (games_of calls) (text_of calls) line fed
-      (begins_end (text_of calls) (games_of calls) fed (from_fresh calls fed made)) ends in
+      bad_so games (games_of calls) (text_of_calls calls) line fed
+      (begins_end (text_of_calls calls) (games_of calls) fed (from_fresh calls fed made)) ends in
       (lost.left, lost.before);
   no_more = λ calls fed new made is.
-      let given : HasGiven (text_of calls) (games_of calls ++ []) new =
-      given_more (text_of calls) (games_of calls) None fed new (from_fresh calls fed made) is.0.goes_on in
-      let none = next_none (text_of calls) (games_of calls ++ []) new given is.0.all is.1 in
+      let given : HasGiven (text_of_calls calls) (games_of calls ++ []) new =
+      given_more (text_of_calls calls) (games_of calls) None fed new (from_fresh calls fed made) is.0.goes_on in
+      let none = next_none (text_of_calls calls) (games_of calls ++ []) new given is.0.all is.1 in
       (none.games_are ∙ append-nil (games_of calls), none.goes_on);
   lost = λ calls fed new line made is more.
-      let lost = next_lost (text_of calls) (games_of calls) line fed new (from_fresh calls fed made) is more in
+      let lost = next_lost (text_of_calls calls) (games_of calls) line fed new (from_fresh calls fed made) is more in
       (lost.left, lost.before);
 }

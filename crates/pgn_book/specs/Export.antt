@@ -7,7 +7,7 @@ use Rattle.chess_model.specs.Allowed.{IsLegal}
 use Rattle.rules_reading.specs.ReadsBack.{pretty_in}
 use Rattle.pgn_book.specs.declared.game.PgnGame.{PgnGame}
 use Rattle.pgn_book.specs.Lexing.{escaped, IsText}
-use Rattle.pgn_book.specs.Games.{result_text, on_board, position_of}
+use Rattle.pgn_book.specs.Games.{result_text, on_board, position_of_moves}
 
 -- a tag on a line of its own
 abbrev pub tag_line : List ℕ → List ℕ → List ℕ
@@ -30,7 +30,7 @@ number_at place = if nat_eq (place % 2) 0 then (decimal (place / 2 + 1) ++ codes
 abbrev pub move_tokens : List Move → List Move → List (List ℕ)
 move_tokens before [] = []
 move_tokens before (m ∷ moves) =
-    number_at (length before) ++ pretty_in (position_of before) m ∷ move_tokens (before ++ m ∷ []) moves
+    number_at (length before) ++ pretty_in (position_of_moves before) m ∷ move_tokens (before ++ m ∷ []) moves
 
 -- tokens in lines, from a column on; column 0 is the beginning of a line. A token stands behind a blank where the line
 -- stays at most 79 bytes, else on a new line

@@ -28,8 +28,8 @@ is_result word =
     || (bytes_eq word (result_text Draw) || bytes_eq word (result_text Open)))
 
 -- the position after these moves from the start of a game of chess
-abbrev pub position_of : List Move → Position
-position_of moves = position_after Chess (map on_board moves) 1
+abbrev pub position_of_moves : List Move → Position
+position_of_moves moves = position_after Chess (map on_board moves) 1
 
 -- a tag: a name and a text
 pub record Tag : Type 0 where
@@ -91,7 +91,7 @@ IsPassed _ = ⊥
 pub record IsMoveWord (before : List Move) (word : List ℕ) (m : Move) : Type 0 where
   pub no_number : list_all is_digit word ≡ false
   pub no_result : is_result word ≡ false
-  pub read : IsReadAs (position_of before) (without_praise word) m
+  pub read : IsReadAs (position_of_moves before) (without_praise word) m
 
 -- the piece is a word that is the next move
 pub record IsNext (before : List Move) (piece : Piece) (first : List Move) : Type 0 where
@@ -102,18 +102,18 @@ pub record IsNext (before : List Move) (piece : Piece) (first : List Move) : Typ
   pub only : first ≡ move ∷ []
 
 -- a piece of the movetext is passed over, or it tells the next move
-abbrev pub Tells : List Move → Piece → List Move → Type 0
-Tells before piece first = (IsPassed piece × (first ≡ [])) ⊎ IsNext before piece first
+abbrev pub TellsMove : List Move → Piece → List Move → Type 0
+TellsMove before piece first = (IsPassed piece × (first ≡ [])) ⊎ IsNext before piece first
 
 -- the pieces tell these moves, after those before them
 abbrev pub TellMoves : List Move → List Piece → List Move → Type 0
 TellMoves before [] moves = moves ≡ []
 TellMoves before (piece ∷ pieces) moves =
-    (first : List Move) × (rest : List Move) × Tells before piece first × TellMoves (before ++ first) pieces rest
+    (first : List Move) × (rest : List Move) × TellsMove before piece first × TellMoves (before ++ first) pieces rest
     × (moves ≡ first ++ rest)
 
 -- the pieces of one game, of at most 1,200 half-moves
-pub record IsGame (pieces : List Piece) (g : PgnGame) : Type 0 where
+pub record IsOneGame (pieces : List Piece) (g : PgnGame) : Type 0 where
   pub tags : List Tag
   pub body : List Piece
   pub each_tag : AllByRecursion IsTag tags
@@ -126,14 +126,14 @@ pub record IsGame (pieces : List Piece) (g : PgnGame) : Type 0 where
 abbrev pub AreGames : List Piece → List PgnGame → Type 0
 AreGames pieces [] = pieces ≡ []
 AreGames pieces (g ∷ games) =
-    (first : List Piece) × (rest : List Piece) × (pieces ≡ first ++ rest) × IsGame first g × AreGames rest games
+    (first : List Piece) × (rest : List Piece) × (pieces ≡ first ++ rest) × IsOneGame first g × AreGames rest games
 
 -- the games that the grammar reads in a text
-pub record Reads (text : List ℕ) (games : List PgnGame) : Type 0 where
+pub record ReadsGames (text : List ℕ) (games : List PgnGame) : Type 0 where
   pub pieces : List Piece
   pub lexed : Lexes at_start (unmarked text) pieces
   pub told : AreGames (filter (λ piece. not (is_skipped piece)) pieces) games
 
 -- a text has at most one list of games
 abbrev pub OneReading : Type 0
-OneReading = (text : List ℕ) (one other : List PgnGame) → Reads text one → Reads text other → one ≡ other
+OneReading = (text : List ℕ) (one other : List PgnGame) → ReadsGames text one → ReadsGames text other → one ≡ other

@@ -34,18 +34,18 @@ escaped [] = []
 escaped (b ∷ text) = escaped_byte b ++ escaped text
 
 -- how a piece is written
-abbrev pub spelling : Piece → List ℕ
-spelling (Blank b) = b ∷ []
-spelling (Escape body) = 37 ∷ body
-spelling (Braces body) = 123 ∷ (body ++ 125 ∷ [])
-spelling (Comment body) = 59 ∷ body
-spelling (Word word) = word
-spelling (Glyph word) = 36 ∷ word
-spelling (Quoted text) = 34 ∷ (escaped text ++ 34 ∷ [])
-spelling (Sign b) = b ∷ []
-spelling Opening = 40 ∷ []
-spelling Closing = 41 ∷ []
-spelling (Within b) = b ∷ []
+abbrev pub piece_spelling : Piece → List ℕ
+piece_spelling (Blank b) = b ∷ []
+piece_spelling (Escape body) = 37 ∷ body
+piece_spelling (Braces body) = 123 ∷ (body ++ 125 ∷ [])
+piece_spelling (Comment body) = 59 ∷ body
+piece_spelling (Word word) = word
+piece_spelling (Glyph word) = 36 ∷ word
+piece_spelling (Quoted text) = 34 ∷ (escaped text ++ 34 ∷ [])
+piece_spelling (Sign b) = b ∷ []
+piece_spelling Opening = 40 ∷ []
+piece_spelling Closing = 41 ∷ []
+piece_spelling (Within b) = b ∷ []
 
 -- a byte of a line: any but a line feed
 abbrev pub is_of_line : ℕ → Bool
@@ -104,17 +104,18 @@ MayStand at Closing rest = 0 < at.depth
 MayStand at (Within b) rest = (0 < at.depth) × (is_reserved b ≡ false) × ((b == 37 && at.fresh) ≡ false)
 
 -- where the next piece begins
-abbrev pub behind : At → Piece → At
-behind at (Blank b) = record { depth = at.depth; fresh = b == 10 }
-behind at Opening = record { depth = at.depth + 1; fresh = false }
-behind at Closing = record { depth = at.depth - 1; fresh = false }
-behind at piece = record { depth = at.depth; fresh = false }
+abbrev pub next_place : At → Piece → At
+next_place at (Blank b) = record { depth = at.depth; fresh = b == 10 }
+next_place at Opening = record { depth = at.depth + 1; fresh = false }
+next_place at Closing = record { depth = at.depth - 1; fresh = false }
+next_place at piece = record { depth = at.depth; fresh = false }
 
 -- the text is those pieces, one behind the other, and each variation is closed
 abbrev pub Lexes : At → List ℕ → List Piece → Type 0
 Lexes at text [] = (text ≡ []) × (at.depth ≡ 0)
 Lexes at text (piece ∷ pieces) =
-    (rest : List ℕ) × (text ≡ spelling piece ++ rest) × MayStand at piece rest × Lexes (behind at piece) rest pieces
+    (rest : List ℕ) × (text ≡ piece_spelling piece ++ rest) × MayStand at piece rest
+    × Lexes (next_place at piece) rest pieces
 
 -- the text without the three bytes by which UTF-8 may be marked
 abbrev pub unmarked : List ℕ → List ℕ

@@ -6,7 +6,7 @@ use Rattle.pgn_book.specs.declared.place.PlaceInText.TheVariants.{InWord}
 use Rattle.pgn_book.specs.declared.reader.PgnStep.{PgnStep}
 use Rattle.pgn_book.specs.declared.reader.PgnStep.TheVariants.{Game, More, Bad}
 use Rattle.pgn_book.specs.Export.{IsExportable}
-use Rattle.pgn_book.specs.Reading.{State, step, first_state, read_from, adding, nothing_read, gone, with_given, is_at_rest}
+use Rattle.pgn_book.specs.Reading.{State, step, first_state, read_from, with_game_first, nothing_read, gone, with_given, is_at_rest}
 
 -- the state, unless no text goes on so; its line; and what was fed and not yet read
 pub record Reader : Type 0 where
@@ -20,14 +20,14 @@ pub record Scan : Type 0 where
   pub line : ℕ
 
 -- the two, before these bytes
-abbrev pub facing : Scan → List ℕ → Reader
-facing scan rest = record { on = scan.on; line = scan.line; rest = rest }
+abbrev pub reader_facing : Scan → List ℕ → Reader
+reader_facing scan rest = record { on = scan.on; line = scan.line; rest = rest }
 
 abbrev pub fresh_scan : Scan
 fresh_scan = record { on = Some first_state; line = 1 }
 
 abbrev pub fresh_reader : Reader
-fresh_reader = facing fresh_scan []
+fresh_reader = reader_facing fresh_scan []
 
 -- the line behind a byte; the count stays at the greatest number of 64 bits
 abbrev pub line_behind : ℕ → ℕ → ℕ
@@ -51,9 +51,10 @@ rests None = false
 rests (Some s) = is_at_rest s.depth (Some s.book)
 
 -- whatever is fed, the new reader gives what the old one gives behind that game, if there is one
-pub record GoesOn (old : Reader) (given : Option PgnGame) (new : Reader) : Type 0 where
+pub record ReaderGoesOn (old : Reader) (given : Option PgnGame) (new : Reader) : Type 0 where
   pub games : (more : List ℕ) → gone old.on (old.rest ++ more) ≡ with_given given (gone new.on (new.rest ++ more))
-  pub read : (more : List ℕ) → read_from old.on (old.rest ++ more) ≡ adding given (read_from new.on (new.rest ++ more))
+  pub read : (more : List ℕ)
+      → read_from old.on (old.rest ++ more) ≡ with_game_first given (read_from new.on (new.rest ++ more))
   pub line : (more : List ℕ) → line_from old.line old.on (old.rest ++ more)
       ≡ line_from new.line new.on (new.rest ++ more)
 
@@ -98,19 +99,19 @@ MayBeExported (Bad line) = Unit {0}
 
 -- all that was fed was read, and no game was in it
 pub record IsRead (old new : Reader) : Type 0 where
-  pub goes_on : GoesOn old None new
+  pub goes_on : ReaderGoesOn old None new
   pub all : new.rest ≡ []
 
 -- the first whole game, or that there is none in what was fed; or the line on which no text goes on
 abbrev pub IsNext : Reader → PgnStep → Reader → Type 0
-IsNext old (Game g) new = GoesOn old (Some g) new
+IsNext old (Game g) new = ReaderGoesOn old (Some g) new
 IsNext old More new = IsRead old new × (new.on ≢ None)
 IsNext old (Bad line) new =
     IsRead old new × (new.on ≡ None) × (line ≡ line_from old.line old.on old.rest) × (line ≡ new.line)
 
 -- at the end of the text, the first game, behind which the new reader goes on
 pub record GivesLast (old : Reader) (g : PgnGame) (new : Reader) : Type 0 where
-  pub read : read_from old.on old.rest ≡ adding (Some g) (read_from new.on new.rest)
+  pub read : read_from old.on old.rest ≡ with_game_first (Some g) (read_from new.on new.rest)
   pub line : line_from old.line old.on old.rest ≡ line_from new.line new.on new.rest
 
 -- at the end of the text: the first game, or that nothing of one is left, or that something is

@@ -19,7 +19,7 @@ use Rattle.pgn_book.specs.declared.place.PlaceInText.{PlaceInText}
 use Rattle.pgn_book.specs.declared.place.PlaceInText.TheVariants.{Start, AfterOne, AfterTwo, Between, InLine, InBraces, InWord, InQuotes, InStroke}
 use Rattle.pgn_book.specs.Bytes.{is_among, is_space, is_digit, is_name_byte, is_word_byte}
 use Rattle.pgn_book.specs.Lexing.{Piece, Word, Glyph, Quoted, Sign, Opening, Closing, Within, is_sign, is_of_line, is_of_braces, is_of_text}
-use Rattle.pgn_book.specs.Games.{is_result, position_of, without_praise}
+use Rattle.pgn_book.specs.Games.{is_result, position_of_moves, without_praise}
 
 -- ---- what has come of a game
 
@@ -40,8 +40,8 @@ abbrev pub noted_as : List ℕ → List ℕ → List ℕ → Option (List ℕ) �
 noted_as key name text None = if bytes_eq name key then Some text else None
 noted_as key name text (Some first) = Some first
 
-abbrev pub noted : List ℕ → List ℕ → TagTexts → TagTexts
-noted name text row = record {
+abbrev pub tag_noted : List ℕ → List ℕ → TagTexts → TagTexts
+tag_noted name text row = record {
   event = noted_as (codes "Event") name text row.event;
   site = noted_as (codes "Site") name text row.site;
   date = noted_as (codes "Date") name text row.date;
@@ -72,8 +72,8 @@ tags_of row = record {
 abbrev pub game_with : Book → PgnResult → PgnGame
 game_with book result = record { tags = tags_of book.row; moves = book.moves; result = result }
 
-abbrev pub game_of : Book → List ℕ → PgnGame
-game_of book word = game_with book (result_of word)
+abbrev pub game_of_book : Book → List ℕ → PgnGame
+game_of_book book word = game_with book (result_of word)
 
 -- what a piece makes of it: maybe a game, and the book for the pieces behind it, unless the piece may not stand there
 pub record Taken : Type 0 where
@@ -93,30 +93,30 @@ gives g = record { given = Some g; on = Some no_book }
 abbrev pub staged : GameStage → Book → Book
 staged stage book = record { stage = stage; row = book.row; moves = book.moves }
 
-abbrev pub opened : GameStage → Book → Taken
-opened Before book = goes (staged Opened book)
-opened Tags book = goes (staged Opened book)
-opened _ book = fails
+abbrev pub stage_opened : GameStage → Book → Taken
+stage_opened Before book = goes (staged Opened book)
+stage_opened Tags book = goes (staged Opened book)
+stage_opened _ book = fails
 
 abbrev pub closed : GameStage → Book → Taken
 closed Told book = goes (staged Tags book)
 closed _ book = fails
 
 -- a piece that is passed over begins the moves, if they haven't begun
-abbrev pub passed_over : GameStage → Book → Taken
-passed_over Before book = goes (staged Moves book)
-passed_over Tags book = goes (staged Moves book)
-passed_over Moves book = goes book
-passed_over _ book = fails
+abbrev pub piece_passed : GameStage → Book → Taken
+piece_passed Before book = goes (staged Moves book)
+piece_passed Tags book = goes (staged Moves book)
+piece_passed Moves book = goes book
+piece_passed _ book = fails
 
 abbrev pub quoted : GameStage → Book → List ℕ → Taken
 quoted (Named name) book text =
-    goes (record { stage = Told; row = noted name text book.row; moves = book.moves })
+    goes (record { stage = Told; row = tag_noted name text book.row; moves = book.moves })
 quoted _ book text = fails
 
 -- the name of a tag
-abbrev pub named : Book → List ℕ → Taken
-named book word =
+abbrev pub tag_named : Book → List ℕ → Taken
+tag_named book word =
     if list_all is_name_byte word && not (bytes_eq word (codes "FEN")) then goes (staged (Named word) book) else fails
 
 abbrev pub from_word : Position → Option MoveWord → Option Move
@@ -131,36 +131,36 @@ abbrev pub with_move : Book → Option Move → Taken
 with_move book None = fails
 with_move book (Some m) = goes (record { stage = Moves; row = book.row; moves = book.moves ++ m ∷ [] })
 
-abbrev pub moved : Book → List ℕ → Taken
-moved book word =
+abbrev pub move_taken : Book → List ℕ → Taken
+move_taken book word =
     if nat_lt (length book.moves) most_halves
-    then with_move book (move_read (position_of book.moves) (without_praise word))
+    then with_move book (move_read (position_of_moves book.moves) (without_praise word))
     else fails
 
 -- a number, a result or a move
-abbrev pub told : Book → List ℕ → Taken
-told book word =
-    if list_all is_digit word then passed_over book.stage book
-    else if is_result word then gives (game_of book word)
-    else moved book word
+abbrev pub piece_told : Book → List ℕ → Taken
+piece_told book word =
+    if list_all is_digit word then piece_passed book.stage book
+    else if is_result word then gives (game_of_book book word)
+    else move_taken book word
 
 abbrev pub worded : GameStage → Book → List ℕ → Taken
-worded Before book word = told book word
-worded Tags book word = told book word
-worded Opened book word = named book word
+worded Before book word = piece_told book word
+worded Tags book word = piece_told book word
+worded Opened book word = tag_named book word
 worded (Named name) book word = fails
 worded Told book word = fails
-worded Moves book word = told book word
+worded Moves book word = piece_told book word
 
 abbrev pub signed : Book → ℕ → Taken
 signed book b =
-    if b == 91 then opened book.stage book else if b == 93 then closed book.stage book
-    else passed_over book.stage book
+    if b == 91 then stage_opened book.stage book else if b == 93 then closed book.stage book
+    else piece_passed book.stage book
 
 abbrev pub glyphed : Book → List ℕ → Taken
 glyphed book word =
     if is_empty word then fails
-    else if list_all is_digit word then passed_over book.stage book
+    else if list_all is_digit word then piece_passed book.stage book
     else fails
 
 -- what a piece that isn't skipped makes of a book
@@ -169,9 +169,9 @@ took book (Word word) = worded book.stage book word
 took book (Glyph word) = glyphed book word
 took book (Quoted text) = quoted book.stage book text
 took book (Sign b) = signed book b
-took book Opening = passed_over book.stage book
-took book Closing = passed_over book.stage book
-took book (Within b) = passed_over book.stage book
+took book Opening = piece_passed book.stage book
+took book Closing = piece_passed book.stage book
+took book (Within b) = piece_passed book.stage book
 took book piece = goes book
 
 -- ---- games from pieces
@@ -181,9 +181,9 @@ pub record Outcome : Type 0 where
   pub games : List PgnGame
   pub whole : Bool
 
-abbrev pub adding : Option PgnGame → Outcome → Outcome
-adding None outcome = outcome
-adding (Some g) outcome = record { games = g ∷ outcome.games; whole = outcome.whole }
+abbrev pub with_game_first : Option PgnGame → Outcome → Outcome
+with_game_first None outcome = outcome
+with_game_first (Some g) outcome = record { games = g ∷ outcome.games; whole = outcome.whole }
 
 abbrev pub nothing_read : Outcome
 nothing_read = record { games = []; whole = false }
@@ -195,7 +195,7 @@ is_before _ = false
 abbrev pub all_told : Option Book → List Piece → Outcome
 all_told None pieces = nothing_read
 all_told (Some book) [] = record { games = []; whole = is_before book.stage }
-all_told (Some book) (piece ∷ pieces) = adding (took book piece).given (all_told (took book piece).on pieces)
+all_told (Some book) (piece ∷ pieces) = with_game_first (took book piece).given (all_told (took book piece).on pieces)
 
 -- ---- pieces from bytes
 
@@ -251,14 +251,14 @@ spaced fresh depth book b =
     if is_space b then Some (state_at (Between (b == 10)) depth book) else skipping fresh depth book b
 
 -- the first byte of a piece
-abbrev pub begun : Bool → ℕ → Book → ℕ → Option State
-begun fresh depth book b =
+abbrev pub piece_begun : Bool → ℕ → Book → ℕ → Option State
+piece_begun fresh depth book b =
     if is_word_byte b && nat_eq depth 0 then Some (state_at (InWord false (b ∷ [])) depth book)
     else spaced fresh depth book b
 
 abbrev pub begun_behind : ℕ → Option Book → ℕ → Option State
 begun_behind depth None b = None
-begun_behind depth (Some book) b = begun false depth book b
+begun_behind depth (Some book) b = piece_begun false depth book b
 
 abbrev pub piece_of : Bool → List ℕ → Piece
 piece_of true word = Glyph word
@@ -275,8 +275,8 @@ abbrev pub word_ended : Taken → ℕ → ℕ → Step
 word_ended taken depth b = record { given = taken.given; on = begun_behind depth taken.on b }
 
 -- the first byte of the text
-abbrev pub started : ℕ → Book → ℕ → Option State
-started depth book b = if b == 239 then Some (state_at AfterOne depth book) else begun true depth book b
+abbrev pub text_started : ℕ → Book → ℕ → Option State
+text_started depth book b = if b == 239 then Some (state_at AfterOne depth book) else piece_begun true depth book b
 
 -- a byte in a line that is skipped, and in braces
 abbrev pub in_line : ℕ → Book → ℕ → Option State
@@ -300,10 +300,10 @@ in_stroke text depth book b =
     if is_among (34 ∷ 92 ∷ []) b then longer (InQuotes (text ++ b ∷ [])) text depth book else None
 
 abbrev pub step_in : PlaceInText → ℕ → Book → ℕ → Step
-step_in Start depth book b = silent (started depth book b)
+step_in Start depth book b = silent (text_started depth book b)
 step_in AfterOne depth book b = silent (if b == 187 then Some (state_at AfterTwo depth book) else None)
 step_in AfterTwo depth book b = silent (if b == 191 then Some (state_at (Between true) depth book) else None)
-step_in (Between fresh) depth book b = silent (begun fresh depth book b)
+step_in (Between fresh) depth book b = silent (piece_begun fresh depth book b)
 step_in InLine depth book b = silent (in_line depth book b)
 step_in InBraces depth book b = silent (in_braces depth book b)
 step_in (InWord glyph word) depth book b =
@@ -329,7 +329,7 @@ finished_in Start depth book = resting depth (Some book)
 finished_in (Between fresh) depth book = resting depth (Some book)
 finished_in InLine depth book = resting depth (Some book)
 finished_in (InWord glyph word) depth book =
-    adding (took book (piece_of glyph word)).given (resting depth (took book (piece_of glyph word)).on)
+    with_game_first (took book (piece_of glyph word)).given (resting depth (took book (piece_of glyph word)).on)
 finished_in _ depth book = nothing_read
 
 -- what the end of the text makes of a state: maybe a game, and the state behind it, unless the text may not end there
@@ -347,7 +347,7 @@ ended_in _ depth book = silent None
 abbrev pub read_from : Option State → List ℕ → Outcome
 read_from None text = nothing_read
 read_from (Some s) [] = finished_in s.place s.depth s.book
-read_from (Some s) (b ∷ text) = adding (step s b).given (read_from (step s b).on text)
+read_from (Some s) (b ∷ text) = with_game_first (step s b).given (read_from (step s b).on text)
 
 abbrev pub first_state : State
 first_state = state_at Start 0 no_book

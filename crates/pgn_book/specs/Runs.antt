@@ -5,7 +5,7 @@ use Rattle.pgn_book.specs.declared.game.PgnGame.{PgnGame}
 use Rattle.pgn_book.specs.declared.reader.PgnStep.{PgnStep}
 use Rattle.pgn_book.specs.declared.reader.PgnStep.TheVariants.{Game, More, Bad}
 use Rattle.pgn_book.specs.Bytes.{is_space}
-use Rattle.pgn_book.specs.Games.{Reads}
+use Rattle.pgn_book.specs.Games.{ReadsGames}
 use Rattle.pgn_book.specs.Reading.{Outcome, Gone, first_state, read_from, gone, adding_all}
 use Rattle.pgn_book.specs.Reader.{Reader, fresh_reader, line_from, IsNext, IsLast}
 use Rattle.pgn_book.specs.BadLines.{IsLeftOn}
@@ -25,15 +25,15 @@ pub record AreWhole (text : List ℕ) (games : List PgnGame) : Type 0 where
   pub front : List ℕ
   pub rest : List ℕ
   pub split : text ≡ front ++ rest
-  pub read : Reads front games
+  pub read : ReadsGames front games
   pub all : (other : List ℕ) (b : ℕ) (behind : List ℕ) (fewer : List PgnGame) → text ≡ other ++ b ∷ behind
-      → is_space b ≡ true → Reads other fewer → (more : List PgnGame) × (games ≡ fewer ++ more)
+      → is_space b ≡ true → ReadsGames other fewer → (more : List PgnGame) × (games ≡ fewer ++ more)
 
 -- whatever becomes of a text, the games that are whole in it are told; where it is read, they are those that it has
 pub record WholeGamesAreTold : Type 0 where
   pub ended : (text : List ℕ) → AreWhole text (outcome_of text).games
   pub begun : (text : List ℕ) → AreWhole text (begun_with text).games
-  pub read : (text : List ℕ) (games : List PgnGame) → Reads text games → (outcome_of text).games ≡ games
+  pub read : (text : List ℕ) (games : List PgnGame) → ReadsGames text games → (outcome_of text).games ≡ games
 
 -- ---- a reader between two calls
 
@@ -64,15 +64,15 @@ pub data Call : Type 0 where
   Halted : Call
 
 -- what a call makes of a reader
-abbrev pub Makes : Reader → Call → Reader → Type 0
-Makes old (Feed piece) new = new ≡ record old { rest = old.rest ++ piece }
-Makes old (Next step) new = IsNext old step new
-Makes old Halted new = new ≡ old
+abbrev pub CallMakes : Reader → Call → Reader → Type 0
+CallMakes old (Feed piece) new = new ≡ record old { rest = old.rest ++ piece }
+CallMakes old (Next step) new = IsNext old step new
+CallMakes old Halted new = new ≡ old
 
 -- what calls make of a reader, one after another
 abbrev pub MakeAll : Reader → List Call → Reader → Type 0
 MakeAll old [] new = new ≡ old
-MakeAll old (call ∷ calls) new = (between : Reader) × Makes old call between × MakeAll between calls new
+MakeAll old (call ∷ calls) new = (between : Reader) × CallMakes old call between × MakeAll between calls new
 
 -- at the end of the text, `finish` gives these games, a game a call, and then that step
 abbrev pub Ends : Reader → List PgnGame → PgnStep → Type 0
@@ -80,22 +80,22 @@ Ends old [] step = (new : Reader) × IsLast old step new
 Ends old (g ∷ games) step = (between : Reader) × IsLast old (Game g) between × Ends between games step
 
 -- the text of the pieces that were fed
-abbrev pub text_of : List Call → List ℕ
-text_of [] = []
-text_of (Feed piece ∷ calls) = piece ++ text_of calls
-text_of (Next step ∷ calls) = text_of calls
-text_of (Halted ∷ calls) = text_of calls
+abbrev pub text_of_calls : List Call → List ℕ
+text_of_calls [] = []
+text_of_calls (Feed piece ∷ calls) = piece ++ text_of_calls calls
+text_of_calls (Next step ∷ calls) = text_of_calls calls
+text_of_calls (Halted ∷ calls) = text_of_calls calls
 
-abbrev pub game_in : PgnStep → List PgnGame
-game_in (Game g) = g ∷ []
-game_in More = []
-game_in (Bad line) = []
+abbrev pub game_of_step : PgnStep → List PgnGame
+game_of_step (Game g) = g ∷ []
+game_of_step More = []
+game_of_step (Bad line) = []
 
 -- the games that were given
 abbrev pub games_of : List Call → List PgnGame
 games_of [] = []
 games_of (Feed piece ∷ calls) = games_of calls
-games_of (Next step ∷ calls) = game_in step ++ games_of calls
+games_of (Next step ∷ calls) = game_of_step step ++ games_of calls
 games_of (Halted ∷ calls) = games_of calls
 
 -- ---- whole runs
@@ -106,12 +106,12 @@ games_of (Halted ∷ calls) = games_of calls
 -- further game is whole in what was fed and a text may go on so, and Bad where none does, whatever follows
 pub record RunsReadTheText : Type 0 where
   pub whole : (calls : List Call) (fed : Reader) (games : List PgnGame) → MakeAll fresh_reader calls fed
-      → Ends fed games More → Reads (text_of calls) (games_of calls ++ games)
+      → Ends fed games More → ReadsGames (text_of_calls calls) (games_of calls ++ games)
   pub bad : (calls : List Call) (fed : Reader) (games : List PgnGame) (line : ℕ) → MakeAll fresh_reader calls fed
       → Ends fed games (Bad line)
-      → IsLeftOn (text_of calls) line × ((outcome_of (text_of calls)).games ≡ games_of calls ++ games)
+      → IsLeftOn (text_of_calls calls) line × ((outcome_of (text_of_calls calls)).games ≡ games_of calls ++ games)
   pub no_more : (calls : List Call) (fed new : Reader) → MakeAll fresh_reader calls fed → IsNext fed More new
-      → ((begun_with (text_of calls)).games ≡ games_of calls) × ((begun_with (text_of calls)).on ≢ None)
+      → ((begun_with (text_of_calls calls)).games ≡ games_of calls) × ((begun_with (text_of_calls calls)).on ≢ None)
   pub lost : (calls : List Call) (fed new : Reader) (line : ℕ) → MakeAll fresh_reader calls fed
-      → IsNext fed (Bad line) new → (more : List ℕ) → IsLeftOn (text_of calls ++ more) line
-      × ((outcome_of (text_of calls ++ more)).games ≡ games_of calls)
+      → IsNext fed (Bad line) new → (more : List ℕ) → IsLeftOn (text_of_calls calls ++ more) line
+      × ((outcome_of (text_of_calls calls ++ more)).games ≡ games_of calls)

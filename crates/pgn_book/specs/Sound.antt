@@ -34,11 +34,11 @@ IsSoundPlace (InQuotes text) depth stage = (depth ≡ 0) × IsText text
 IsSoundPlace (InStroke text) depth stage = (depth ≡ 0) × IsText text
 IsSoundPlace _ depth stage = (depth ≡ 0) ⊎ (stage ≡ Moves)
 
-pub record IsSound (s : State) : Type 0 where
+pub record IsSoundState (s : State) : Type 0 where
   pub place : IsSoundPlace s.place s.depth s.book.stage
   pub book : IsSoundBook s.book
 
 -- the same where a text goes on
 abbrev pub IsSoundIf : Option State → Type 0
 IsSoundIf None = Unit {0}
-IsSoundIf (Some s) = IsSound s
+IsSoundIf (Some s) = IsSoundState s

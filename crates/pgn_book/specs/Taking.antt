@@ -18,8 +18,8 @@ abbrev pub IsTakenSilently : Bool → Book → Taken → Type 0
 IsTakenSilently goes_on book taken = taken ≡ record { given = None; on = on_if goes_on book }
 
 -- what a byte made of the state that stands now
-abbrev pub IsStep : Read → State → Step → Type 0
-IsStep read s step = step ≡ record { given = read.game; on = on_if read.goes_on s }
+abbrev pub IsStepOfByte : Read → State → Step → Type 0
+IsStepOfByte read s step = step ≡ record { given = read.game; on = on_if read.goes_on s }
 
 -- the same state between two pieces
 abbrev pub between : State → State

@@ -2,8 +2,8 @@
 ghost use Rattle.std.specs.Prelude.{◌≡◌, true, [], ◌∷◌, ◌++◌, if◌then◌else◌, IfOk, IfSome, OnErr, OnOk, Option, Some, None};
 ghost use Rattle.chess_model.specs.Allowed.{Allowed};
 ghost use Rattle.pgn_book.specs.declared.stage.GameStage.TheVariants.{Moves};
-ghost use Rattle.pgn_book.specs.Games.{is_result, position_of, without_praise};
-ghost use Rattle.pgn_book.specs.Reading.{Book, game_with, glyphed, is_before, move_read, moved, named, no_book, opened, closed, passed_over, quoted, result_of, signed, told, worded};
+ghost use Rattle.pgn_book.specs.Games.{is_result, position_of_moves, without_praise};
+ghost use Rattle.pgn_book.specs.Reading.{Book, game_with, glyphed, is_before, move_read, move_taken, tag_named, no_book, stage_opened, closed, piece_passed, quoted, result_of, signed, piece_told, worded};
 ghost use Rattle.pgn_book.specs.Taking.{IsTaken, IsTakenSilently};
 
 use crate::bytes::{are_digits, is_name, without_praise};
@@ -88,7 +88,7 @@ impl Book {
 
     /// Takes a piece that is passed over.
     pub(crate) fn pass_over(&mut self) -> bool
-        ensures { IsTakenSilently result self.new (passed_over self.old.stage self.old) }
+        ensures { IsTakenSilently result self.new (piece_passed self.old.stage self.old) }
     {
         match self.stage {
             GameStage::Before => {
@@ -158,7 +158,7 @@ impl Book {
     }
 
     fn open(&mut self) -> bool
-        ensures { IsTakenSilently result self.new (opened self.old.stage self.old) }
+        ensures { IsTakenSilently result self.new (stage_opened self.old.stage self.old) }
     {
         match self.stage {
             GameStage::Before => {
@@ -187,7 +187,7 @@ impl Book {
 
     /// Takes the name of a tag.
     fn name(&mut self, word: &Text) -> bool
-        ensures { IsTakenSilently result self.new (named self.old word.now) }
+        ensures { IsTakenSilently result self.new (tag_named self.old word.now) }
     {
         if !is_name(word.bytes()) {
             return false;
@@ -201,7 +201,7 @@ impl Book {
 
     /// Takes a number, a result or a move.
     fn tell(&mut self, alloc: Global, word: &[u8]) -> Result<Read, NoMemory>
-        ensures taken { IfOk result (λ read. IsTaken read self.new (told self.old word.now)) }
+        ensures taken { IfOk result (λ read. IsTaken read self.new (piece_told self.old word.now)) }
         ensures unchanged { OnErr result (self.new ≡ self.old) }
     {
         if are_digits(word) {
@@ -236,7 +236,7 @@ impl Book {
 
     /// Takes a move.
     fn play(&mut self, word: &[u8]) -> Result<bool, NoMemory>
-        ensures taken { IfOk result (λ on. IsTakenSilently on self.new (moved self.old word.now)) }
+        ensures taken { IfOk result (λ on. IsTakenSilently on self.new (move_taken self.old word.now)) }
         ensures unchanged { OnErr result (self.new ≡ self.old) }
     {
         if self.moves.len() >= MOST_HALVES {
@@ -253,8 +253,8 @@ impl Book {
 
     /// The allowed move that a text is read as.
     fn resolve(&self, text: &[u8]) -> Option<Move>
-        ensures value { result ≡ move_read (position_of self.now.moves) text.now }
-        ensures allowed { IfSome result (λ m. Allowed (position_of self.now.moves) m) }
+        ensures value { result ≡ move_read (position_of_moves self.now.moves) text.now }
+        ensures allowed { IfSome result (λ m. Allowed (position_of_moves self.now.moves) m) }
     {
         match read_word(text) {
             Some(word) => match self.position.resolve(&word) {
@@ -267,7 +267,7 @@ impl Book {
 
     /// Makes an allowed move.
     fn make(&mut self, m: &Move) -> Result<(), NoMemory>
-        requires { Allowed (position_of self.old.moves) m.now }
+        requires { Allowed (position_of_moves self.old.moves) m.now }
         ensures made { OnOk result (self.new ≡ record {
           stage = Moves;
           row = self.old.row;

@@ -30,7 +30,7 @@ pub struct PgnReader {
 
 impl Model for PgnReader {
     ghost use Rattle.std.specs.Prelude.{◌≤◌, drop, vec_len};
-    ghost use Rattle.pgn_book.specs.Reader.{Reader, facing};
+    ghost use Rattle.pgn_book.specs.Reader.{Reader, reader_facing};
 
     ghost Value = { Reader };
 
@@ -47,7 +47,7 @@ impl PgnReader {
       MayBeExported,
       Reader,
       StaysAtEnd,
-      facing,
+      reader_facing,
       fresh_reader,
     };
 
@@ -113,7 +113,7 @@ impl PgnReader {
 
     /// A copy of where reading stands, which reads on in its place: where memory runs short, nothing was passed over.
     fn scan(&self) -> Result<Scan, NoMemory>
-        ensures { IfOk result (λ scan. facing scan self.now.rest ≡ self.now) }
+        ensures { IfOk result (λ scan. reader_facing scan self.now.rest ≡ self.now) }
     {
         self.scan.duplicate(self.alloc)
     }
@@ -128,7 +128,7 @@ impl PgnReader {
     /// Goes on from there, behind so many bytes more.
     fn advance(&mut self, scan: Scan, read: usize)
         requires { read ≤ length self.old.rest }
-        ensures { self.new ≡ facing scan (drop read self.old.rest) }
+        ensures { self.new ≡ reader_facing scan (drop read self.old.rest) }
     {
         self.scan = scan;
         self.looked_at += read;

@@ -1,7 +1,7 @@
 //! Reading on in PGN text, from where it stands.
 ghost use Rattle.std.specs.Prelude.{◌≡◌, ◌≤◌, ℕ, List, [], ◌∷◌, drop, length, None, IfOk, IfSome};
 ghost use Rattle.pgn_book.specs.Export.{IsExportable};
-ghost use Rattle.pgn_book.specs.Reader.{GoesOn, IsLast, LeavesFewer, MayBeExported, StaysAtEnd, facing, fresh_scan, line_if, rests, step_of, told_at_end};
+ghost use Rattle.pgn_book.specs.Reader.{ReaderGoesOn, IsLast, LeavesFewer, MayBeExported, StaysAtEnd, reader_facing, fresh_scan, line_if, rests, step_of, told_at_end};
 
 use crate::book::Read;
 use crate::game::PgnGame;
@@ -65,9 +65,10 @@ impl Scan {
     /// Reads these bytes as far as the end of the first game in them, or else all.
     pub(crate) fn read(&mut self, alloc: Global, bytes: &[u8]) -> Result<Found, NoMemory>
         ensures goes_on { IfOk result (λ found.
-            GoesOn (facing self.old bytes.now) found.game (facing self.new (drop found.read bytes.now))) }
-        ensures fewer { IfOk result (λ found. LeavesFewer (facing self.old bytes.now) (step_of found.game)
-            (facing self.new (drop found.read bytes.now))) }
+            ReaderGoesOn (reader_facing self.old bytes.now) found.game
+                (reader_facing self.new (drop found.read bytes.now))) }
+        ensures fewer { IfOk result (λ found. LeavesFewer (reader_facing self.old bytes.now) (step_of found.game)
+            (reader_facing self.new (drop found.read bytes.now))) }
         ensures within { IfOk result (λ found. found.read ≤ length bytes.now) }
         ensures all { IfOk result (λ found. found.game ≡ None → drop found.read bytes.now ≡ []) }
         ensures exportable { IfOk result (λ found. IfSome found.game IsExportable) }
@@ -98,10 +99,10 @@ impl Scan {
 
     /// Takes the end of the text.
     pub(crate) fn end(&mut self, alloc: Global) -> Result<PgnStep, NoMemory>
-        ensures last { IfOk result (λ step. IsLast (facing self.old []) step (facing self.new [])) }
-        ensures ended { IfOk result (λ step. StaysAtEnd step (facing self.new [])) }
+        ensures last { IfOk result (λ step. IsLast (reader_facing self.old []) step (reader_facing self.new [])) }
+        ensures ended { IfOk result (λ step. StaysAtEnd step (reader_facing self.new [])) }
         ensures exportable { IfOk result MayBeExported }
-        ensures fewer { IfOk result (λ step. LeavesFewer (facing self.old []) step (facing self.new [])) }
+        ensures fewer { IfOk result (λ step. LeavesFewer (reader_facing self.old []) step (reader_facing self.new [])) }
     {
         if !self.goes_on {
             return Ok(PgnStep::Bad(self.line));
@@ -128,7 +129,7 @@ impl Scan {
     /// Takes the next byte, which may end a game.
     fn take(&mut self, alloc: Global, byte: u8) -> Result<Option<PgnGame>, NoMemory>
         ensures goes_on { (rest : List ℕ) → IfOk result (λ given.
-            GoesOn (facing self.old (byte ∷ rest)) given (facing self.new rest)) }
+            ReaderGoesOn (reader_facing self.old (byte ∷ rest)) given (reader_facing self.new rest)) }
         ensures exportable { IfOk result (λ given. IfSome given IsExportable) }
     {
         if !self.goes_on {

@@ -1,7 +1,7 @@
 //! The texts of a game's tags while they are read. Each has a place of fixed size, so that noting one asks for no
 //! memory.
 ghost use Rattle.std.specs.Prelude.{◌≡◌, ◌++◌, IfOk, OnOk, Option, unwrap_or};
-ghost use Rattle.pgn_book.specs.Reading.{empty_row, noted, noted_as, tags_of};
+ghost use Rattle.pgn_book.specs.Reading.{empty_row, tag_noted, noted_as, tags_of};
 
 use crate::game::TagRow;
 use crate::text::Text;
@@ -51,7 +51,7 @@ impl TagTexts {
 
     /// Notes the text of a tag, where its name is one of the six and none of that name was told.
     pub(crate) fn note(&mut self, name: &[u8], text: &Text)
-        ensures { self.new ≡ noted name.now text.now self.old }
+        ensures { self.new ≡ tag_noted name.now text.now self.old }
     {
         note_as(&mut self.event, b"Event", name, text);
         note_as(&mut self.site, b"Site", name, text);

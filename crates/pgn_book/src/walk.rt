@@ -1,8 +1,8 @@
 //! Reading PGN text a byte at a time.
 ghost use Rattle.std.specs.Prelude.{◌≡◌, ◌==◌, ◌∷◌, ◌++◌, [], if◌then◌else◌, IfOk, OnErr, OnOk, Some, None};
-ghost use Rattle.pgn_book.specs.Reading.{State, adding, begun, closes, ended_in, first_state, in_braces, in_line, in_quotes, in_stroke, is_at_rest, longer, nested, opens, outside, piece_of, read_from, skipping, started, state_at, step, step_in, took};
+ghost use Rattle.pgn_book.specs.Reading.{State, with_game_first, piece_begun, closes, ended_in, first_state, in_braces, in_line, in_quotes, in_stroke, is_at_rest, longer, nested, opens, outside, piece_of, read_from, skipping, text_started, state_at, step, step_in, took};
 ghost use Rattle.pgn_book.specs.declared.place.PlaceInText.TheVariants.{InWord, InQuotes};
-ghost use Rattle.pgn_book.specs.Taking.{IsStep, IsTaken, between, on_if};
+ghost use Rattle.pgn_book.specs.Taking.{IsStepOfByte, IsTaken, between, on_if};
 
 use crate::book::{Book, Read, silent};
 use crate::bytes::{is_among, is_sign, is_space, is_word_byte};
@@ -58,7 +58,7 @@ impl Walk {
 
     /// Takes a byte.
     pub(crate) fn step(&mut self, alloc: Global, byte: u8) -> Result<Read, NoMemory>
-        ensures taken { IfOk result (λ read. IsStep read self.new (step self.old byte)) }
+        ensures taken { IfOk result (λ read. IsStepOfByte read self.new (step self.old byte)) }
         ensures unchanged { OnErr result (self.new ≡ self.old) }
     {
         match mem::replace(&mut self.place, PlaceInText::InLine) {
@@ -81,8 +81,8 @@ impl Walk {
     /// Takes the end of the text. Where it goes on, the walk stands between pieces.
     pub(crate) fn finish(&mut self, alloc: Global) -> Result<Read, NoMemory>
         ensures read { IfOk result (λ read. read_from (Some self.old) []
-            ≡ adding read.game (read_from (on_if read.goes_on (between self.new)) [])) }
-        ensures ended { IfOk result (λ read. IsStep read (between self.new)
+            ≡ with_game_first read.game (read_from (on_if read.goes_on (between self.new)) [])) }
+        ensures ended { IfOk result (λ read. IsStepOfByte read (between self.new)
             (ended_in self.old.place self.old.depth self.old.book)) }
         ensures unchanged { OnErr result (self.new ≡ self.old) }
     {
@@ -111,7 +111,7 @@ impl Walk {
 
     /// Takes the first byte of the text.
     fn start(&mut self, byte: u8) -> bool
-        ensures { on_if result self.new ≡ started self.old.depth self.old.book byte }
+        ensures { on_if result self.new ≡ text_started self.old.depth self.old.book byte }
     {
         if byte == 0xEF {
             self.place = PlaceInText::AfterOne;
@@ -134,7 +134,7 @@ impl Walk {
 
     /// Takes the first byte of a piece.
     fn begin(&mut self, fresh: bool, byte: u8) -> bool
-        ensures { on_if result self.new ≡ begun fresh self.old.depth self.old.book byte }
+        ensures { on_if result self.new ≡ piece_begun fresh self.old.depth self.old.book byte }
     {
         if is_word_byte(byte) && self.depth == 0 {
             let mut word = Text::new();
@@ -256,7 +256,7 @@ impl Walk {
 
     /// Takes a byte in a word, or behind it.
     fn go_on(&mut self, alloc: Global, glyph: bool, word: Text, byte: u8) -> Result<Read, NoMemory>
-        ensures taken { IfOk result (λ read. IsStep read self.new
+        ensures taken { IfOk result (λ read. IsStepOfByte read self.new
             (step_in (InWord glyph word) self.old.depth self.old.book byte)) }
         ensures unchanged { OnErr result (self.new ≡ state_at (InWord glyph word) self.old.depth self.old.book) }
     {

@@ -5,39 +5,40 @@ use Rattle.std.proofs.lemmas.Bool.{eq-eqb, or_left, and_from}
 use Rattle.std.proofs.lemmas.List.{append-nil}
 use Rattle.std.proofs.lemmas.List.Elements.{recursion_from_All}
 use Rattle.std.proofs.lemmas.List.Folds.{list_any-append}
-use Rattle.replay_core.specs.Order.{Arrival, MayCome, FollowInOrder, IsInOrder, KeepOrder, is_connect, is_connected, leaves}
+use Rattle.replay_core.specs.Order.{Arrival, LineMayCome, FollowInOrder, IsInOrder, KeepOrder, is_connect, is_connected, leaves}
 use Rattle.fics_words.proofs.Each.{each-back}
 
 -- ---- by steps
 
 one_step : (seats : ℕ) (lines later : List Arrival) (next : Arrival)
     → FollowInOrder seats lines (later ++ next ∷ [])
-    ↔ (FollowInOrder seats lines later × MayCome seats (lines ++ later) next.line)
+    ↔ (FollowInOrder seats lines later × LineMayCome seats (lines ++ later) next.line)
 one_step seats lines [] next =
     let none : lines ++ [] ≡ lines = append-nil lines in (
-      λ h. (tt, subst (λ (l : List Arrival). MayCome seats l next.line) (sym none) h.0),
-      λ h. (subst (λ (l : List Arrival). MayCome seats l next.line) none h.1, tt),
+      λ h. (tt, subst (λ (l : List Arrival). LineMayCome seats l next.line) (sym none) h.0),
+      λ h. (subst (λ (l : List Arrival). LineMayCome seats l next.line) none h.1, tt),
     )
 one_step seats lines (first ∷ later) next =
     let step = one_step seats (lines ++ first ∷ []) later next in
     let same : lines ++ first ∷ [] ++ later ≡ lines ++ (first ∷ later) = append_assoc lines (first ∷ []) later in (
       λ h.
-          let rest = step.0 h.1 in ((h.0, rest.0), subst (λ (l : List Arrival). MayCome seats l next.line) same rest.1),
-      λ h. (h.0.0, step.1 (h.0.1, subst (λ (l : List Arrival). MayCome seats l next.line) (sym same) h.1)),
+          let rest = step.0 h.1 in
+          ((h.0, rest.0), subst (λ (l : List Arrival). LineMayCome seats l next.line) same rest.1),
+      λ h. (h.0.0, step.1 (h.0.1, subst (λ (l : List Arrival). LineMayCome seats l next.line) (sym same) h.1)),
     )
 
 pub order_by_steps : (seats : ℕ) (lines : List Arrival) (next : Arrival)
-    → IsInOrder seats (lines ++ next ∷ []) ↔ (IsInOrder seats lines × MayCome seats lines next.line)
+    → IsInOrder seats (lines ++ next ∷ []) ↔ (IsInOrder seats lines × LineMayCome seats lines next.line)
 order_by_steps seats lines next = one_step seats [] lines next
 
 -- a line in the midst may come after those before it
 follows_at : (seats : ℕ) (lines before : List Arrival) (next : Arrival) (after : List Arrival)
-    → FollowInOrder seats lines (before ++ next ∷ after) → MayCome seats (lines ++ before) next.line
+    → FollowInOrder seats lines (before ++ next ∷ after) → LineMayCome seats (lines ++ before) next.line
 follows_at seats lines [] next after h =
-    subst (λ (l : List Arrival). MayCome seats l next.line) (sym (append-nil lines)) h.0
+    subst (λ (l : List Arrival). LineMayCome seats l next.line) (sym (append-nil lines)) h.0
 follows_at seats lines (first ∷ before) next after h =
     let same : lines ++ first ∷ [] ++ before ≡ lines ++ (first ∷ before) = append_assoc lines (first ∷ []) before in
-    subst (λ (l : List Arrival). MayCome seats l next.line) same
+    subst (λ (l : List Arrival). LineMayCome seats l next.line) same
     (follows_at seats (lines ++ first ∷ []) before next after h.1)
 
 -- ---- of two
@@ -61,10 +62,10 @@ pub order_of_two : (seats : ℕ) (before between after : List Arrival) (one othe
     → IsInOrder seats (before ++ one ∷ (between ++ other ∷ after)) → KeepOrder one other
 order_of_two seats before between after one other h =
     let session = other.line.session in
-    let first : MayCome seats before one.line = follows_at seats [] before one (between ++ other ∷ after) h in
+    let first : LineMayCome seats before one.line = follows_at seats [] before one (between ++ other ∷ after) h in
     let regrouped : before ++ one ∷ (between ++ other ∷ after) ≡ before ++ (one ∷ between) ++ other ∷ after =
     sym (append_assoc before (one ∷ between) (other ∷ after)) in
-    let second : MayCome seats (before ++ one ∷ between) other.line =
+    let second : LineMayCome seats (before ++ one ∷ between) other.line =
     follows_at seats [] (before ++ one ∷ between) other after (subst (IsInOrder seats) regrouped h) in
     record {
       moment =

@@ -4,7 +4,7 @@ use Rattle.replay_core.specs.declared.order.Presence.{Presence}
 use Rattle.replay_core.specs.declared.order.Presence.TheVariants.{Away, Here, Gone}
 use Rattle.replay_core.specs.declared.order.Attendance.{Attendance}
 use Rattle.replay_core.specs.declared.script.ScriptLine.{ScriptLine}
-use Rattle.replay_core.specs.Order.{Arrival, MayCome, is_connect, is_connected, has_left}
+use Rattle.replay_core.specs.Order.{Arrival, LineMayCome, is_connect, is_connected, has_left}
 use Rattle.replay_core.specs.Attendance.{IsAfter, presence_of}
 
 away_tells : (gone connected : Bool) → cond gone Gone (cond connected Here Away) ≡ Away
@@ -30,7 +30,7 @@ presence_at progress seats lines session d p after first last e =
 -- a session that is away may connect, and do nothing else
 pub may_connect : (progress : Attendance) (seats : ℕ) (lines : List Arrival) (next : ScriptLine)
     → IsAfter progress seats lines → progress.moment ≤ next.moment → presence_of seats lines next.session ≡ Away
-    → (is_connect next.event ≡ true) ↔ MayCome seats lines next
+    → (is_connect next.event ≡ true) ↔ LineMayCome seats lines next
 may_connect progress seats lines next after moment away =
     let tells = away_tells (has_left lines next.session) (is_connected seats lines next.session) away in (
       λ connects.
@@ -45,7 +45,7 @@ may_connect progress seats lines next after moment away =
 -- a session that is here may do all else
 pub may_go_on : (progress : Attendance) (seats : ℕ) (lines : List Arrival) (next : ScriptLine)
     → IsAfter progress seats lines → progress.moment ≤ next.moment → presence_of seats lines next.session ≡ Here
-    → (is_connect next.event ≡ false) ↔ MayCome seats lines next
+    → (is_connect next.event ≡ false) ↔ LineMayCome seats lines next
 may_go_on progress seats lines next after moment here =
     let tells = here_tells (has_left lines next.session) (is_connected seats lines next.session) here in (
       λ connects.

@@ -40,7 +40,7 @@ abbrev pub has_left : List Arrival → ℕ → Bool
 has_left lines session = list_any (λ came. (came.line.session == session) && leaves came) lines
 
 -- the line may come after these
-pub record MayCome (seats : ℕ) (lines : List Arrival) (next : ScriptLine) : Type 0 where
+pub record LineMayCome (seats : ℕ) (lines : List Arrival) (next : ScriptLine) : Type 0 where
   pub moment : All (λ came. came.line.moment ≤ next.moment) lines
   pub stays : has_left lines next.session ≡ false
   pub connects : is_connect next.event ≡ not (is_connected seats lines next.session)
@@ -49,7 +49,7 @@ pub record MayCome (seats : ℕ) (lines : List Arrival) (next : ScriptLine) : Ty
 abbrev pub FollowInOrder : ℕ → List Arrival → List Arrival → Type 0
 FollowInOrder seats lines [] = Unit {0}
 FollowInOrder seats lines (next ∷ later) =
-    MayCome seats lines next.line × FollowInOrder seats (lines ++ next ∷ []) later
+    LineMayCome seats lines next.line × FollowInOrder seats (lines ++ next ∷ []) later
 
 -- the lines of a whole script stand in order
 abbrev pub IsInOrder : ℕ → List Arrival → Type 0

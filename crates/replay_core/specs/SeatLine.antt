@@ -12,11 +12,11 @@ use Rattle.replay_core.specs.Words.{blank}
 use Rattle.replay_core.specs.declared.seat_line.SeatLine.{SeatLine}
 
 -- how many players a game has: two at each board, and bughouse has two boards
-abbrev pub players_of : Variant → ℕ
-players_of Chess = 2
-players_of Crazyhouse = 2
-players_of Bughouse = 4
-players_of (Fischer number) = 2
+abbrev pub players_wanted : Variant → ℕ
+players_wanted Chess = 2
+players_wanted Crazyhouse = 2
+players_wanted Bughouse = 4
+players_wanted (Fischer number) = 2
 
 -- no two names are one player's: they differ in more than the case of their letters
 abbrev pub AreDifferent : List (List ℕ) → Type 0
@@ -30,14 +30,14 @@ pub record AreSeatTerms (terms : Terms) : Type 0 where
   pub white : terms.colour ≡ Some White
 
 -- players of these names may play so
-pub record MayPlay (names : List (List ℕ)) (terms : Terms) : Type 0 where
-  pub count : length names ≡ players_of terms.variant
+pub record NamesMayPlay (names : List (List ℕ)) (terms : Terms) : Type 0 where
+  pub count : length names ≡ players_wanted terms.variant
   pub different : AreDifferent names
   pub in_range : AreSeatTerms terms
 
 -- the players in the order of their seats, and what they play
 pub record IsSeatLine (seat : SeatLine) : Type 0 where
-  pub count : length seat.names ≡ players_of seat.terms.variant
+  pub count : length seat.names ≡ players_wanted seat.terms.variant
   pub handles : All IsHandle seat.names
   pub different : AreDifferent seat.names
   pub terms : AreSeatTerms seat.terms

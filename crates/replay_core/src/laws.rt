@@ -1,7 +1,7 @@
 //! What holds of the grammar as a whole.
 
 ghost use Rattle.std.specs.Prelude.{◌≡◌, ◌≢◌, ◌↔◌, ◌++◌, ◌∷◌, [], ℕ, List};
-ghost use Rattle.replay_core.specs.Order.{Arrival, IsInOrder, KeepOrder, MayCome};
+ghost use Rattle.replay_core.specs.Order.{Arrival, IsInOrder, KeepOrder, LineMayCome};
 ghost use Rattle.replay_core.specs.Script.{IsScriptLine, script_text};
 ghost use Rattle.replay_core.specs.SeatLine.{IsSeatLine, seat_text};
 ghost use Rattle.replay_core.specs.declared.script.ScriptLine.{ScriptLine};
@@ -30,5 +30,5 @@ pub fn order_of_two()
 #[tactic(auto, using(crate::proofs::Orders::order_by_steps))]
 pub fn order_by_steps()
     ensures { (seats : ℕ) (lines : List Arrival) (next : Arrival) →
-        IsInOrder seats (lines ++ next ∷ []) ↔ (IsInOrder seats lines × MayCome seats lines next.line) }
+        IsInOrder seats (lines ++ next ∷ []) ↔ (IsInOrder seats lines × LineMayCome seats lines next.line) }
 {}

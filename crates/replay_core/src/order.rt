@@ -25,7 +25,7 @@ pub struct Attendance {
 }
 
 impl Attendance {
-    ghost use Rattle.replay_core.specs.Order.{Arrival, MayCome, is_here};
+    ghost use Rattle.replay_core.specs.Order.{Arrival, LineMayCome, is_here};
     ghost use Rattle.replay_core.specs.Attendance.{IsAfter};
     ghost use Rattle.replay_core.specs.Script.{IsScriptLine};
 
@@ -44,7 +44,7 @@ impl Attendance {
     pub fn may_come(&self, line: &ScriptLine) -> bool
         requires { IsScriptLine line.now }
         ensures { (seats : ℕ) (lines : List Arrival) → IsAfter self.now seats lines
-            → (IsTrue result ↔ MayCome seats lines line.now) }
+            → (IsTrue result ↔ LineMayCome seats lines line.now) }
     {
         if line.moment < self.moment {
             return false;
@@ -59,7 +59,7 @@ impl Attendance {
     /// Notes that the line came, which may. `quit` says that it was a `quit` that was answered.
     pub fn note(&mut self, line: &ScriptLine, quit: bool)
         requires { IsScriptLine line.now }
-        ensures { (seats : ℕ) (lines : List Arrival) → IsAfter self.old seats lines → MayCome seats lines line.now
+        ensures { (seats : ℕ) (lines : List Arrival) → IsAfter self.old seats lines → LineMayCome seats lines line.now
             → IsAfter self.new seats (lines ++ record { line = line.now; quit = quit } ∷ []) }
     {
         let leaves = quit || matches!(line.event, ScriptEvent::Cut);

@@ -3,7 +3,7 @@
 ghost use Rattle.std.specs.Prelude.{◌≡◌, ◌≢◌, ◌↔◌, ◌∷◌, ◌++◌, ℕ, List, All, Any, IfOk, IfSome, IfNone, IsTrue, codes};
 ghost use Rattle.chess_model.specs.declared.variant.Terms.{Terms};
 ghost use Rattle.fics_words.specs.Handle.{IsHandle, key_of};
-ghost use Rattle.replay_core.specs.SeatLine.{AreDifferent, AreSeatTerms, IsSeatLine, MayPlay, players_of, seat_text, terms_text};
+ghost use Rattle.replay_core.specs.SeatLine.{AreDifferent, AreSeatTerms, IsSeatLine, NamesMayPlay, players_wanted, seat_text, terms_text};
 ghost use Rattle.replay_core.specs.Words.{blank, words_before};
 ghost use Rattle.replay_core.specs.declared.seat_line.SeatLine.{SeatLine};
 
@@ -48,8 +48,8 @@ pub fn read_seat(alloc: Global, line: &Line) -> Result<Option<SeatLine>, NoMemor
 /// What these players play, by what stands behind their names.
 fn seat_terms(names: &[Handle], rest: &[u8]) -> Option<Terms>
     ensures spelled { IfSome result (λ terms. rest.now ≡ terms_text terms) }
-    ensures in_range { IfSome result (MayPlay names.now) }
-    ensures none { IfNone result ((terms : Terms) → MayPlay names.now terms → rest.now ≢ terms_text terms) }
+    ensures in_range { IfSome result (NamesMayPlay names.now) }
+    ensures none { IfNone result ((terms : Terms) → NamesMayPlay names.now terms → rest.now ≢ terms_text terms) }
 {
     let terms = read_terms(rest)?;
     if names.len() != players(terms.variant) {
@@ -112,7 +112,7 @@ fn read_terms(bytes: &[u8]) -> Option<Terms>
 
 /// How many players a game has.
 fn players(variant: Variant) -> usize
-    ensures { result ≡ players_of variant }
+    ensures { result ≡ players_wanted variant }
 {
     match variant {
         Variant::Chess | Variant::Crazyhouse => 2,

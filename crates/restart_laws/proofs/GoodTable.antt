@@ -15,7 +15,7 @@ use Rattle.game_records.specs.Spelling.{spelling}
 use Rattle.game_records.specs.declared.records.Record.TheVariants as a
 use Rattle.lobby_load.proofs.Least.{made_good}
 use Rattle.lobby_load.proofs.RowsSorted.{find-itself}
-use Rattle.lobby_load.specs.BadRows.{IsAccount, IsGame, IsGoodStore}
+use Rattle.lobby_load.specs.BadRows.{IsAccount, IsRowOfGame, IsGoodStore}
 use Rattle.lobby_load.specs.Filling.{HasRows}
 use Rattle.lobby_load.specs.Loaded.{opening_with}
 use Rattle.lobby_shelf.proofs.Leading.{same_key, small_numbers}
@@ -74,7 +74,7 @@ row_by : (key bytes : List ℕ) (one : Option Account) (other : Option Shelved) 
     → IfSome one (λ x. is_account_at key x ≡ true)
     → IfSome other IsKept → IfSome other (λ x. is_game_at key x ≡ true)
     → either_record (account_record one) (game_record other) ≡ Some bytes
-    → IsAccount (key, bytes) ⊎ IsGame (key, bytes)
+    → IsAccount (key, bytes) ⊎ IsRowOfGame (key, bytes)
 row_by key bytes None None typed at kept found e = absurd cc
 row_by key bytes None (Some row) typed at kept found e =
     let text : spelling (a.Game row.game) ≡ bytes = cc in
@@ -85,7 +85,7 @@ row_by key bytes (Some account) other typed at kept found e =
 module _ (accounts : List Account) (games : List Shelved) (typed : All (λ x. IsTyped (a.Account x)) accounts)
     (kept : All IsKept games) where
   wanted_row : (key bytes : List ℕ) → wanted accounts games key ≡ Some bytes
-      → IsAccount (key, bytes) ⊎ IsGame (key, bytes)
+      → IsAccount (key, bytes) ⊎ IsRowOfGame (key, bytes)
   wanted_row key bytes e =
       row_by key bytes (find (is_account_at key) accounts) (find (is_game_at key) games)
       (found_is (λ x. IsTyped (a.Account x)) (is_account_at key) accounts typed) (found_so (is_account_at key) accounts)
@@ -93,11 +93,11 @@ module _ (accounts : List Account) (games : List Shelved) (typed : All (λ x. Is
 
   each_row : (done rest : Pairs) → IsAscending (done ++ rest)
       → ((key : List ℕ) → wanted accounts games key ≡ find_row keys_order key (done ++ rest))
-      → All (λ row. IsAccount row ⊎ IsGame row) rest
-  each_row done [] rise holds = All-nil (λ row. IsAccount row ⊎ IsGame row)
+      → All (λ row. IsAccount row ⊎ IsRowOfGame row) rest
+  each_row done [] rise holds = All-nil (λ row. IsAccount row ⊎ IsRowOfGame row)
   each_row done (row ∷ rest) rise holds =
       let again : (done ++ row ∷ []) ++ rest ≡ done ++ row ∷ rest = append_assoc done (row ∷ []) rest in
-      All-cons (λ x. IsAccount x ⊎ IsGame x) row rest
+      All-cons (λ x. IsAccount x ⊎ IsRowOfGame x) row rest
       (wanted_row row.0 row.1 (holds row.0 ∙ find-itself done rest row rise))
       (each_row (done ++ row ∷ []) rest (subst IsAscending (sym again) rise)
       (λ key. holds key ∙ ap (find_row keys_order key) (sym again)))

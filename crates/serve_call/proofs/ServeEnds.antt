@@ -15,7 +15,7 @@ use Rattle.cmd_job.specs.Usage.{UsageEnds, usage_line}
 use Rattle.edge_traits.specs.Faults.{Rose}
 use Rattle.edge_traits.specs.Pairs.{Records}
 use Rattle.lobby_load.specs.BadRows.{IsGoodStore}
-use Rattle.lobby_load.specs.Telling.{IsFirstBad, Tells, bad_record_line}
+use Rattle.lobby_load.specs.Telling.{IsFirstBad, TellsBadRecord, bad_record_line}
 use Rattle.lobby_load.specs.declared.refusals.StoreFault.{StoreFault}
 use Rattle.lobby_load.specs.declared.refusals.StoreFault.TheVariants as unopened
 use Rattle.lobby_state.specs.Lobby.{LobbyState}
@@ -109,7 +109,8 @@ is_complete DoorFault (inl w) = absurd w
 is_complete DoorFault (inr e) = absurd cc
 
 -- words that name no job don't ask to serve
-pub no_serve : (fail : JobFail) (words : List (String Global)) → OnUsage fail ((job : Job) → jobs.Names words job → ⊥)
+pub no_serve : (fail : JobFail) (words : List (String Global))
+    → OnUsage fail ((job : Job) → jobs.NamesJob words job → ⊥)
     → OnUsage fail (AsksToServe words → ⊥)
 no_serve TheFail.Usage words h = λ asks. h (TheJob.Serve asks.0 asks.1 asks.2 asks.3) asks.4
 no_serve TheFail.Memory words h = tt
@@ -234,7 +235,7 @@ module _ (old new : Store) (before after : Sheet) (door door' : ℕ) where
   pub call_bad : (status : ℕ) → EndsCall status old new before after counts counts' → status ≡ 5
       → (key : List ℕ) × IsFirstBad old.table key × Appends before.written after.written (bad_record_line key)
   call_bad status (inl (fault, is, p)) e =
-      subst (λ (f : StoreFault). Tells {A = LobbyState} old.table before.written after.written (Err f))
+      subst (λ (f : StoreFault). TellsBadRecord {A = LobbyState} old.table before.written after.written (Err f))
       (unopened_bad fault (sym is ∙ e)) p.wrote
   call_bad status (inr (end, is, p)) e = absurd (is_no_bad_record end (sym is ∙ e))
 

@@ -12,7 +12,7 @@ use Rattle.edge_traits.specs.declared.keeper.Kept.{Kept}
 use Rattle.edge_traits.specs.declared.keeper.Kept.TheVariants.{Done, Failed}
 use Rattle.lobby_load.specs.Calling.{FailsAt, LoadsOnce}
 use Rattle.lobby_load.specs.Refused.{OnReadFault, OnWriteFault, UnlessWriteFault, unopened_status}
-use Rattle.lobby_load.specs.Telling.{Tells}
+use Rattle.lobby_load.specs.Telling.{TellsBadRecord}
 use Rattle.lobby_load.specs.declared.refusals.StoreFault.{StoreFault}
 use Rattle.lobby_load.specs.declared.refusals.StoreFault.TheVariants as unopened
 use Rattle.serve_call.specs.Opening.{CallsUnopened, StaysUnopened}
@@ -77,7 +77,7 @@ calls_unopened unopened.WriteFault old new p = p
 calls_unopened unopened.Memory old new p = inr p
 
 pub unopened_by : (fault : StoreFault) (old new : Store) (before after : Sheet)
-    → Tells {A = LobbyState} old.table before.written after.written (Err fault)
+    → TellsBadRecord {A = LobbyState} old.table before.written after.written (Err fault)
     → OnReadFault {A = LobbyState} (Err fault) (Rose old.faults new.faults)
     → OnWriteFault {A = LobbyState} (Err fault) (Rose before.faults after.faults)
     → UnlessWriteFault {A = LobbyState} (Err fault) (after.faults ≡ before.faults) → Stays old.table new.table

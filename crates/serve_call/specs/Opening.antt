@@ -12,7 +12,7 @@ use Rattle.lobby_load.specs.BadRows.{IsGoodStore}
 use Rattle.lobby_load.specs.Calling.{FailsAt, LoadsOnce}
 use Rattle.lobby_load.specs.Loaded.{AreSpelled, HasLoaded, IsAtOpening}
 use Rattle.lobby_load.specs.Refused.{UnlessUnwritten, unopened_status}
-use Rattle.lobby_load.specs.Telling.{Tells}
+use Rattle.lobby_load.specs.Telling.{TellsBadRecord}
 use Rattle.lobby_load.specs.declared.refusals.StoreFault.{StoreFault}
 use Rattle.lobby_load.specs.declared.refusals.StoreFault.TheVariants.{KeeperFault, Memory, WriteFault}
 use Rattle.lobby_state.specs.Lobby.{LobbyState}
@@ -44,7 +44,7 @@ CallsUnopened fault old new = LoadsOnce old new (FailsAt fault)
 -- sink, which counted it there and nowhere else; else nothing was written, or at want of memory perhaps a front of that
 -- line. A fault of the keeper is told exactly where its load failed, and only where it counted one. Its table stays
 pub record StaysUnopened (fault : StoreFault) (old new : Store) (before after : Sheet) : Type 0 where
-  pub wrote : Tells {A = LobbyState} old.table before.written after.written (Err fault)
+  pub wrote : TellsBadRecord {A = LobbyState} old.table before.written after.written (Err fault)
   pub keeper_fault : fault ≡ KeeperFault → Rose old.faults new.faults
   pub write_fault : fault ≡ WriteFault → Rose before.faults after.faults
   pub write_calm : UnlessUnwritten fault (after.faults ≡ before.faults)

@@ -17,7 +17,7 @@ use Rattle.one_server.specs.declared.reply.Reply.{Reply}
 use Rattle.one_server.specs.House.{house}
 use Rattle.one_server.specs.Running.{IsKnown, Log, RunnerState}
 use Rattle.one_server.specs.Whole.{IsWhole}
-use Rattle.hall_core.specs.Passes.{EveryoneJoined, PassState, first_pass, noted, runs_of}
+use Rattle.hall_core.specs.Passes.{EveryoneJoined, PassState, first_pass, pass_noted, runs_of}
 use Rattle.steward_core.specs.Agreement.{IsNoOthers, NoOthersSave, StaysAgreed, state_seen}
 use Rattle.steward_core.specs.declared.turn.StewardEnd.{StewardEnd}
 use Rattle.steward_core.specs.declared.turn.StewardEnd.TheVariants as steward
@@ -179,7 +179,7 @@ module _ {C : Type 0} (shows : C → ℕ → Bool) (hall : TableId) (clock : C) 
         told_then opens door (GivesQuiets ready.count) IsUnused (λ tale. ready.count ≡ tale.quiets)
         (λ a b gives none. omega (arith, gives, none.2)) ready.quiets unused
 
-    one_history : HasOneHistory opening (noted b new)
+    one_history : HasOneHistory opening (pass_noted b new)
     one_history = record {
       first = is_first;
       opens = opening_is;
@@ -191,7 +191,7 @@ module _ {C : Type 0} (shows : C → ℕ → Bool) (hall : TableId) (clock : C) 
       no_others = nobody_else;
     }
 
-    each_session : EachHadSession (shows clock) door (noted b new)
+    each_session : EachHadSession (shows clock) door (pass_noted b new)
     each_session = record {
       sessions = sessions_served;
       came =
@@ -226,7 +226,7 @@ module _ {C : Type 0} (shows : C → ℕ → Bool) (hall : TableId) (clock : C) 
     }
 
     pub served_all : (end : ServeEnd) (before later : Sheet) → SaysText end b last door pass.splits before later
-        → HasServedAll (shows clock) opening end door before later old after (noted b new)
+        → HasServedAll (shows clock) opening end door before later old after (pass_noted b new)
     served_all end before later leaves = record {
       last = last;
       hall = one_history;
@@ -250,11 +250,11 @@ pub all_served : {C : Type 0} (shows : C → ℕ → Bool) (hall : TableId) (clo
     → mid.faults ≤ after.faults
     → (b : Bool) → (supply ≡ Short → b ≡ true) → (made ≡ Short → b ≡ true) → (end : ServeEnd) (before later : Sheet)
     → SaysText end b last door pass.splits before later
-    → HasServedAll (shows clock) first.opening end door before later old after (noted b new)
+    → HasServedAll (shows clock) first.opening end door before later old after (pass_noted b new)
 all_served shows hall clock supply opens door opening first pass new old mid after last made k is tended unused whole t
     fault counted b short short_last end before later leaves =
     let at : first.opening ≡ opening = ap (λ (p : PassState). p.opening) is in
-    subst (λ (parts : List Part). HasServedAll (shows clock) parts end door before later old after (noted b new))
+    subst (λ (parts : List Part). HasServedAll (shows clock) parts end door before later old after (pass_noted b new))
     (sym at)
     (served_all shows hall clock supply opens door opening pass new old mid after last made k
     (subst (λ (p : PassState). Tended (stand p Enough opens old) (stand pass supply door mid)) is tended) unused

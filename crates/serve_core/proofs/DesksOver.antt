@@ -10,7 +10,7 @@ use Rattle.histories.proofs.Histories.{legal_front, stays_whole, state-append, l
 use Rattle.histories.proofs.Steps.{after_alone, after_together, reply_alone}
 use Rattle.turn_table.specs.Views.{In}
 use Rattle.linked_desk.specs.declared.ended.Ended.{Ended}
-use Rattle.linked_desk.specs.Desk.{DeskState, GameState, end_of, serial_of, viewer_count}
+use Rattle.linked_desk.specs.Desk.{DeskState, GameState, ended_at, serial_of, viewer_count}
 use Rattle.lobby_shelf.specs.declared.order.Order.{Order}
 use Rattle.lobby_state.specs.declared.acts.LobbyAct.{LobbyAct}
 use Rattle.lobby_state.specs.declared.acts.LobbyAct.TheVariants.{InUse}
@@ -31,7 +31,7 @@ use Rattle.one_server.specs.declared.part.Part.TheVariants.{Lobby as TheLobby, D
 use Rattle.one_server.specs.declared.reply.Reply.{Reply}
 use Rattle.one_server.specs.Acts.{IsEvent, lobby_reply}
 use Rattle.one_server.specs.Clearing.{clear_desk}
-use Rattle.one_server.specs.Desks.{emptied, game_of, has_ended, is_left, is_serial}
+use Rattle.one_server.specs.Desks.{desk_emptied, listed_game, has_ended, nobody_looks_on, is_serial}
 use Rattle.one_server.specs.House.{house, pair_lobby}
 use Rattle.one_server.specs.LawfulProof.{house_lawful}
 use Rattle.one_server.specs.Running.{Log}
@@ -40,7 +40,7 @@ use Rattle.one_server.specs.WholeProof.{after_write, desk_at}
 use Rattle.steward_core.specs.declared.clearing.ClearingEnd.{ClearingEnd}
 use Rattle.steward_core.specs.declared.clearing.ClearingEnd.TheVariants as clearing
 use Rattle.steward_core.specs.declared.turn.StewardEnd.{StewardEnd}
-use Rattle.steward_core.specs.Clearing.{IsClearing, acts_of, asks_in_use, clears, rows_told}
+use Rattle.steward_core.specs.Clearing.{IsClearing, timed_acts_of, asks_in_use, clears, rows_told}
 use Rattle.steward_core.specs.Turn.{IsStewardTurn}
 use Rattle.serve_core.specs.EndLaws.{IsLeftOver, NoneLeftOver}
 use Rattle.serve_core.specs.StewardLaws.{AreStewards, IsDone, IsStewards}
@@ -60,8 +60,8 @@ AreAmong rows parts =
 pub has_serial_by : (desk : DeskState) (game : Option GameState) → desk.game ≡ game → IsLeftOver desk
     → (serial : ℕ) × (serial_of desk ≡ Some serial)
 has_serial_by desk None is over =
-    absurd (let bad : end_of desk ≡ None =
-    ap (λ (g : Option GameState). end_of (record desk { game = g })) is in
+    absurd (let bad : ended_at desk ≡ None =
+    ap (λ (g : Option GameState). ended_at (record desk { game = g })) is in
     let both : None ≡ Some over.ended = sym bad ∙ over.is_over in cc)
 has_serial_by desk (Some g) is over = (g.serial, ap (λ (o : Option GameState). serial_of (record desk { game = o })) is)
 
@@ -84,7 +84,7 @@ in_list x xs there = in_by x xs there.0 there.1 there.2
 
 -- the game that is listed for it has its serial
 listed_serial : (desk : DeskState) (game : Option GameState) (serial : ℕ) → desk.game ≡ game
-    → serial_of desk ≡ Some serial → (listed : ListedGame) × (game_of desk ≡ Some listed) × (listed.serial ≡ serial)
+    → serial_of desk ≡ Some serial → (listed : ListedGame) × (listed_game desk ≡ Some listed) × (listed.serial ≡ serial)
 listed_serial desk None serial is s =
     absurd (let none : serial_of desk ≡ None =
     ap (λ (g : Option GameState). serial_of (record desk { game = g })) is in
@@ -93,7 +93,7 @@ listed_serial desk (Some g) serial is s =
     let own : serial_of desk ≡ Some g.serial = ap (λ (o : Option GameState). serial_of (record desk { game = o })) is in
     let same : Some g.serial ≡ Some serial = sym own ∙ s in (
       record { serial = g.serial; terms = g.terms; seats = g.seats },
-      ap (λ (o : Option GameState). game_of (record desk { game = o })) is,
+      ap (λ (o : Option GameState). listed_game (record desk { game = o })) is,
       cc,
     )
 
@@ -145,19 +145,21 @@ module _ (xs : List Part) (w : IsWhole xs) where
 
 -- of such a game, by its serial, it empties the desk
 is_cleared : (desk : DeskState) (serial : ℕ) → IsLeftOver desk → serial_of desk ≡ Some serial
-    → (has_ended desk serial && is_left desk) ≡ true
+    → (has_ended desk serial && nobody_looks_on desk) ≡ true
 is_cleared desk serial over is =
-    ap (λ (o : Option ℕ). (is_serial serial o && is_some (end_of desk)) && is_left desk) is
-    ∙ ap (λ (b : Bool). (b && is_some (end_of desk)) && is_left desk) (eq-eqb serial serial refl)
-    ∙ ap (λ (o : Option Ended). (true && is_some o) && is_left desk) over.is_over
+    ap (λ (o : Option ℕ). (is_serial serial o && is_some (ended_at desk)) && nobody_looks_on desk) is
+    ∙ ap (λ (b : Bool). (b && is_some (ended_at desk)) && nobody_looks_on desk) (eq-eqb serial serial refl)
+    ∙ ap (λ (o : Option Ended). (true && is_some o) && nobody_looks_on desk) over.is_over
     ∙ eq-eqb (viewer_count desk) 0 over.nobody
 
 -- the desk afterwards has such a game only where it had it, with another serial
-cleared_over : (old new : DeskState) (serial other : ℕ) (done : Bool) → (has_ended old serial && is_left old) ≡ done
-    → new ≡ cond done (emptied old) old → IsLeftOver new → serial_of new ≡ Some other → (new ≡ old) × (other ≢ serial)
+cleared_over : (old new : DeskState) (serial other : ℕ) (done : Bool)
+    → (has_ended old serial && nobody_looks_on old) ≡ done
+    → new ≡ cond done (desk_emptied old) old → IsLeftOver new → serial_of new ≡ Some other
+    → (new ≡ old) × (other ≢ serial)
 cleared_over old new serial other true is e over s =
     absurd
-    (let bad : end_of new ≡ None = ap end_of e in let both : None ≡ Some over.ended = sym bad ∙ over.is_over in cc)
+    (let bad : ended_at new ≡ None = ap ended_at e in let both : None ≡ Some over.ended = sym bad ∙ over.is_over in cc)
 cleared_over old new serial other false is e over s = (
   e,
   λ same.
@@ -206,7 +208,8 @@ module _ (xs : List Part) (w : IsWhole xs) (session moment number serial : ℕ) 
       elim (desk_now place desk at) [
         | inl here ↦
             let still =
-            cleared_over there.0 desk serial other (has_ended there.0 serial && is_left there.0) refl here.1 over is in
+            cleared_over there.0 desk serial other (has_ended there.0 serial && nobody_looks_on there.0) refl here.1
+            over is in
             let was : slice_get xs place ≡ Some (ADesk desk) =
             ap (slice_get xs) here.0 ∙ there.1 ∙ ap (λ (d : DeskState). Some (ADesk d)) (sym still.0) in
             among_else rows place other (λ e. still.1) (among place other desk was over is)
@@ -216,13 +219,13 @@ module _ (xs : List Part) (w : IsWhole xs) (session moment number serial : ℕ) 
 -- ---- clearing
 
 clears_over : (rows : List DeskInUse) (moment : ℕ) (es : Log) (xs : List Part) → IsWhole xs → Legal house xs es
-    → acts_of es ≡ map (clears moment) rows → AreAmong rows xs → AreAmong [] (state house xs es)
+    → timed_acts_of es ≡ map (clears moment) rows → AreAmong rows xs → AreAmong [] (state house xs es)
 clears_over [] moment [] xs w legal are among = among
 clears_over [] moment (e ∷ es) xs w legal are among = absurd cc
 clears_over (r ∷ rows) moment [] xs w legal are among = absurd cc
 clears_over (r ∷ rows) moment (e ∷ es) xs w legal are among =
     let act : clears moment r ≡ e.act = cc in
-    let rest : acts_of es ≡ map (clears moment) rows = cc in
+    let rest : timed_acts_of es ≡ map (clears moment) rows = cc in
     let fits : house.fits (clears moment r) = subst house.fits (sym act) legal.0 in
     let next = after house xs e.session (clears moment r) in
     let whole : IsWhole next = house_lawful.stays xs e.session (clears moment r) w fits in

@@ -13,7 +13,7 @@ use Rattle.one_server.specs.declared.act.Timed.{Timed}
 use Rattle.one_server.specs.declared.part.Part.{Part}
 use Rattle.one_server.specs.declared.reply.Reply.{Reply}
 use Rattle.one_server.specs.Running.{Log}
-use Rattle.hall_core.specs.Passes.{IsJoined, PassState, divided, first_pass}
+use Rattle.hall_core.specs.Passes.{IsPassJoined, PassState, pass_divided, first_pass}
 use Rattle.link_core.specs.declared.link_end.LinkEnd.{LinkEnd}
 use Rattle.link_core.specs.declared.link_end.LinkEnd.TheVariants as link_end
 use Rattle.link_core.specs.ServedInPart.{WasServed}
@@ -136,7 +136,7 @@ module _ {C : Type 0} (shows : C → ℕ → Bool) (hall : TableId) (clock : C) 
     number_new m e =
         subst (λ n. In n (map due_number (waiting ++ d ∷ []))) (number ∙ sym e) (in_map_last due_number d waiting [])
 
-    pub kept_came : Underway shows hall clock supply door' (divided pass) (waiting ++ d ∷ [])
+    pub kept_came : Underway shows hall clock supply door' (pass_divided pass) (waiting ++ d ∷ [])
     kept_came = record {
       here = k.here;
       first = k.first;
@@ -278,7 +278,7 @@ module _ {C : Type 0} (shows : C → ℕ → Bool) (hall : TableId) (clock : C) 
         (given_not_first, omega (arith, low, paid.number), omega (arith, n, one_less d one two)))
         owes.came k.out
 
-    module _ (joins : IsJoined pass given new) (goes : WhereTold door door' (TakesBack given.number link)) where
+    module _ (joins : IsPassJoined pass given new) (goes : WhereTold door door' (TakesBack given.number link)) where
       grown : new.joined ≡ pass.joined ++ record { number = given.number; calls = given.made } ∷ []
       grown =
           joins.joined

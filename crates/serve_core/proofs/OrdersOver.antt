@@ -25,7 +25,7 @@ use Rattle.steward_core.specs.declared.clearing.ClearingEnd.{ClearingEnd}
 use Rattle.steward_core.specs.declared.clearing.ClearingEnd.TheVariants as clearing
 use Rattle.steward_core.specs.declared.turn.StewardEnd.{StewardEnd}
 use Rattle.steward_core.specs.declared.turn.StewardEnd.TheVariants.{Done, KeeperFault, Memory}
-use Rattle.steward_core.specs.Clearing.{acts_of}
+use Rattle.steward_core.specs.Clearing.{timed_acts_of}
 use Rattle.steward_core.specs.Saving.{EndsSaving, IsSaveRound, IsSaving, asks_orders, last_number, most_answers, orders_in, says_saved, tells_upto}
 use Rattle.steward_core.specs.Turn.{IsStewardTurn, end_of_turn}
 use Rattle.steward_core.proofs.AgreedStill.{kept_behind}
@@ -85,7 +85,7 @@ module _ (ys : List Part) (w : IsWhole ys) (moment : ℕ) where
       ap (λ (l : LobbyState). l.shelf.orders) same ∙ none_above upto last
 
   over_upto : (upto : ℕ) (rest : Log) → last_number w.lobby.shelf.orders ≡ Some upto
-      → acts_of rest ≡ says_saved moment upto ∷ [] → NoOrders (state house ys rest)
+      → timed_acts_of rest ≡ says_saved moment upto ∷ [] → NoOrders (state house ys rest)
   over_upto upto [] last said = absurd cc
   over_upto upto (e ∷ []) last said =
       let act : says_saved moment upto ≡ e.act = cc in
@@ -93,7 +93,7 @@ module _ (ys : List Part) (w : IsWhole ys) (moment : ℕ) where
   over_upto upto (e ∷ (f ∷ rest)) last said = absurd cc
 
   over_by : (orders : List Order) (rest : Log) → w.lobby.shelf.orders ≡ orders
-      → acts_of rest ≡ tells_upto moment (last_number orders) → NoOrders (state house ys rest)
+      → timed_acts_of rest ≡ tells_upto moment (last_number orders) → NoOrders (state house ys rest)
   over_by [] [] is said = λ lobby there.
       ap (λ (l : LobbyState). l.shelf.orders) (one_lobby ys lobby w.lobby there w.first) ∙ is
   over_by [] (e ∷ rest) is said = absurd cc

@@ -8,7 +8,7 @@ use Rattle.atomic_table.specs.Seated.{TableId}
 use Rattle.edge_traits.specs.Link.{Handed, IsFresh, Tale}
 use Rattle.edge_traits.specs.Door.{DoorTale, IsOut, TakesBack}
 use Rattle.edge_traits.specs.WhereTold.{WhereTold}
-use Rattle.hall_core.specs.Passes.{IsJoined, PassState, divided, new_pass}
+use Rattle.hall_core.specs.Passes.{IsPassJoined, PassState, pass_divided, new_pass}
 use Rattle.link_core.specs.declared.link_end.LinkEnd.{LinkEnd}
 use Rattle.serve_turn.specs.declared.supply.Supply.{Supply}
 use Rattle.serve_core.specs.Working.{Due, IsPaid}
@@ -23,7 +23,8 @@ around items i d low is =
     sym (take-append-drop i items) ∙ ap (λ xs. take i items ++ xs) (drop-cons items i d low)
     ∙ ap (λ x. take i items ++ x ∷ drop (suc i) items) (sym is)
 
-pub stays_then : (start pass given new : PassState) → SameHall start pass → IsJoined pass given new → SameHall start new
+pub stays_then : (start pass given new : PassState) → SameHall start pass → IsPassJoined pass given new
+    → SameHall start new
 stays_then start pass given new s j =
     (ap (λ (p : PassState). p.splits) j.same ∙ s.0, ap (λ (p : PassState). p.opening) j.same ∙ s.1)
 
@@ -50,7 +51,7 @@ module _ {C : Type 0} (shows : C → ℕ → Bool) (hall : TableId) (clock : C) 
     pays_out = given_out shows hall clock supply end door door pass pass given one two d link kept_around paid
 
     pub pays : (supply' : Supply) (door' : Option DoorTale) (new : PassState) (rest : List (Due C))
-        → IsJoined pass given new → WhereTold door door' (TakesBack given.number link) → rest ≡ one ++ two
+        → IsPassJoined pass given new → WhereTold door door' (TakesBack given.number link) → rest ≡ one ++ two
         → supply' ≡ supply_after end supply → Underway shows hall clock supply' door' new rest
     pays supply' door' new rest joins goes r s =
         subst (λ (x : Supply). Underway shows hall clock x door' new rest) (sym s)
@@ -60,7 +61,7 @@ module _ {C : Type 0} (shows : C → ℕ → Bool) (hall : TableId) (clock : C) 
   -- a link that came, and its pass
   module _ (supply : Supply) (before door : Option DoorTale) (pass mid given : PassState) (waiting : List (Due C))
       (link : Option Tale) (k : Underway shows hall clock supply before pass waiting)
-      (goes : WhereTold before door (Comes link)) (counted : mid ≡ divided pass) (new : given ≡ new_pass pass)
+      (goes : WhereTold before door (Comes link)) (counted : mid ≡ pass_divided pass) (new : given ≡ new_pass pass)
       (fresh : IfSome link IsFresh) where
     pub due_now : Due C
     due_now = record { pass = given; link = link; clock = clock }

@@ -9,7 +9,7 @@ use Rattle.edge_traits.specs.Link.{Handed, Tale}
 use Rattle.edge_traits.specs.declared.doorway.Came.{Came}
 use Rattle.edge_traits.specs.declared.doorway.Came.TheVariants as came
 use Rattle.one_server.specs.Running.{IsKnown, Made}
-use Rattle.hall_core.specs.Passes.{HasLooked, IsJoined, PassState, divided, runs_of}
+use Rattle.hall_core.specs.Passes.{HasLooked, IsPassJoined, PassState, pass_divided, runs_of}
 use Rattle.link_core.specs.declared.link_end.LinkEnd.{LinkEnd}
 use Rattle.steward_core.specs.declared.turn.StewardEnd.{StewardEnd}
 use Rattle.steward_core.specs.declared.turn.StewardEnd.TheVariants as steward
@@ -87,7 +87,7 @@ tended_door pass supply door door' store quiets =
     tended_none pass pass supply supply door door' store (made_none (runs_of pass)) quiets (λ e. e)
 
 -- a pass was joined
-joined_made : (old other new : PassState) → IsJoined old other new → Made (runs_of old) [] (runs_of new)
+joined_made : (old other new : PassState) → IsPassJoined old other new → Made (runs_of old) [] (runs_of new)
 joined_made old other new j =
     let made : new.made ≡ old.made = ap (λ (p : PassState). p.made) j.same in
     record {
@@ -115,7 +115,7 @@ quiets_back number link a b e =
 
 pub tended_settled : (supply supply' : Supply) (end : LinkEnd) (door door' : Option DoorTale)
     (pass given new : PassState) (link : Handed)
-    → IsJoined pass given new → WhereTold door door' (TakesBack given.number link)
+    → IsPassJoined pass given new → WhereTold door door' (TakesBack given.number link)
     → supply' ≡ supply_after end supply → (store : Store)
     → Tended (stand pass supply door store) (stand new supply' door' store)
 tended_settled supply supply' end door door' pass given new link joins goes is store =
@@ -126,7 +126,8 @@ tended_settled supply supply' end door door' pass given new link joins goes is s
 pub settles_then : (start pass given new : PassState) (supply0 supply supply' : Supply) (end : LinkEnd)
     (door0 door door' : Option DoorTale) (link : Handed)
     → ((store : Store) → Tended (stand start supply0 door0 store) (stand pass supply door store))
-    → IsJoined pass given new → WhereTold door door' (TakesBack given.number link) → supply' ≡ supply_after end supply
+    → IsPassJoined pass given new → WhereTold door door' (TakesBack given.number link)
+    → supply' ≡ supply_after end supply
     → (store : Store) → Tended (stand start supply0 door0 store) (stand new supply' door' store)
 settles_then start pass given new supply0 supply supply' end door0 door door' link so_far joins goes is store =
     tended_then (stand start supply0 door0 store) (stand pass supply door store) (stand new supply' door' store)
@@ -135,15 +136,15 @@ settles_then start pass given new supply0 supply supply' end door0 door door' li
 
 -- a pass was split, and served
 pub tended_split : (pass mid : PassState) (supply : Supply) (door : Option DoorTale) (store : Store)
-    → mid ≡ divided pass → Tended (stand pass supply door store) (stand mid supply door store)
+    → mid ≡ pass_divided pass → Tended (stand pass supply door store) (stand mid supply door store)
 tended_split pass mid supply door store is =
     subst (λ (p : PassState). Tended (stand pass supply door store) (stand p supply door store)) (sym is)
-    (tended_none pass (divided pass) supply supply door door store (made_none (runs_of pass))
+    (tended_none pass (pass_divided pass) supply supply door door store (made_none (runs_of pass))
     (where_same door (GivesQuiets 0) no_quiets) (λ e. e))
 
 pub tended_served : (pass mid given new : PassState) (supply supply' : Supply) (end : LinkEnd)
     (door door' : Option DoorTale) (link : Handed)
-    → mid ≡ divided pass → IsJoined mid given new
+    → mid ≡ pass_divided pass → IsPassJoined mid given new
     → WhereTold door door' (TakesBack given.number link) → supply' ≡ supply_after end supply → (store : Store)
     → Tended (stand pass supply door store) (stand new supply' door' store)
 tended_served pass mid given new supply supply' end door door' link is joins goes s =

@@ -13,7 +13,7 @@ use Rattle.steward_core.specs.declared.clearing.ClearingEnd.{ClearingEnd}
 use Rattle.steward_core.specs.declared.clearing.ClearingEnd.TheVariants as clearing
 use Rattle.steward_core.specs.declared.turn.StewardEnd.{StewardEnd}
 use Rattle.steward_core.specs.declared.turn.StewardEnd.TheVariants.{Done, KeeperFault, Memory}
-use Rattle.steward_core.specs.Clearing.{AreClears, AsksAndClears, IsPartOf, IsClearing, acts_of, clears, rows_told}
+use Rattle.steward_core.specs.Clearing.{AreClears, AsksAndClears, IsPartOf, IsClearing, timed_acts_of, clears, rows_told}
 use Rattle.steward_core.specs.Saving.{AreFullRounds, EndsSaving, IsCutShort, IsSaveRound, IsSaving, last_number, says_saved, tells_upto}
 use Rattle.steward_core.specs.Turn.{end_of_turn}
 use Rattle.serve_turn.specs.declared.supply.Supply.{Supply}
@@ -40,7 +40,7 @@ asks_append n m one two p q = (stewards_append one two p.0 q.0, omega (arith, as
 -- ---- clearing
 
 -- Clears alone are a steward's, and ask nothing
-asks_some : (moment : ℕ) (es : Log) (rows : List DeskInUse) → IsPartOf (acts_of es) (map (clears moment) rows)
+asks_some : (moment : ℕ) (es : Log) (rows : List DeskInUse) → IsPartOf (timed_acts_of es) (map (clears moment) rows)
     → Asks 0 es
 asks_some moment [] rows p = (tt, refl)
 asks_some moment (e ∷ es) [] p = absurd p
@@ -55,7 +55,8 @@ asks_some moment (e ∷ es) (row ∷ rows) (inr p) = asks_some moment (e ∷ es)
 asks_rest : (end : ClearingEnd) (moment : ℕ) (rows : List DeskInUse) (es : Log) → AreClears end moment rows es
     → Asks 0 es
 asks_rest clearing.Done moment rows es p =
-    asks_some moment es rows (subst (λ (l : List Timed). IsPartOf (acts_of es) l) p (part_of_itself (acts_of es)))
+    asks_some moment es rows
+    (subst (λ (l : List Timed). IsPartOf (timed_acts_of es) l) p (part_of_itself (timed_acts_of es)))
 asks_rest clearing.Memory moment rows es p = asks_some moment es rows p
 
 asks_once_and_clears : (end : ClearingEnd) (moment : ℕ) (es : Log) → AsksAndClears end moment es → Asks 1 es
@@ -75,7 +76,7 @@ clearing_stewards clearing.Memory moment es (inr p) = (asks_once_and_clears clea
 -- ---- saving
 
 -- an act that tells orders as saved is a steward's, and asks nothing
-asks_told : (moment : ℕ) (upto : Option ℕ) (es : Log) → acts_of es ≡ tells_upto moment upto → Asks 0 es
+asks_told : (moment : ℕ) (upto : Option ℕ) (es : Log) → timed_acts_of es ≡ tells_upto moment upto → Asks 0 es
 asks_told moment None [] is = (tt, refl)
 asks_told moment None (e ∷ es) is = absurd cc
 asks_told moment (Some upto) [] is = absurd cc
@@ -95,7 +96,7 @@ asks_round moment es orders p =
     ) in
     subst (Asks 0) (sym p.all) both
 
-asks_cut_rest : (moment : ℕ) (upto : Option ℕ) (es : Log) → (acts_of es ≡ tells_upto moment upto) ⊎ (es ≡ [])
+asks_cut_rest : (moment : ℕ) (upto : Option ℕ) (es : Log) → (timed_acts_of es ≡ tells_upto moment upto) ⊎ (es ≡ [])
     → Asks 0 es
 asks_cut_rest moment upto es (inl is) = asks_told moment upto es is
 asks_cut_rest moment upto es (inr is) = subst (Asks 0) (sym is) (tt, refl)

@@ -5,7 +5,7 @@ use Rattle.edge_traits.specs.Door.{DoorTale}
 use Rattle.edge_traits.specs.Pairs.{Records}
 use Rattle.histories.specs.History.{state}
 use Rattle.linked_desk.specs.declared.ended.Ended.{Ended}
-use Rattle.linked_desk.specs.Desk.{DeskState, end_of, viewer_count}
+use Rattle.linked_desk.specs.Desk.{DeskState, ended_at, viewer_count}
 use Rattle.lobby_state.specs.Lobby.{LobbyState}
 use Rattle.lobby_store.specs.Agreeing.{wanted_by}
 use Rattle.lobby_store.specs.Carrying.{held}
@@ -44,7 +44,7 @@ pub record IsLeftOver (desk : DeskState) : Type 0 where
   -- there is
   pub ended : Ended
   -- such that
-  pub is_over : end_of desk ≡ Some ended
+  pub is_over : ended_at desk ≡ Some ended
   pub nobody : viewer_count desk ≡ 0
 
 -- no such game is at a desk of this state

@@ -18,7 +18,7 @@ use Rattle.serve_turn.specs.declared.end.DoorEnd.TheVariants as door_end
 use Rattle.serve_turn.specs.declared.supply.Supply.{Supply}
 use Rattle.serve_turn.specs.declared.supply.Supply.TheVariants.{Short}
 use Rattle.serve_core.specs.Sessions.{CameAs, HadSession}
-use Rattle.serve_turn.specs.Stopping.{IsStopped}
+use Rattle.serve_turn.specs.Stopping.{IsDoorStopped}
 use Rattle.serve_core.specs.Working.{Due}
 
 -- whether memory ran out somewhere, once a link was served that ended like this
@@ -68,4 +68,4 @@ Comes link old new = new ≡ record old { left = new.left; came = old.came ++ li
 
 -- no further link is taken for that reason, after so many; and where the door failed, it counted that
 abbrev pub Stopped : DoorEnd → ℕ → Option DoorTale → ℕ → ℕ → Type 0
-Stopped why count door before now = IsStopped why count door × (why ≡ door_end.Failed → Rose before now)
+Stopped why count door before now = IsDoorStopped why count door × (why ≡ door_end.Failed → Rose before now)

@@ -12,7 +12,7 @@ use Rattle.serve_turn.specs.declared.end.DoorEnd.TheVariants as door_end
 use Rattle.serve_turn.specs.declared.end.ServeEnd.{ServeEnd}
 use Rattle.serve_turn.specs.declared.supply.Supply.{Supply}
 use Rattle.serve_core.specs.Outside.{Sheet}
-use Rattle.serve_turn.specs.Stopping.{IsStopped, end_of, is_short}
+use Rattle.serve_turn.specs.Stopping.{IsDoorStopped, end_of, is_short}
 
 -- what is written once the hall is open, and once all is served
 abbrev pub ready_text : List ℕ
@@ -57,7 +57,7 @@ pub record SaysClosed (end : ServeEnd) (short : Bool) (last : StewardEnd) (door 
   pub said : Sent
   pub supply : Supply
   -- such that
-  pub stopped : IsStopped why count door
+  pub stopped : IsDoorStopped why count door
   pub ready : Says ready_text sent.All before mid
   pub closed : Says closed_text said mid after
   pub ends : end ≡ end_of why said last supply

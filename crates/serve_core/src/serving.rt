@@ -9,7 +9,7 @@ ghost use Rattle.edge_traits.specs.Faults.{Rose};
 ghost use Rattle.edge_traits.specs.Sink.{OnWriteFailed, UnlessWriteFailed, Wrote};
 ghost use Rattle.one_server.specs.declared.part.Part.{Part};
 ghost use Rattle.one_server.specs.Whole.{IsOpening, IsWhole, opened};
-ghost use Rattle.hall_core.specs.Passes.{first_pass, noted};
+ghost use Rattle.hall_core.specs.Passes.{first_pass, pass_noted};
 ghost use Rattle.serve_core.specs.Outside.{sheet_of};
 ghost use Rattle.serve_core.specs.Serving.{HasServedAll, IsUnused};
 ghost use Rattle.serve_core.specs.Text.{closed_text, ready_text, whole_text};
@@ -149,7 +149,7 @@ where
 
 /// The pass, on which it is noted whether memory ran out: before the last write, or at it, which the sink answered so.
 fn noted(pass: HallPass, supply: Supply, sent: Sent) -> HallPass
-    ensures { result ≡ noted (is_short supply sent) pass }
+    ensures { result ≡ pass_noted (is_short supply sent) pass }
 {
     let mut pass = pass;
     pass.note_short(is_short(supply, sent));

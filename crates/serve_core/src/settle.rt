@@ -3,7 +3,7 @@
 ghost use Rattle.std.specs.Prelude.{◌≡◌, ◌≢◌, [], OnSome, vec_len, vec_capacity, ◌<◌, IfSome};
 ghost use Rattle.edge_traits.specs.Door.{IsOut, TakesBack};
 ghost use Rattle.edge_traits.specs.WhereTold.{WhereTold};
-ghost use Rattle.hall_core.specs.Passes.{IsJoined};
+ghost use Rattle.hall_core.specs.Passes.{IsPassJoined};
 ghost use Rattle.serve_core.specs.Keeping.{KeepsLeft, SameHall, Underway, supply_after};
 ghost use Rattle.edge_traits.specs.Calls.{Store};
 ghost use Rattle.serve_core.specs.Tending.{Tended, stand};
@@ -46,7 +46,7 @@ impl<L: Link + Drop, C: Clock> Host<L, C> {
         requires other_here { returned.pass.home ≡ hall.now }
         requires other_not_first { returned.pass.number ≢ 0 }
         requires out { IfSome (D.tale door.old) (IsOut returned.pass.number) }
-        ensures joined { IsJoined self.old.pass returned.pass self.new.pass }
+        ensures joined { IsPassJoined self.old.pass returned.pass self.new.pass }
         ensures back { WhereTold (D.tale door.old) (D.tale door.new) (TakesBack returned.pass.number (record {
           tale = L.tale returned.link;
           faults = L.faults returned.link;

@@ -29,8 +29,8 @@ StopsAfter door_end.Spent count = count ≡ 2 ^ 31
 
 -- why no further link is taken, of so many: the last answer of the door, where it tells, was that it is closed, or a
 -- fault, or the last of 2^31 links
-abbrev pub IsStopped : DoorEnd → ℕ → Option DoorTale → Type 0
-IsStopped why count door = IfSome door (StopsAt why) × StopsAfter why count
+abbrev pub IsDoorStopped : DoorEnd → ℕ → Option DoorTale → Type 0
+IsDoorStopped why count door = IfSome door (StopsAt why) × StopsAfter why count
 
 -- how serving ends: by why no further link is taken, what became of the last write, how the last turn of the steward
 -- ended, and whether memory ran out before that write. A fault of the door comes first, then one of the sink, then one

@@ -6,9 +6,9 @@ use Rattle.one_server.specs.declared.reply.Reply.TheVariants as reply
 use Rattle.session_asks.specs.declared.standing.Standing.{Standing}
 use Rattle.session_asks.specs.declared.standing.Standing.TheVariants.{Login, Password, In}
 
-abbrev pub is_in : Standing → Bool
-is_in (In name) = true
-is_in _ = false
+abbrev pub standing_in : Standing → Bool
+standing_in (In name) = true
+standing_in _ = false
 
 -- the reply says that the session has come in
 abbrev pub is_entered : Reply → Bool

@@ -1,6 +1,6 @@
 //! Who asked to enter.
 ghost use Rattle.std.specs.Prelude.{◌≡◌, false};
-ghost use Rattle.session_asks.specs.Entering.{admitted, is_entered, is_in, password_of};
+ghost use Rattle.session_asks.specs.Entering.{admitted, is_entered, standing_in, password_of};
 
 use crate::standing::Standing;
 use fics_words::Handle;
@@ -10,7 +10,7 @@ use one_server::Reply;
 /// Where a session stands that asked to enter under this name, or as a guest, once it is answered.
 pub fn admitted(name: Option<Handle>, reply: &Reply) -> Standing
     ensures stands { result ≡ admitted name reply.now }
-    ensures inside { is_in result ≡ is_entered reply.now }
+    ensures inside { standing_in result ≡ is_entered reply.now }
 {
     match reply {
         Reply::Lobby(LobbyReply::Entered(name)) => Standing::In(*name),
@@ -22,7 +22,7 @@ pub fn admitted(name: Option<Handle>, reply: &Reply) -> Standing
 /// The password of a handle is asked for; a guest has none.
 fn password_of(name: Option<Handle>) -> Standing
     ensures stands { result ≡ password_of name }
-    ensures outside { is_in result ≡ false }
+    ensures outside { standing_in result ≡ false }
 {
     match name {
         Some(name) => Standing::Password(name),

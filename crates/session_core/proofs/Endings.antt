@@ -27,8 +27,8 @@ use Rattle.session_asks.specs.declared.visit.Visit.{Visit}
 use Rattle.session_core.specs.Course.{Course, Done, Asks, Writes, Follows}
 use Rattle.session_core.specs.Inputs.{asks_to_quit, input_course, is_ack, is_greeting, line_course, line_quits, past_line, quiet_course, refusing, stamp_on, text_course, text_quits}
 use Rattle.session_core.specs.Laws.{EndsWithRound, IsTelling, Telling, entries_of, is_silent}
-use Rattle.session_core.specs.Memory.{MemoryState, has_entered, is_gone, is_in, told}
-use Rattle.session_core.specs.Session.{at_game, behind, clear_at, given_up, round, says_over, visits}
+use Rattle.session_core.specs.Memory.{MemoryState, has_entered, is_gone, is_in, memory_told}
+use Rattle.session_core.specs.Session.{at_game, behind_visit, clear_at, given_up, round, says_over, visits}
 use Rattle.session_core.specs.Visits.{visits_in}
 use Rattle.session_core.proofs.Rounds.{Same, Seen, ToRound, at_round, by_asked, written}
 
@@ -79,8 +79,9 @@ module _ (session moment : ℕ) (after : MemoryState) where
   told_visits [] memory made text f = record { news = []; whole = f.0; each = All-nil IsTelling; games_told = refl }
   told_visits (visit ∷ rest) memory [] text f = absurd f
   told_visits (visit ∷ rest) memory (e ∷ made) text f =
-      told_on visit rest (behind visit (says_over e.reply) memory) e (ap (λ (x : Entry Timed Reply). x.act.act) f.0)
-      (told_visits rest (behind visit (says_over e.reply) memory)) (says_over e.reply) refl made f.1.0 f.1.2
+      told_on visit rest (behind_visit visit (says_over e.reply) memory) e
+      (ap (λ (x : Entry Timed Reply). x.act.act) f.0)
+      (told_visits rest (behind_visit visit (says_over e.reply) memory)) (says_over e.reply) refl made f.1.0 f.1.2
 
   -- entries of a course up to its round, and those of the round
   record Ended (before : MemoryState) (front made : Log) : Type 0 where
@@ -126,7 +127,8 @@ module _ (session moment : ℕ) (after : MemoryState) where
       → Follows (round memory) session moment tail text after → EndsWithRound before made
   round_told before memory front [] made text is seen f = absurd f
   round_told before memory front (asked ∷ tail) made text is seen f =
-      let news = told_visits (visits_in (told memory asked.reply)) (told memory asked.reply) tail f.1.0 f.1.2 in
+      let news =
+      told_visits (visits_in (memory_told memory asked.reply)) (memory_told memory asked.reply) tail f.1.0 f.1.2 in
       record {
         front = front;
         asked = asked;
@@ -135,7 +137,7 @@ module _ (session moment : ℕ) (after : MemoryState) where
         whole = is ∙ ap (λ (l : Log). front ++ asked ∷ l) news.whole;
         asks = ap (λ (x : Entry Timed Reply). x.act.act) f.0;
         each = news.each;
-        games = λ lines places waiting. news.games_told ∙ ap (λ (r : Reply). visits_in (told memory r)) waiting;
+        games = λ lines places waiting. news.games_told ∙ ap (λ (r : Reply). visits_in (memory_told memory r)) waiting;
         still = seen.still;
         only = seen.only;
       }

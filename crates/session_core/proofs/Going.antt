@@ -6,11 +6,11 @@ use Rattle.histories.specs.History.{entry}
 use Rattle.one_server.specs.declared.act.Act.{Act}
 use Rattle.one_server.specs.declared.reply.Reply.{Reply}
 use Rattle.one_server.specs.Running.{IsKnown, Log, Made, Ran, RunnerState}
-use Rattle.session_core.specs.Course.{Course, Done, Asks, Writes, Follows, Begins, timed}
+use Rattle.session_core.specs.Course.{Course, Done, Asks, Writes, Follows, Begins, act_at}
 use Rattle.session_core.specs.Going.{Answered, BrokeOff, Leads, Left, Went, WentOn}
 use Rattle.session_core.specs.Memory.{MemoryState}
 use Rattle.session_core.specs.Remembering.{Remembers}
-use Rattle.session_core.specs.Stages.{Settles, onto, settled}
+use Rattle.session_core.specs.Stages.{Settles, onto, course_settled}
 use Rattle.session_core.proofs.Remembering.{remembers_none, remembers_then}
 use Rattle.one_server.proofs.Made.{made_none, made_then}
 
@@ -26,7 +26,7 @@ same_mark old new entries m = ap (λ (s : RunnerState). s.mark) m.same
 -- ---- courses
 
 leads_ask : (act : Act) (rest : Reply → Course) (session moment : ℕ) (reply : Reply)
-    → Leads (Asks act rest) (rest reply) session moment (entry session (timed moment act) reply ∷ []) []
+    → Leads (Asks act rest) (rest reply) session moment (entry session (act_at moment act) reply ∷ []) []
 leads_ask act rest session moment reply = record { whole = λ more text memory f. (refl, f); part = λ more b. (refl, b) }
 
 leads_same : (course : Course) (session moment : ℕ) → Leads course course session moment [] []
@@ -72,7 +72,7 @@ onto-written out (Asks act rest) = sym (append-nil out)
 onto-written out (Done memory) = sym (append-nil out)
 
 leads_settled : (course : Course) (session moment : ℕ)
-    → Leads course (settled course) session moment [] (written course)
+    → Leads course (course_settled course) session moment [] (written course)
 unfolding written
 leads_settled (Writes put rest) session moment =
     let h = leads_settled rest session moment in
@@ -102,10 +102,10 @@ module _ (moment : ℕ) where
   -- an act was made
   pub went_ask : (act : Act) (rest : Reply → Course) (reply : Reply) (old : RunnerState) (out : List ℕ)
       (new : RunnerState)
-      → Ran old (timed moment act) reply new
+      → Ran old (act_at moment act) reply new
       → Went (Asks act rest) (rest reply) moment old out new out
   went_ask act rest reply old out new ran = record {
-    entries = entry old.number (timed moment act) reply ∷ [];
+    entries = entry old.number (act_at moment act) reply ∷ [];
     put = [];
     grew = ran.grew;
     leads = leads_ask act rest old.number moment reply;
@@ -142,7 +142,7 @@ module _ (moment : ℕ) where
   -- an act was made, and what follows its reply was written
   pub went_on : (act : Act) (rest : Reply → Course) (reply : Reply) (coming : Course) (old : RunnerState) (out : List ℕ)
       (new : RunnerState) (out' : List ℕ)
-      → Ran old (timed moment act) reply new
+      → Ran old (act_at moment act) reply new
       → Settles (rest reply) coming out out' → Went (Asks act rest) coming moment old out new out'
   went_on act rest reply coming old out new out' ran s =
       went_then (Asks act rest) (rest reply) coming old new new out out out' (went_ask act rest reply old out new ran)
@@ -151,7 +151,7 @@ module _ (moment : ℕ) where
   -- an act was made, and what follows its reply was written or ran out of memory
   pub went_asked : {T : Type 0} (act : Act) (rest : Reply → Course) (reply : Reply) (result : Result T NoMemory)
       (coming : T → Course) (old : RunnerState) (out : List ℕ) (new : RunnerState) (out' : List ℕ)
-      → Ran old (timed moment act) reply new → IfOk result (λ next. Settles (rest reply) (coming next) out out')
+      → Ran old (act_at moment act) reply new → IfOk result (λ next. Settles (rest reply) (coming next) out out')
       → IfOk result (λ next. Went (Asks act rest) (coming next) moment old out new out')
   went_asked act rest reply (Ok next) coming old out new out' ran s =
       went_on act rest reply (coming next) old out new out' ran s
@@ -191,8 +191,8 @@ module _ (moment : ℕ) where
   pub on_asked : {T : Type 0} (act : Act) (rest : Reply → Course) (reply : Reply) (result : Result T NoMemory)
       (coming : T → Course) (old : RunnerState) (before : MemoryState) (out : List ℕ) (new : RunnerState)
       (after : MemoryState) (out' : List ℕ)
-      → Ran old (timed moment act) reply new → IfOk result (λ next. Settles (rest reply) (coming next) out out')
-      → Remembers before (entry old.number (timed moment act) reply ∷ []) after
+      → Ran old (act_at moment act) reply new → IfOk result (λ next. Settles (rest reply) (coming next) out out')
+      → Remembers before (entry old.number (act_at moment act) reply ∷ []) after
       → IfOk result (λ next. WentOn (Asks act rest) (coming next) moment old before out new after out')
   unfolding went_on went_then went_ask went_settled
   on_asked act rest reply (Ok next) coming old before out new after out' ran s remembers =
@@ -202,7 +202,7 @@ module _ (moment : ℕ) where
   -- an act was made, and its reply says what follows
   pub on_made : (act : Act) (rest : Reply → Course) (reply : Reply) (old : RunnerState) (before : MemoryState)
       (out : List ℕ) (new : RunnerState) (after : MemoryState)
-      → Ran old (timed moment act) reply new → Remembers before (entry old.number (timed moment act) reply ∷ []) after
+      → Ran old (act_at moment act) reply new → Remembers before (entry old.number (act_at moment act) reply ∷ []) after
       → WentOn (Asks act rest) (rest reply) moment old before out new after out
   unfolding went_ask
   on_made act rest reply old before out new after ran remembers =
@@ -296,8 +296,8 @@ module _ (moment : ℕ) where
   -- running out of memory of what is written behind an act
   pub broke_asked : {T : Type 0} (act : Act) (rest : Reply → Course) (reply : Reply) (result : Result T NoMemory)
       (old : RunnerState) (before : MemoryState) (new : RunnerState) (after : MemoryState)
-      → Ran old (timed moment act) reply new
-      → Remembers before (entry old.number (timed moment act) reply ∷ []) after
+      → Ran old (act_at moment act) reply new
+      → Remembers before (entry old.number (act_at moment act) reply ∷ []) after
       → OnErr result (BrokeOff (Asks act rest) moment old before new after)
   unfolding went_ask
   broke_asked act rest reply (Ok next) old before new after ran remembers = tt

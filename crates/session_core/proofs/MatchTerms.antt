@@ -16,13 +16,13 @@ use Rattle.command_words.specs.declared.aliases.Alias.{Alias}
 use Rattle.command_words.specs.declared.command.Command.{Command}
 use Rattle.command_words.specs.declared.command.Command.TheVariants as command
 use Rattle.command_words.specs.Aliases.{alias_of, expanded, is_alias_name}
-use Rattle.command_words.specs.Blanks.{Words, first_word, rest_of, trimmed, words_of}
-use Rattle.command_words.specs.Commands.{arguments_of, asked, command_after, command_in, command_made, command_of, move_in, move_or}
+use Rattle.command_words.specs.Blanks.{Words, first_word, rest_behind_word, trimmed, words_of}
+use Rattle.command_words.specs.Commands.{arguments_of, command_asked, command_after, command_in, command_made, command_of, move_in, move_or}
 use Rattle.command_words.specs.Match.{challenge, challenge_of, two_twelve}
 use Rattle.chess_model.specs.VariantWord.{IsNumbered}
 use Rattle.command_words.specs.Observe.{observe_from}
 use Rattle.command_words.specs.Seek.{five_nothing}
-use Rattle.command_words.specs.Naming.{named_by}
+use Rattle.command_words.specs.Naming.{takes_named_by}
 use Rattle.command_words.specs.Shapes.{maybe_named, nothing, read_as}
 use Rattle.command_words.specs.declared.rows.Bare.{Bare}
 use Rattle.command_words.specs.declared.rows.Bare.TheVariants.{Quit}
@@ -34,15 +34,15 @@ use Rattle.command_words.specs.declared.rows.OnChannel.TheVariants.{Ask}
 use Rattle.command_words.specs.declared.rows.Takes.{Takes}
 use Rattle.command_words.specs.declared.rows.Takes.TheVariants as takes
 use Rattle.command_words.specs.declared.rows.WithText.TheVariants.{Register}
-use Rattle.command_words.specs.Numbers.{is_no_channel, number_of}
-use Rattle.command_words.specs.Set.{is_on, set_to, setting_of}
+use Rattle.command_words.specs.Numbers.{is_no_channel, number_within}
+use Rattle.command_words.specs.Set.{on_or_off, set_to, setting_of}
 use Rattle.command_words.specs.Tell.{tell_to, telling, telling_to}
 use Rattle.command_words.specs.Takeback.{takeback_from, takeback_of}
-use Rattle.command_words.specs.TermReading.{agreed, terms_of}
+use Rattle.command_words.specs.TermReading.{agreed_terms, terms_of}
 use Rattle.command_words.specs.Unseek.{unseek_of}
-use Rattle.command_words.specs.TermWords.{Spells, SpellsTime, UsualTime, time_of}
+use Rattle.command_words.specs.TermWords.{SpellsTerms, SpellsTime, UsualTime, time_of}
 use Rattle.fics_words.specs.HandleTest.{handle_of}
-use Rattle.command_words.specs.Texts.{is_text}
+use Rattle.command_words.specs.Texts.{is_message_text}
 use Rattle.fics_words.proofs.HandleTests.{at_least}
 use Rattle.command_words.proofs.TermParts.{are_read_as_spelled}
 use Rattle.session_core.specs.Stages.{FitsWay}
@@ -57,10 +57,10 @@ spelled_fits usual words terms few short (inl s) numbered =
 spelled_fits usual words terms few short (inr s) numbered = record {
   minutes =
       subst (λ (n : ℕ). n ≤ 600)
-      (sym (ap (λ (f : Variant → Option Colour → Terms). (f Chess None).minutes) (ap agreed s.1))) few;
+      (sym (ap (λ (f : Variant → Option Colour → Terms). (f Chess None).minutes) (ap agreed_terms s.1))) few;
   increment =
       subst (λ (n : ℕ). n ≤ 600)
-      (sym (ap (λ (f : Variant → Option Colour → Terms). (f Chess None).increment) (ap agreed s.1))) short;
+      (sym (ap (λ (f : Variant → Option Colour → Terms). (f Chess None).increment) (ap agreed_terms s.1))) short;
   numbered = numbered;
 }
 
@@ -74,7 +74,7 @@ FitsCommand (command.TellChannel channel text) = length text ≤ 800
 FitsCommand _ = Unit {0}
 
 -- so its way fits
-way_fits : (asked : Command) → FitsCommand asked → FitsWay (way_of asked)
+way_fits : (command_asked : Command) → FitsCommand command_asked → FitsWay (way_of command_asked)
 way_fits (command.Match name terms) fits = fits
 way_fits (command.Seek terms) fits = fits
 way_fits (command.Tell name text) fits = fits
@@ -97,7 +97,7 @@ FitsAnswer (Err cause) = Unit {0}
 challenge_fits : (name : Option (List ℕ)) (words : Words) (terms : Option Terms) → terms ≡ terms_of two_twelve words
     → FitsAnswer (challenge name terms)
 challenge_fits (Some name) words (Some terms) is =
-    let s : Spells two_twelve words terms = (are_read_as_spelled two_twelve words terms).0 (sym is) in
+    let s : SpellsTerms two_twelve words terms = (are_read_as_spelled two_twelve words terms).0 (sym is) in
     spelled_fits two_twelve s.time terms (search rules) (search rules) s.spells_time s.numbered
 challenge_fits (Some name) words None is = tt
 challenge_fits None words terms is = tt
@@ -120,13 +120,13 @@ read_as_fits made (Some value) fits = fits value
 seeking_fits : (words : Words) (terms : Option Terms) → terms ≡ terms_of five_nothing words
     → FitsAnswer (read_as command.Seek terms)
 seeking_fits words (Some terms) is =
-    let s : Spells five_nothing words terms = (are_read_as_spelled five_nothing words terms).0 (sym is) in
+    let s : SpellsTerms five_nothing words terms = (are_read_as_spelled five_nothing words terms).0 (sym is) in
     spelled_fits five_nothing s.time terms (search rules) (search rules) s.spells_time s.numbered
 seeking_fits words None is = tt
 
 unseek_fits : (rest : List ℕ) → FitsAnswer (unseek_of rest)
 unseek_fits [] = tt
-unseek_fits (b ∷ rest) = read_as_fits _ (number_of 65535 (b ∷ rest)) (λ number. tt)
+unseek_fits (b ∷ rest) = read_as_fits _ (number_within 65535 (b ∷ rest)) (λ number. tt)
 
 takeback_from_fits : (number : Option ℕ) → FitsAnswer (takeback_from number)
 takeback_from_fits None = tt
@@ -134,17 +134,18 @@ takeback_from_fits (Some number) = either_fits (number == 0) (Err BadArguments) 
 
 takeback_fits : (rest : List ℕ) → FitsAnswer (takeback_of rest)
 takeback_fits [] = tt
-takeback_fits (b ∷ rest) = takeback_from_fits (number_of 1200 (b ∷ rest))
+takeback_fits (b ∷ rest) = takeback_from_fits (number_within 1200 (b ∷ rest))
 
 -- a text that was read has at most 800 bytes
-text_short : (text : List ℕ) → is_text text ≡ true → length text ≤ 800
+text_short : (text : List ℕ) → is_message_text text ≡ true → length text ≤ 800
 text_short text e = at_least (length text) 800 (and_parts _ _ (and_parts (nat_le 1 (length text)) _ e).1).0
 
 -- so has what is read of a text
 text_fits : (made : List ℕ → Command) (text : List ℕ) → (length text ≤ 800 → FitsCommand (made text))
-    → FitsAnswer (if is_text text then Ok (made text) else Err BadArguments)
+    → FitsAnswer (if is_message_text text then Ok (made text) else Err BadArguments)
 text_fits made text fits =
-    elim (is_text text) as (λ is. is_text text ≡ is → FitsAnswer (if is then Ok (made text) else Err BadArguments)) [
+    elim (is_message_text text)
+    as (λ is. is_message_text text ≡ is → FitsAnswer (if is then Ok (made text) else Err BadArguments)) [
       | true ↦ λ e. fits (text_short text e)
       | false ↦ λ e. tt
     ] refl
@@ -163,8 +164,8 @@ observe_fits (Some number) handle = tt
 
 tell_fits : (word text : List ℕ) → FitsAnswer (tell_to word text)
 tell_fits word text =
-    either_fits (is_no_channel word) (Err BadChannel) (telling_to (number_of 255 word) word text) tt
-    (telling_to_fits (number_of 255 word) word text)
+    either_fits (is_no_channel word) (Err BadChannel) (telling_to (number_within 255 word) word text) tt
+    (telling_to_fits (number_within 255 word) word text)
 
 set_to_fits : (name : List ℕ) (on : Option Bool) → FitsAnswer (set_to name on)
 set_to_fits name None = tt
@@ -173,7 +174,7 @@ set_to_fits name (Some on) =
     (either_fits (bytes_eq name (codes "shout")) _ _ tt (either_fits (bytes_eq name (codes "seek")) _ _ tt tt))
 
 setting_fits : (words : Words) → FitsAnswer (setting_of words)
-setting_fits (name ∷ value ∷ []) = set_to_fits name (is_on value)
+setting_fits (name ∷ value ∷ []) = set_to_fits name (on_or_off value)
 setting_fits _ = tt
 
 nothing_fits : (which : Bare) (rest : List ℕ) → FitsAnswer (nothing which rest)
@@ -189,31 +190,32 @@ arguments_fit (takes.Nothing which) rest = nothing_fits which rest
 arguments_fit (takes.Name which) rest = read_as_fits (command.ByName which) (handle_of rest) (λ name. tt)
 arguments_fit (takes.MaybeName which) rest = maybe_named_fits which rest
 arguments_fit (takes.Text which) rest = text_fits (command.WithText which) rest (λ short. short)
-arguments_fit (takes.Number which) rest = read_as_fits (command.ByNumber which) (number_of 65535 rest) (λ number. tt)
+arguments_fit (takes.Number which) rest =
+    read_as_fits (command.ByNumber which) (number_within 65535 rest) (λ number. tt)
 arguments_fit (takes.Channel which) rest =
     either_fits (is_no_channel (first_word rest)) (Err BadChannel) _ tt
-    (read_as_fits (command.OnChannel which) (number_of 255 rest) (λ number. tt))
+    (read_as_fits (command.OnChannel which) (number_within 255 rest) (λ number. tt))
 arguments_fit takes.Alias rest =
-    either_fits (is_alias_name (first_word rest) && is_text (rest_of rest))
-    (Ok (command.Alias (first_word rest) (rest_of rest))) (Err BadArguments) tt tt
+    either_fits (is_alias_name (first_word rest) && is_message_text (rest_behind_word rest))
+    (Ok (command.Alias (first_word rest) (rest_behind_word rest))) (Err BadArguments) tt tt
 arguments_fit takes.Challenge rest = challenge_of_fits (words_of rest)
-arguments_fit takes.Look rest = observe_fits (number_of 65535 rest) (handle_of rest)
+arguments_fit takes.Look rest = observe_fits (number_within 65535 rest) (handle_of rest)
 arguments_fit takes.Seek rest = seeking_fits (words_of rest) (terms_of five_nothing (words_of rest)) refl
 arguments_fit takes.Setting rest = setting_fits (words_of rest)
 arguments_fit takes.Style rest =
     either_fits (bytes_eq rest (codes "1")) _ _ tt (either_fits (bytes_eq rest (codes "12")) _ _ tt tt)
 arguments_fit takes.Takeback rest = takeback_fits rest
-arguments_fit takes.Telling rest = tell_fits (first_word rest) (rest_of rest)
+arguments_fit takes.Telling rest = tell_fits (first_word rest) (rest_behind_word rest)
 arguments_fit takes.Unalias rest = either_fits (is_alias_name rest) (Ok (command.Unalias rest)) (Err BadArguments) tt tt
 arguments_fit takes.Unseek rest = unseek_fits rest
 
-asked_fits : (found : Result Takes Refusal) (rest : List ℕ) → FitsAnswer (asked found rest)
+asked_fits : (found : Result Takes Refusal) (rest : List ℕ) → FitsAnswer (command_asked found rest)
 asked_fits (Ok found) rest = arguments_fit found rest
 asked_fits (Err cause) rest = tt
 
 move_fits : (word : Option MoveWord) (text : List ℕ) → FitsAnswer (move_or word text)
 move_fits (Some word) text = tt
-move_fits None text = asked_fits (named_by (map to_ascii_lowercase (first_word text))) (rest_of text)
+move_fits None text = asked_fits (takes_named_by (map to_ascii_lowercase (first_word text))) (rest_behind_word text)
 
 command_fits : (text : List ℕ) → FitsAnswer (command_of text)
 command_fits [] = tt
@@ -225,12 +227,13 @@ made_fits made =
 
 after_fits : (alias : Option Alias) (text : List ℕ) → FitsAnswer (command_after alias text)
 after_fits None text = command_fits text
-after_fits (Some alias) text = made_fits (expanded alias.text (rest_of text))
+after_fits (Some alias) text = made_fits (expanded alias.text (rest_behind_word text))
 
 -- what was read of a line can be asked for
 read_fits : (aliases : List Alias) (line : List ℕ) → FitsAnswer (command_in aliases line)
 read_fits aliases line = after_fits (alias_of aliases (first_word (trimmed line))) (trimmed line)
 
-pub command_read : (aliases : List Alias) (line : List ℕ) (asked : Command) → command_in aliases line ≡ Ok asked
-    → FitsWay (way_of asked)
-command_read aliases line asked is = way_fits asked (subst FitsAnswer is (read_fits aliases line))
+pub command_read : (aliases : List Alias) (line : List ℕ) (command_asked : Command)
+    → command_in aliases line ≡ Ok command_asked
+    → FitsWay (way_of command_asked)
+command_read aliases line command_asked is = way_fits command_asked (subst FitsAnswer is (read_fits aliases line))

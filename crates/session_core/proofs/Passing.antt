@@ -10,7 +10,7 @@ use Rattle.one_server.specs.declared.act.Act.TheVariants.{Lobby, Desk, Pair}
 use Rattle.one_server.specs.Acts.{NeedsNoMemory}
 use Rattle.one_server.specs.declared.reply.Reply.{Reply}
 use Rattle.one_server.specs.Running.{IsKnown, Log, Made, Ran, RunnerState}
-use Rattle.session_core.specs.Course.{Course, Done, Asks, MayPass, Passes, TakesMemory, nothing_told, timed}
+use Rattle.session_core.specs.Course.{Course, Done, Asks, MayPass, Passes, TakesMemory, nothing_told, act_at}
 use Rattle.session_core.specs.Going.{LeftInPart, Passed}
 use Rattle.session_core.specs.Memory.{MemoryState}
 use Rattle.session_core.proofs.Going.{same_mark, same_number}
@@ -42,10 +42,10 @@ module _ (moment : ℕ) where
 
   -- an act was made
   pub passed_made : (act : Act) (rest : Reply → Course) (reply : Reply) (old new : RunnerState)
-      → Ran old (timed moment act) reply new → Passed (Asks act rest) (rest reply) moment old new
+      → Ran old (act_at moment act) reply new → Passed (Asks act rest) (rest reply) moment old new
   passed_made act rest reply old new ran =
       record {
-        entries = entry old.number (timed moment act) reply ∷ [];
+        entries = entry old.number (act_at moment act) reply ∷ [];
         grew = ran.grew;
         passes = λ more p. inl (reply, more, refl, p);
       }

@@ -19,11 +19,11 @@ use Rattle.session_core.specs.declared.input.Input.TheVariants.{Line, Quiet}
 use Rattle.session_asks.specs.declared.standing.LinkMark.TheVariants.{Stamped}
 use Rattle.session_asks.specs.declared.standing.Standing.{Standing}
 use Rattle.session_asks.specs.declared.standing.Standing.TheVariants as standing
-use Rattle.session_core.specs.Course.{Course, Done, Asks, Writes, Follows, timed}
+use Rattle.session_core.specs.Course.{Course, Done, Asks, Writes, Follows, act_at}
 use Rattle.session_core.specs.Inputs.{ack_course, asked_course, asks_to_quit, input_course, is_greeting, is_quit, line_course, line_quits, past_line, quiet_course, refusing, stamp_on, text_course, text_quits}
-use Rattle.session_core.specs.Login.{admitted, entering, entering_named, is_guest, naming, password_of, proving}
-use Rattle.session_core.specs.Memory.{MemoryState, is_gone, is_out, present_in, told}
-use Rattle.session_core.specs.Session.{acked_at, given_up, round, says_over, visits, behind, forgets}
+use Rattle.session_core.specs.Login.{admitted, enter_course, entering_named, is_guest, name_course, password_of, proving}
+use Rattle.session_core.specs.Memory.{MemoryState, is_gone, is_out, present_in, memory_told}
+use Rattle.session_core.specs.Session.{acked_at, given_up, round, says_over, visits, behind_visit, forgets}
 use Rattle.session_core.specs.Visits.{visits_in}
 use Rattle.session_asks.specs.declared.visit.Visit.{Visit}
 use Rattle.session_core.specs.Laws.{places_by}
@@ -51,7 +51,7 @@ never_followed (Asks act rest) session moment [] text after never f = absurd f
 never_followed (Asks act rest) session moment (e ∷ made) text after never f =
     never_followed (rest e.reply) session moment made text after (never e.reply) f.1
 
-stays : (memory : MemoryState) (r : Reply) → is_gone memory ≡ false → is_gone (told memory r) ≡ false
+stays : (memory : MemoryState) (r : Reply) → is_gone memory ≡ false → is_gone (memory_told memory r) ≡ false
 stays memory r here = ap is_out (told_keeps memory r).stands ∙ here
 
 never_given_up : (visit : Visit) (over : Bool) (rest : Course) → NeverGone rest → NeverGone (given_up visit over rest)
@@ -65,7 +65,7 @@ stays_forgetting None desk memory here = here
 stays_forgetting (Some seat) desk memory here = here
 
 stays_behind : (visit : Visit) (over : Bool) (memory : MemoryState) → is_gone memory ≡ false
-    → is_gone (behind visit over memory) ≡ false
+    → is_gone (behind_visit visit over memory) ≡ false
 stays_behind visit true memory here = stays_forgetting visit.seat visit.desk memory here
 stays_behind visit false memory here = here
 
@@ -73,12 +73,13 @@ never_visits : (games : List Visit) (memory : MemoryState) → is_gone memory �
 unfolding NeverGone
 never_visits [] memory here = here
 never_visits (visit ∷ rest) memory here = λ r.
-    never_given_up visit (says_over r) (visits rest (behind visit (says_over r) memory))
-    (never_visits rest (behind visit (says_over r) memory) (stays_behind visit (says_over r) memory here))
+    never_given_up visit (says_over r) (visits rest (behind_visit visit (says_over r) memory))
+    (never_visits rest (behind_visit visit (says_over r) memory) (stays_behind visit (says_over r) memory here))
 
 never_round : (memory : MemoryState) → is_gone memory ≡ false → NeverGone (round memory)
 unfolding NeverGone
-never_round memory here = λ r. never_visits (visits_in (told memory r)) (told memory r) (stays memory r here)
+never_round memory here = λ r.
+    never_visits (visits_in (memory_told memory r)) (memory_told memory r) (stays memory r here)
 
 never_either : (t : Bool) (one other : Course) → NeverGone one → NeverGone other → NeverGone (if t then one else other)
 never_either true one other p q = p
@@ -94,7 +95,7 @@ never_to_round before (Asks act rest) places front (inl h) here =
     let at_round : NeverGone (round h.0) = never_round h.0 (ap is_out h.2.stands ∙ here) in
     subst NeverGone (sym h.1) at_round
 never_to_round before (Asks act rest) places front (inr step) here = λ r.
-    let made : Entry Timed Reply = entry 0 (timed 0 act) r in
+    let made : Entry Timed Reply = entry 0 (act_at 0 act) r in
     never_to_round before (rest r) (places_by places r) (front ++ made ∷ []) (step made refl).1 here
 
 never_asked : (asked : Result Command Refusal) (stamp : Option ℕ) (memory : MemoryState) → is_gone memory ≡ false
@@ -112,7 +113,7 @@ admitted_in name (reply.Lobby (lobby_reply.Entered given)) = refl
 admitted_in name (reply.Lobby lobby_reply.NeedPassword) = password_in name
 admitted_in name _ = refl
 
-never_entering : (name digest : Option (List ℕ)) (memory : MemoryState) → NeverGone (entering name digest memory)
+never_entering : (name digest : Option (List ℕ)) (memory : MemoryState) → NeverGone (enter_course name digest memory)
 unfolding NeverGone
 never_entering name digest memory = λ r. admitted_in name r
 
@@ -121,11 +122,11 @@ unfolding NeverGone
 never_named None memory = refl
 never_named (Some name) memory = never_entering (Some name) None memory
 
-never_naming : (text : List ℕ) (memory : MemoryState) → is_gone memory ≡ false → NeverGone (naming text memory)
+never_naming : (text : List ℕ) (memory : MemoryState) → is_gone memory ≡ false → NeverGone (name_course text memory)
 unfolding NeverGone
 never_naming [] memory here = here
 never_naming (b ∷ text) memory here =
-    never_either (is_guest (b ∷ text)) (entering None None memory) (entering_named (handle_of (b ∷ text)) memory)
+    never_either (is_guest (b ∷ text)) (enter_course None None memory) (entering_named (handle_of (b ∷ text)) memory)
     (never_entering None None memory) (never_named (handle_of (b ∷ text)) memory)
 
 never_proving : (name text : List ℕ) (memory : MemoryState) → is_gone memory ≡ false
@@ -163,7 +164,7 @@ unfolding NeverGone
 never_ack stamp standing.Login memory here = here
 never_ack stamp (standing.Password name) memory here = here
 never_ack stamp (standing.In name) memory here = λ r.
-    never_acked stamp (present_in (told memory r)) (told memory r) (stays memory r here)
+    never_acked stamp (present_in (memory_told memory r)) (memory_told memory r) (stays memory r here)
 never_ack stamp standing.Gone memory here = here
 
 never_line : (line : Incoming) (memory : MemoryState) → is_gone memory ≡ false → line_quits line memory ≡ false

@@ -27,11 +27,11 @@ use Rattle.one_server.specs.Running.{Log}
 use Rattle.session_core.specs.declared.stage.Stage.{Stage}
 use Rattle.session_core.specs.declared.stage.Stage.TheVariants as stage
 use Rattle.session_asks.specs.declared.visit.Visit.{Visit}
-use Rattle.session_core.specs.Course.{timed}
-use Rattle.session_core.specs.Laws.{LooksAway, acts_of, places_by}
-use Rattle.session_core.specs.Memory.{MemoryState, has_entered, told, without_observed}
+use Rattle.session_core.specs.Course.{act_at}
+use Rattle.session_core.specs.Laws.{LooksAway, acts_made, places_by}
+use Rattle.session_core.specs.Memory.{MemoryState, has_entered, memory_told, without_observed}
 use Rattle.session_core.specs.Remembering.{IsOver, LooksOn, Remembers, WasShown, any_entered, asks_places, is_entered, places_told, shows_game}
-use Rattle.session_core.specs.Session.{at_game, at_place, behind, forgets, says_over, watched}
+use Rattle.session_core.specs.Session.{at_game, at_place, behind_visit, forgets, says_over, watched}
 use Rattle.session_core.specs.Stages.{Suits, is_done, kept, kept_behind}
 use Rattle.session_core.proofs.Rounds.{told_keeps, told_places}
 use Rattle.simul_control.specs.declared.place.Place.{Place}
@@ -71,7 +71,8 @@ forgets_entered : (seat : Option ℕ) (desk : ℕ) (memory : MemoryState)
 forgets_entered None desk memory = refl
 forgets_entered (Some seat) desk memory = refl
 
-behind_places : (visit : Visit) (over : Bool) (memory : MemoryState) → (behind visit over memory).places ≡ memory.places
+behind_places : (visit : Visit) (over : Bool) (memory : MemoryState)
+    → (behind_visit visit over memory).places ≡ memory.places
 behind_places visit true memory = forgets_places visit.seat visit.desk memory
 behind_places visit false memory = refl
 
@@ -110,7 +111,7 @@ away_left one two place h = (
   h.0,
   subst (λ (l : List Act). Contains l (one_act.Desk place.desk h.0 desk_act.Unwatch))
       (sym (map-append (λ (e : Entry Timed Reply). e.act.act) one two))
-      (Contains-append_left (acts_of one) (acts_of two) _ h.1),
+      (Contains-append_left (acts_made one) (acts_made two) _ h.1),
 )
 
 away_right : (one two : Log) (place : Place) → LooksAway two place → LooksAway (one ++ two) place
@@ -118,7 +119,7 @@ away_right one two place h = (
   h.0,
   subst (λ (l : List Act). Contains l (one_act.Desk place.desk h.0 desk_act.Unwatch))
       (sym (map-append (λ (e : Entry Timed Reply). e.act.act) one two))
-      (Contains-append_right (acts_of one) (acts_of two) _ h.1),
+      (Contains-append_right (acts_made one) (acts_made two) _ h.1),
 )
 
 -- it looks on no longer
@@ -196,14 +197,14 @@ looks_without desk rows made ends = record {
 
 module _ (session moment : ℕ) (act : Act) (r : Reply) (memory : MemoryState) where
   abbrev made : Log
-  made = entry session (timed moment act) r ∷ []
+  made = entry session (act_at moment act) r ∷ []
 
   looks_watched : (answer : Reply) (place : Place) → r ≡ answer → act ≡ at_place place desk_act.Watch
       → LooksOn memory.observed.rows made (watched place answer memory).observed.rows
   looks_watched (reply.Desk (desk_reply.Items items over)) place replied is =
       one_more (holds_most memory.observed) place memory.observed made (
-        entry session (timed moment act) r,
-        Contains-push [] (entry session (timed moment act) r),
+        entry session (act_at moment act) r,
+        Contains-push [] (entry session (act_at moment act) r),
         is,
         ap shows_game replied,
       )
@@ -220,9 +221,9 @@ module _ (session moment : ℕ) (act : Act) (r : Reply) (memory : MemoryState) w
   looks_over : (seat : Option ℕ) (desk serial : ℕ) → act ≡ one_act.Desk desk serial desk_act.Fetch → says_over r ≡ true
       → LooksOn memory.observed.rows made (forgets seat desk memory).observed.rows
   looks_over None desk serial is over = looks_without desk memory.observed.rows made (λ row same. inr (
-    entry session (timed moment act) r,
+    entry session (act_at moment act) r,
     serial,
-    Contains-push [] (entry session (timed moment act) r),
+    Contains-push [] (entry session (act_at moment act) r),
     is ∙ ap (λ (d : ℕ). one_act.Desk d serial desk_act.Fetch) same,
     over,
   ))
@@ -235,13 +236,13 @@ module _ (session moment : ℕ) (act : Act) (r : Reply) (memory : MemoryState) w
 
   looks_visited : (visit : Visit) (over : Bool) → (over ≡ true → says_over r ≡ true)
       → act ≡ at_game visit desk_act.Fetch
-      → LooksOn memory.observed.rows made (behind visit over memory).observed.rows
+      → LooksOn memory.observed.rows made (behind_visit visit over memory).observed.rows
   looks_visited visit true over is = looks_over visit.seat visit.desk visit.serial is (over refl)
   looks_visited visit false over is = looks_same memory.observed.rows memory.observed.rows made refl
 
-  looks_told : LooksOn memory.observed.rows made (told memory r).observed.rows
+  looks_told : LooksOn memory.observed.rows made (memory_told memory r).observed.rows
   looks_told =
-      looks_same memory.observed.rows (told memory r).observed.rows made
+      looks_same memory.observed.rows (memory_told memory r).observed.rows made
       (ap (λ (l : PlaceList). l.rows) (told_keeps memory r).looks)
 
   looks_kept : (at : Stage) → Suits act at → LooksOn memory.observed.rows made (kept at memory r).observed.rows
@@ -258,7 +259,7 @@ module _ (session moment : ℕ) (act : Act) (r : Reply) (memory : MemoryState) w
   -- what it remembers behind the reply to the act at which it stands
   pub remembers_kept : (at : Stage) (after : MemoryState) → Suits act at → after ≡ kept at memory r
       → has_entered after ≡ (has_entered memory || is_entered r)
-      → Remembers memory (entry session (timed moment act) r ∷ []) after
+      → Remembers memory (entry session (act_at moment act) r ∷ []) after
   remembers_kept at after suits is inside = record {
     inside = inside ∙ ap (λ (b : Bool). has_entered memory || b) (sym (or-false (is_entered r)));
     places = ap (λ (m : MemoryState). m.places) is ∙ places_kept memory r at act suits;
@@ -267,20 +268,20 @@ module _ (session moment : ℕ) (act : Act) (r : Reply) (memory : MemoryState) w
   }
 
   -- and behind a visit
-  entered_still : (over : Bool) (visit : Visit) → has_entered (behind visit over memory) ≡ has_entered memory
+  entered_still : (over : Bool) (visit : Visit) → has_entered (behind_visit visit over memory) ≡ has_entered memory
   entered_still true visit = forgets_entered visit.seat visit.desk memory
   entered_still false visit = refl
 
   pub remembers_visited : {T : Type 0} (visit : Visit) (result : Result T NoMemory) (after : MemoryState)
       → act ≡ at_game visit desk_act.Fetch
       → after ≡ kept_behind visit result memory r → has_entered memory ≡ true
-      → Remembers memory (entry session (timed moment act) r ∷ []) after
+      → Remembers memory (entry session (act_at moment act) r ∷ []) after
   remembers_visited visit result after fetches is inside =
       let over = is_done result && says_over r in
       record {
         inside =
             ap has_entered is ∙ entered_still over visit ∙ inside
-            ∙ sym (ap (λ (b : Bool). b || any_entered (entry session (timed moment act) r ∷ [])) inside);
+            ∙ sym (ap (λ (b : Bool). b || any_entered (entry session (act_at moment act) r ∷ [])) inside);
         places =
             ap (λ (m : MemoryState). m.places) is ∙ behind_places visit over memory
             ∙ sym (not_asked memory r act (ap asks_places fetches));
@@ -291,9 +292,9 @@ module _ (session moment : ℕ) (act : Act) (r : Reply) (memory : MemoryState) w
 
   -- and behind an act that tells nothing of where it is
   pub remembers_silent : asks_places act ≡ false → has_entered memory ≡ true
-      → Remembers memory (entry session (timed moment act) r ∷ []) memory
+      → Remembers memory (entry session (act_at moment act) r ∷ []) memory
   remembers_silent silent inside = record {
-    inside = inside ∙ sym (ap (λ (b : Bool). b || any_entered (entry session (timed moment act) r ∷ [])) inside);
+    inside = inside ∙ sym (ap (λ (b : Bool). b || any_entered (entry session (act_at moment act) r ∷ [])) inside);
     places = sym (not_asked memory r act silent);
     looks = looks_same memory.observed.rows memory.observed.rows made refl;
   }

@@ -33,11 +33,11 @@ use Rattle.session_core.specs.declared.reaction.Reaction.{Reaction}
 use Rattle.session_core.specs.declared.reaction.Reaction.TheVariants.{Accepting, Declining}
 use Rattle.session_core.specs.Course.{Course, Done, Asks, Writes, next_act}
 use Rattle.session_core.specs.Inputs.{asked_course, is_quit}
-use Rattle.session_core.specs.Laws.{LooksAway, LooksThere, acts_of, is_move, places_by}
-use Rattle.session_core.specs.Memory.{MemoryState, is_full, observed_at, present_in, remark_place, told, without_observed}
+use Rattle.session_core.specs.Laws.{LooksAway, LooksThere, acts_made, is_played_move, places_by}
+use Rattle.session_core.specs.Memory.{MemoryState, looks_on_at_most, observed_at, present_in, remark_place, memory_told, without_observed}
 use Rattle.session_core.specs.OwnCommands.{own_answer}
 use Rattle.session_core.specs.Reactions.{in_lobby, of_desk, says_no_offer}
-use Rattle.session_core.specs.Session.{answered, at_place, at_present, finding, is_accepted, moving_at, reacting_at, remark_of, round, to_desk, to_move, to_observe, to_react, to_remark, to_server, turns, unobserved, watched, way_course}
+use Rattle.session_core.specs.Session.{course_behind, at_place, at_present, finding, is_accepted, moving_at, reacting_at, remark_of, round, to_desk, half_move_course, to_observe, to_react, to_remark, to_server, turns, unobserved, watched, way_course}
 use Rattle.session_core.specs.Texts.{refusal_line}
 use Rattle.session_core.specs.Ways.{way_of}
 use Rattle.session_core.specs.declared.own_commands.OwnCommand.{OwnCommand}
@@ -52,17 +52,17 @@ pub record Same (before memory : MemoryState) : Type 0 where
   pub stands : memory.standing ≡ before.standing
   pub looks : memory.observed ≡ before.observed
 
-pub told_keeps : (memory : MemoryState) (r : Reply) → Same memory (told memory r)
+pub told_keeps : (memory : MemoryState) (r : Reply) → Same memory (memory_told memory r)
 told_keeps memory (reply.Lobby (lobby_reply.Places places)) = record { stands = refl; looks = refl }
 told_keeps memory (reply.Lobby (lobby_reply.Waiting lines places)) = record { stands = refl; looks = refl }
 told_keeps memory _ = record { stands = refl; looks = refl }
 
-told_same : (before memory : MemoryState) (r : Reply) → Same before memory → Same before (told memory r)
+told_same : (before memory : MemoryState) (r : Reply) → Same before memory → Same before (memory_told memory r)
 told_same before memory r s =
     let kept = told_keeps memory r in
     record { stands = kept.stands ∙ s.stands; looks = kept.looks ∙ s.looks }
 
-pub told_places : (memory : MemoryState) (r : Reply) → (told memory r).places ≡ places_by memory.places r
+pub told_places : (memory : MemoryState) (r : Reply) → (memory_told memory r).places ≡ places_by memory.places r
 told_places memory (reply.Lobby (lobby_reply.Places places)) = refl
 told_places memory (reply.Lobby (lobby_reply.Waiting lines places)) = refl
 told_places memory _ = refl
@@ -94,10 +94,11 @@ seen_same before memory front s = record {
 -- behind an accepted half-move of a giver the next place comes
 abbrev pub Behind : Act → PlaceList → Reply → Course → Type 0
 Behind act places r next =
-    is_move act ≡ true → is_accepted r ≡ true → places.giving ≡ true
+    is_played_move act ≡ true → is_accepted r ≡ true → places.giving ≡ true
     → next_act next [] ≡ Some (one_act.Lobby lobby_act.SimNext)
 
-no_move : (act : Act) (places : PlaceList) (r : Reply) (next : Course) → is_move act ≡ false → Behind act places r next
+no_move : (act : Act) (places : PlaceList) (r : Reply) (next : Course) → is_played_move act ≡ false
+    → Behind act places r next
 no_move act places r next stays = λ move _ _. let bad : false ≡ true = sym stays ∙ move in cc
 
 module _ (before : MemoryState) where
@@ -143,7 +144,7 @@ module _ (before : MemoryState) where
   after_text text rest places front h = h
 
   -- an act that is no half-move
-  asking : (act : Act) (rest : Reply → Course) (places : PlaceList) (front : Log) → is_move act ≡ false
+  asking : (act : Act) (rest : Reply → Course) (places : PlaceList) (front : Log) → is_played_move act ≡ false
       → ((e : Entry Timed Reply) → e.act.act ≡ act
       → ToRound (places_by places e.reply) (front ++ e ∷ []) (rest e.reply))
       → ToRound places front (Asks act rest)
@@ -155,34 +156,34 @@ module _ (before : MemoryState) where
   either true one other places front p q = p
   either false one other places front p q = q
 
-  by_server : (act : Act) (memory : MemoryState) (places : PlaceList) (front : Log) → is_move act ≡ false
+  by_server : (act : Act) (memory : MemoryState) (places : PlaceList) (front : Log) → is_played_move act ≡ false
       → Same before memory → ToRound places front (to_server act memory)
   by_server act memory places front stays s =
-      asking act (λ r. answered r memory) places front stays (λ e is. written _ memory _ _ s)
+      asking act (λ r. course_behind r memory) places front stays (λ e is. written _ memory _ _ s)
 
   by_present : (act : DeskAct) (place : Option Place) (memory : MemoryState) (places : PlaceList) (front : Log)
-      → ((at : Place) → is_move (at_place at act) ≡ false)
+      → ((at : Place) → is_played_move (at_place at act) ≡ false)
       → Same before memory → ToRound places front (at_present act place memory)
   by_present act None memory places front stays s = written _ memory places front s
   by_present act (Some place) memory places front stays s =
       asking _ _ places front (stays place) (λ e is. written _ memory _ _ s)
 
   by_desk : (act : DeskAct) (memory : MemoryState) (places : PlaceList) (front : Log)
-      → ((at : Place) → is_move (at_place at act) ≡ false)
+      → ((at : Place) → is_played_move (at_place at act) ≡ false)
       → Same before memory → ToRound places front (to_desk act memory)
   by_desk act memory places front stays s =
       asking _ _ places front refl
       (λ e is.
-      by_present act (present_in (told memory e.reply)) (told memory e.reply) _ _ stays
+      by_present act (present_in (memory_told memory e.reply)) (memory_told memory e.reply) _ _ stays
       (told_same before memory e.reply s))
 
   by_remark : (act : DeskAct) (memory : MemoryState) (places : PlaceList) (front : Log)
-      → ((at : Place) → is_move (at_place at act) ≡ false)
+      → ((at : Place) → is_played_move (at_place at act) ≡ false)
       → Same before memory → ToRound places front (to_remark act memory)
   by_remark act memory places front stays s =
       asking _ _ places front refl
       (λ e is.
-      by_present act (remark_place (told memory e.reply)) (told memory e.reply) _ _ stays
+      by_present act (remark_place (memory_told memory e.reply)) (memory_told memory e.reply) _ _ stays
       (told_same before memory e.reply s))
 
   -- a half-move, behind which a giver goes on
@@ -210,19 +211,19 @@ module _ (before : MemoryState) where
 
   by_move : (word : MoveWord) (stamp : Option ℕ) (memory : MemoryState) (places : PlaceList) (front : Log)
       → memory.places ≡ places
-      → Same before memory → ToRound places front (to_move word stamp memory)
+      → Same before memory → ToRound places front (half_move_course word stamp memory)
   by_move word stamp memory places front known s =
       asking _ _ places front refl
-      (λ e is. by_moving word stamp (present_in (told memory e.reply)) (told memory e.reply) _ _
+      (λ e is. by_moving word stamp (present_in (memory_told memory e.reply)) (memory_told memory e.reply) _ _
       (told_places memory e.reply ∙ ap (λ (l : PlaceList). places_by l e.reply) known)
       (told_same before memory e.reply s))
 
   -- an offer is accepted or declined
-  lobby_no_move : (reaction : Reaction) → is_move (in_lobby reaction) ≡ false
+  lobby_no_move : (reaction : Reaction) → is_played_move (in_lobby reaction) ≡ false
   lobby_no_move Accepting = refl
   lobby_no_move Declining = refl
 
-  desk_no_move : (reaction : Reaction) (place : Place) → is_move (at_place place (of_desk reaction)) ≡ false
+  desk_no_move : (reaction : Reaction) (place : Place) → is_played_move (at_place place (of_desk reaction)) ≡ false
   desk_no_move Accepting place = refl
   desk_no_move Declining place = refl
 
@@ -233,7 +234,7 @@ module _ (before : MemoryState) where
       by_server (in_lobby reaction) memory places front (lobby_no_move reaction) s
   by_reacting reaction (Some place) memory places front s =
       asking _ _ places front (desk_no_move reaction place) (λ e is.
-      either (says_no_offer e.reply) (to_server (in_lobby reaction) memory) (answered e.reply memory) _ _
+      either (says_no_offer e.reply) (to_server (in_lobby reaction) memory) (course_behind e.reply memory) _ _
       (by_server (in_lobby reaction) memory _ _ (lobby_no_move reaction) s) (written _ memory _ _ s))
 
   by_react : (reaction : Reaction) (memory : MemoryState) (places : PlaceList) (front : Log) → Same before memory
@@ -241,12 +242,12 @@ module _ (before : MemoryState) where
   by_react reaction memory places front s =
       asking _ _ places front refl
       (λ e is.
-      by_reacting reaction (present_in (told memory e.reply)) (told memory e.reply) _ _
+      by_reacting reaction (present_in (memory_told memory e.reply)) (memory_told memory e.reply) _ _
       (told_same before memory e.reply s))
 
   -- what was made contains its last act
   made_last : (front : Log) (e : Entry Timed Reply) (act : Act) → e.act.act ≡ act
-      → Contains (acts_of (front ++ e ∷ [])) act
+      → Contains (acts_made (front ++ e ∷ [])) act
   made_last [] e act is = (0, omega arith, is)
   made_last (first ∷ front) e act is =
       let later = made_last front e act is in
@@ -301,25 +302,25 @@ module _ (before : MemoryState) where
   by_observe : (act : LobbyAct) (memory : MemoryState) (places : PlaceList) (front : Log) → Same before memory
       → ToRound places front (to_observe act memory)
   by_observe act memory places front s =
-      either (is_full memory) (Writes (refusal_line refusal.ListFull) (round memory))
+      either (looks_on_at_most memory) (Writes (refusal_line refusal.ListFull) (round memory))
       (Asks (one_act.Lobby act) (λ r. finding r memory)) places front
       (written _ memory places front s) (asking _ _ places front refl (λ e is. by_finding e.reply memory _ _ s))
 
   -- looking on at no game of this desk
   away_or_there : (t : Bool) (place row : Place) (rows : List Place) (front : Log) → (row.desk == place.desk) ≡ t
-      → Contains (acts_of front) (at_place place desk_act.Unwatch) → Contains rows row
+      → Contains (acts_made front) (at_place place desk_act.Unwatch) → Contains rows row
       → LooksAway front row ⊎ Contains (filter (is_elsewhere place.desk) rows) row
   away_or_there true place row rows front is away there =
       inl (
         place.serial,
-        subst (λ (desk : ℕ). Contains (acts_of front) (one_act.Desk desk place.serial desk_act.Unwatch))
+        subst (λ (desk : ℕ). Contains (acts_made front) (one_act.Desk desk place.serial desk_act.Unwatch))
             (sym (eqb-true row.desk place.desk is)) away,
       )
   away_or_there false place row rows front is away there =
       inr (Contains-filter (is_elsewhere place.desk) rows row (ap not is) there)
 
   seen_without : (place : Place) (memory : MemoryState) (front : Log)
-      → Contains (acts_of front) (at_place place desk_act.Unwatch) → Same before memory
+      → Contains (acts_made front) (at_place place desk_act.Unwatch) → Same before memory
       → Seen before (without_observed place.desk memory) front
   seen_without place memory front away s = record {
     stands = s.stands;

@@ -28,10 +28,10 @@ use Rattle.session_asks.specs.declared.standing.Standing.TheVariants as standing
 use Rattle.session_asks.specs.declared.visit.Visit.{Visit}
 use Rattle.session_core.specs.Course.{Course, Done, Asks, Writes, Follows, next_act}
 use Rattle.session_core.specs.Inputs.{ack_course, asked_course, input_course, is_greeting, line_course, past_line, quiet_course, refusing, stamp_on, text_course}
-use Rattle.session_core.specs.Laws.{IsOfLogin, TurnsBehind, asks_to_enter, first_act, is_move, places_after, places_by}
-use Rattle.session_core.specs.Login.{entering, entering_named, is_guest, naming, proving}
-use Rattle.session_core.specs.Memory.{MemoryState, has_entered, is_in, present_in, told}
-use Rattle.session_core.specs.Session.{acked_at, behind, given_up, is_accepted, leave_games, leaving_course, round, says_over, visits}
+use Rattle.session_core.specs.Laws.{IsOfLogin, TurnsBehind, asks_to_enter, first_act, is_played_move, places_after, places_by}
+use Rattle.session_core.specs.Login.{enter_course, entering_named, is_guest, name_course, proving}
+use Rattle.session_core.specs.Memory.{MemoryState, has_entered, is_in, present_in, memory_told}
+use Rattle.session_core.specs.Session.{acked_at, behind_visit, given_up, is_accepted, leave_games, leaving_course, round, says_over, visits}
 use Rattle.session_core.specs.Visits.{visits_in}
 use Rattle.session_core.proofs.Rounds.{Same, ToRound, at_round, by_asked, written}
 use Rattle.sha2.specs.Sha256.{sha256}
@@ -41,7 +41,7 @@ use Rattle.simul_control.specs.declared.place.Place.{Place}
 NoMoves : Course → Type 0
 NoMoves (Done memory) = Unit {0}
 NoMoves (Writes text rest) = NoMoves rest
-NoMoves (Asks act rest) = (is_move act ≡ false) × ((r : Reply) → NoMoves (rest r))
+NoMoves (Asks act rest) = (is_played_move act ≡ false) × ((r : Reply) → NoMoves (rest r))
 
 -- the course makes no act
 NoActs : Course → Type 0
@@ -57,12 +57,12 @@ OneAct (Asks act rest) = (asks_to_enter act ≡ true) × ((r : Reply) → NoActs
 
 module _ (session moment : ℕ) (after : MemoryState) where
   none_moves : (course : Course) (front later : Log) (e : Entry Timed Reply) (text : List ℕ) → NoMoves course
-      → Follows course session moment (front ++ e ∷ later) text after → is_move e.act.act ≡ false
+      → Follows course session moment (front ++ e ∷ later) text after → is_played_move e.act.act ≡ false
   unfolding NoMoves
   none_moves (Done memory) [] later e text h f = let bad = f.0 in absurd cc
   none_moves (Done memory) (x ∷ front) later e text h f = let bad = f.0 in absurd cc
   none_moves (Writes put rest) front later e text h f = none_moves rest front later e f.0 h f.2
-  none_moves (Asks act rest) [] later e text h f = ap (λ (x : Entry Timed Reply). is_move x.act.act) f.0 ∙ h.0
+  none_moves (Asks act rest) [] later e text h f = ap (λ (x : Entry Timed Reply). is_played_move x.act.act) f.0 ∙ h.0
   none_moves (Asks act rest) (x ∷ front) later e text h f =
       none_moves (rest x.reply) front later e text (h.1 x.reply) f.1
 
@@ -109,13 +109,13 @@ still_visits [] memory = tt
 still_visits (visit ∷ rest) memory = (
   refl,
   λ r.
-      still_given_up visit (says_over r) (visits rest (behind visit (says_over r) memory))
-      (still_visits rest (behind visit (says_over r) memory)),
+      still_given_up visit (says_over r) (visits rest (behind_visit visit (says_over r) memory))
+      (still_visits rest (behind_visit visit (says_over r) memory)),
 )
 
 still_round : (memory : MemoryState) → NoMoves (round memory)
 unfolding NoMoves
-still_round memory = (refl, λ r. still_visits (visits_in (told memory r)) (told memory r))
+still_round memory = (refl, λ r. still_visits (visits_in (memory_told memory r)) (memory_told memory r))
 
 still_leave : (games : List Visit) (memory : MemoryState) → NoMoves (leave_games games memory)
 unfolding NoMoves
@@ -124,7 +124,7 @@ still_leave (visit ∷ rest) memory = (refl, λ r. (refl, λ q. still_leave rest
 
 still_leaving : (memory : MemoryState) → NoMoves (leaving_course memory)
 unfolding NoMoves
-still_leaving memory = (refl, λ r. still_leave (visits_in (told memory r)) (told memory r))
+still_leaving memory = (refl, λ r. still_leave (visits_in (memory_told memory r)) (memory_told memory r))
 
 -- no act of the login
 still_none : (course : Course) → NoActs course → NoMoves course
@@ -133,7 +133,7 @@ still_none (Done memory) h = tt
 still_none (Writes text rest) h = still_none rest h
 still_none (Asks act rest) h = absurd h
 
-enters_not : (act : Act) → asks_to_enter act ≡ true → is_move act ≡ false
+enters_not : (act : Act) → asks_to_enter act ≡ true → is_played_move act ≡ false
 enters_not (one_act.Desk desk serial act) h = let bad : false ≡ true = h in cc
 enters_not _ h = refl
 
@@ -147,7 +147,7 @@ one_either : (t : Bool) (one other : Course) → OneAct one → OneAct other →
 one_either true one other p q = p
 one_either false one other p q = q
 
-one_entering : (name digest : Option (List ℕ)) (memory : MemoryState) → OneAct (entering name digest memory)
+one_entering : (name digest : Option (List ℕ)) (memory : MemoryState) → OneAct (enter_course name digest memory)
 unfolding OneAct NoActs
 one_entering name digest memory = (refl, λ r. tt)
 
@@ -156,11 +156,11 @@ unfolding OneAct
 one_named None memory = tt
 one_named (Some name) memory = one_entering (Some name) None memory
 
-one_naming : (text : List ℕ) (memory : MemoryState) → OneAct (naming text memory)
+one_naming : (text : List ℕ) (memory : MemoryState) → OneAct (name_course text memory)
 unfolding OneAct
 one_naming [] memory = tt
 one_naming (b ∷ text) memory =
-    one_either (is_guest (b ∷ text)) (entering None None memory) (entering_named (handle_of (b ∷ text)) memory)
+    one_either (is_guest (b ∷ text)) (enter_course None None memory) (entering_named (handle_of (b ∷ text)) memory)
     (one_entering None None memory) (one_named (handle_of (b ∷ text)) memory)
 
 one_proving : (name text : List ℕ) (memory : MemoryState) → OneAct (proving name text memory)
@@ -259,7 +259,7 @@ module _ (before : MemoryState) where
   still_ack : (stamp : ℕ) (at : Standing) (memory : MemoryState) → NoMoves (ack_course stamp at memory)
   unfolding NoMoves
   still_ack stamp (standing.In name) memory =
-      (refl, λ r. still_acked stamp (present_in (told memory r)) (told memory r))
+      (refl, λ r. still_acked stamp (present_in (memory_told memory r)) (memory_told memory r))
   still_ack stamp _ memory = tt
 
   fits_line : (line : Incoming) (memory : MemoryState) → memory.places ≡ before.places → Same before memory
@@ -295,7 +295,7 @@ module _ (before : MemoryState) where
   turns_behind : (session moment : ℕ) (after : MemoryState) (course : Course) (places : PlaceList)
       (done front later : Log) (e : Entry Timed Reply) (text : List ℕ)
       → ToRound before places done course → Follows course session moment (front ++ e ∷ later) text after
-      → is_move e.act.act ≡ true → is_accepted e.reply ≡ true → (places_after places front).giving ≡ true
+      → is_played_move e.act.act ≡ true → is_accepted e.reply ≡ true → (places_after places front).giving ≡ true
       → first_act later ≡ Some (one_act.Lobby lobby_act.SimNext)
   unfolding ToRound
   turns_behind session moment after (Done memory) places done front later e text h f move accepted gives = absurd h
@@ -309,7 +309,7 @@ module _ (before : MemoryState) where
       let is = ap (λ (x : Entry Timed Reply). x.act.act) f.0 in
       let next = step e is in
       first_made session moment after (rest e.reply) (one_act.Lobby lobby_act.SimNext) later text
-      (next.0 (sym (ap is_move is) ∙ move) accepted gives) f.1
+      (next.0 (sym (ap is_played_move is) ∙ move) accepted gives) f.1
   turns_behind session moment after (Asks act rest) places done (x ∷ front) later e text (inr step) f move accepted
       gives =
       turns_behind session moment after (rest x.reply) (places_by places x.reply) (done ++ x ∷ []) front later e text
@@ -318,7 +318,7 @@ module _ (before : MemoryState) where
   turns_fitting : (session moment : ℕ) (after : MemoryState) (course : Course) (front later : Log)
       (e : Entry Timed Reply) (text : List ℕ)
       → Fits course → Follows course session moment (front ++ e ∷ later) text after
-      → is_move e.act.act ≡ true → is_accepted e.reply ≡ true → (places_after before.places front).giving ≡ true
+      → is_played_move e.act.act ≡ true → is_accepted e.reply ≡ true → (places_after before.places front).giving ≡ true
       → first_act later ≡ Some (one_act.Lobby lobby_act.SimNext)
   turns_fitting session moment after course front later e text (inl h) f move accepted gives =
       turns_behind session moment after course before.places [] front later e text h f move accepted gives

@@ -6,18 +6,19 @@ use Rattle.memory.specs.declared.NoMemory.{NoMemory}
 use Rattle.one_server.specs.declared.reply.Reply.{Reply}
 use Rattle.one_server.specs.Running.{Ran, RunnerState}
 use Rattle.session_asks.specs.declared.visit.Visit.{Visit}
-use Rattle.session_core.specs.Course.{Course, Writes, timed}
+use Rattle.session_core.specs.Course.{Course, Writes, act_at}
 use Rattle.session_core.specs.Going.{BrokeOff, WentOn}
 use Rattle.session_core.specs.Memory.{MemoryState, has_entered, reader_in}
-use Rattle.session_core.specs.Session.{at_game, behind, given_up, rounding, says_over, visits}
-use Rattle.session_core.specs.Stages.{Settles, kept_behind, onto, settled}
+use Rattle.session_core.specs.Session.{at_game, behind_visit, given_up, rounding, says_over, visits}
+use Rattle.session_core.specs.Stages.{Settles, kept_behind, onto, course_settled}
 use Rattle.session_core.specs.Texts.{news_text}
 use Rattle.session_core.specs.Visits.{visits_in}
 use Rattle.session_core.proofs.Going.{broke_after, broke_asked, on_after, on_asked}
 use Rattle.session_core.proofs.Remembering.{remembers_visited}
 
 -- visits write nothing before their first act
-settled_visits : (games : List Visit) (memory : MemoryState) → settled (visits games memory) ≡ visits games memory
+settled_visits : (games : List Visit) (memory : MemoryState)
+    → course_settled (visits games memory) ≡ visits games memory
 settled_visits [] memory = refl
 settled_visits (visit ∷ rest) memory = refl
 
@@ -26,7 +27,7 @@ onto_visits out [] memory = refl
 onto_visits out (visit ∷ rest) memory = refl
 
 settled_given_up : (visit : Visit) (over : Bool) (games : List Visit) (memory : MemoryState)
-    → settled (given_up visit over (visits games memory)) ≡ given_up visit over (visits games memory)
+    → course_settled (given_up visit over (visits games memory)) ≡ given_up visit over (visits games memory)
 settled_given_up visit true games memory = refl
 settled_given_up visit false games memory = settled_visits games memory
 
@@ -48,10 +49,10 @@ module _ (visit : Visit) (before : MemoryState) (rest : List Visit) where
   abbrev news_of : Reply → Course
   news_of reply =
       Writes (news_text (reader_in before visit.seat) reply)
-      (given_up visit (says_over reply) (visits rest (behind visit (says_over reply) before)))
+      (given_up visit (says_over reply) (visits rest (behind_visit visit (says_over reply) before)))
 
   settles_news : (reply : Reply) (over : Bool) (after : MemoryState) (out out' : List ℕ) → over ≡ says_over reply
-      → after ≡ behind visit (says_over reply) before
+      → after ≡ behind_visit visit (says_over reply) before
       → out' ≡ out ++ news_text (reader_in before visit.seat) reply
       → Settles (news_of reply) (given_up visit over (visits rest after)) out out'
   settles_news reply over after out out' over_is after_is is = record {
@@ -59,16 +60,16 @@ module _ (visit : Visit) (before : MemoryState) (rest : List Visit) where
         is
         ∙ sym
         (onto_given_up (out ++ news_text (reader_in before visit.seat) reply) visit (says_over reply) rest
-        (behind visit (says_over reply) before));
+        (behind_visit visit (says_over reply) before));
     goes =
         ap (λ (b : Bool). given_up visit b (visits rest after)) over_is
         ∙ ap (λ (m : MemoryState). given_up visit (says_over reply) (visits rest m)) after_is
-        ∙ sym (settled_given_up visit (says_over reply) rest (behind visit (says_over reply) before));
+        ∙ sym (settled_given_up visit (says_over reply) rest (behind_visit visit (says_over reply) before));
   }
 
   pub on_news : (moment : ℕ) (result : Result Bool NoMemory) (reply : Reply) (old : RunnerState) (out : List ℕ)
       (new : RunnerState) (after : MemoryState) (out' : List ℕ)
-      → Ran old (timed moment (at_game visit desk_act.Fetch)) reply new → IfOk result (λ over. over ≡ says_over reply)
+      → Ran old (act_at moment (at_game visit desk_act.Fetch)) reply new → IfOk result (λ over. over ≡ says_over reply)
       → IfOk result (λ over. out' ≡ out ++ news_text (reader_in before visit.seat) reply)
       → after ≡ kept_behind visit result before reply → has_entered before ≡ true
       → IfOk result
@@ -85,7 +86,7 @@ module _ (visit : Visit) (before : MemoryState) (rest : List Visit) where
 
   pub broke_news : (moment : ℕ) (result : Result Bool NoMemory) (reply : Reply) (old : RunnerState) (new : RunnerState)
       (after : MemoryState)
-      → Ran old (timed moment (at_game visit desk_act.Fetch)) reply new → after ≡ kept_behind visit result before reply
+      → Ran old (act_at moment (at_game visit desk_act.Fetch)) reply new → after ≡ kept_behind visit result before reply
       → has_entered before ≡ true
       → OnErr result (BrokeOff (visits (visit ∷ rest) before) moment old before new after)
   broke_news moment result reply old new after ran after_is inside =

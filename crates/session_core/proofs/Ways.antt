@@ -12,14 +12,14 @@ use Rattle.one_server.specs.declared.act.Act.TheVariants.{Desk}
 use Rattle.session_core.specs.declared.way.Way.{Way}
 use Rattle.session_core.specs.declared.way.Way.TheVariants as way
 use Rattle.session_core.specs.Inputs.{is_quit}
-use Rattle.session_core.specs.Laws.{is_move}
+use Rattle.session_core.specs.Laws.{is_played_move}
 use Rattle.session_core.specs.Stages.{way_asks_places}
 use Rattle.session_core.specs.Ways.{way_of}
 
 -- the act of a way is a half-move
 abbrev pub makes_move : Way → Bool
-makes_move (way.Server act) = is_move act
-makes_move (way.Desk act) = is_move (Desk 0 0 act)
+makes_move (way.Server act) = is_played_move act
+makes_move (way.Desk act) = is_played_move (Desk 0 0 act)
 makes_move _ = false
 
 abbrev pub is_leaving : Way → Bool

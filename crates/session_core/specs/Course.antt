@@ -43,8 +43,8 @@ memory_by (Asks act rest) [] = None
 memory_by (Asks act rest) (reply ∷ replies) = memory_by (rest reply) replies
 
 -- an act at its moment
-abbrev pub timed : ℕ → Act → Timed
-timed moment act = record { moment = moment; act = act }
+abbrev pub act_at : ℕ → Act → Timed
+act_at moment act = record { moment = moment; act = act }
 
 -- the session followed the course to its end: these entries are its acts, all made at this moment, this is the text,
 -- and this is what it remembers
@@ -53,7 +53,7 @@ Follows (Done kept) session moment made text memory = (made ≡ []) × (text ≡
 Follows (Writes put rest) session moment made text memory = (more : List ℕ) × (text ≡ put ++ more)
     × Follows rest session moment made more memory
 Follows (Asks act rest) session moment [] text memory = ⊥
-Follows (Asks act rest) session moment (e ∷ made) text memory = (e ≡ entry session (timed moment act) e.reply)
+Follows (Asks act rest) session moment (e ∷ made) text memory = (e ≡ entry session (act_at moment act) e.reply)
     × Follows (rest e.reply) session moment made text memory
 
 -- the session has followed the course so far: these entries are its first acts
@@ -61,7 +61,7 @@ abbrev pub Begins : Course → ℕ → ℕ → Log → Type 0
 Begins (Done memory) session moment made = made ≡ []
 Begins (Writes put rest) session moment made = Begins rest session moment made
 Begins (Asks act rest) session moment [] = Unit {0}
-Begins (Asks act rest) session moment (e ∷ made) = (e ≡ entry session (timed moment act) e.reply)
+Begins (Asks act rest) session moment (e ∷ made) = (e ≡ entry session (act_at moment act) e.reply)
     × Begins (rest e.reply) session moment made
 
 -- a reply that tells nothing, as which an act counts that was passed over
@@ -86,7 +86,7 @@ abbrev pub Passes : Bool → Course → ℕ → ℕ → Log → Type 0
 Passes mark (Done memory) session moment made = made ≡ []
 Passes mark (Writes put rest) session moment made = Passes mark rest session moment made
 Passes mark (Asks act rest) session moment made =
-    ((reply : Reply) × (later : Log) × (made ≡ entry session (timed moment act) reply ∷ later)
+    ((reply : Reply) × (later : Log) × (made ≡ entry session (act_at moment act) reply ∷ later)
     × Passes mark (rest reply) session moment later)
     ⊎ (MayPass mark act × Passes mark (rest nothing_told) session moment made)
 

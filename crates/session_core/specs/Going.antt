@@ -5,7 +5,7 @@ use Rattle.session_core.specs.Course.{Course, Done, Follows, Begins, Passes}
 use Rattle.session_core.specs.Memory.{MemoryState, has_entered, is_gone}
 use Rattle.session_core.specs.Remembering.{Remembers}
 use Rattle.session_core.specs.Session.{leaving_course}
-use Rattle.session_core.specs.Stages.{settled}
+use Rattle.session_core.specs.Stages.{course_settled}
 
 -- whoever follows the rest of a course from here, to its end or so far, has followed the whole one, with these entries
 -- and this text before
@@ -70,7 +70,7 @@ pub record BrokeOff (course : Course) (moment : ℕ) (old : RunnerState) (before
 -- that ran out of memory, and is gone
 pub record LeftShort (course : Course) (moment : ℕ) (old new : RunnerState) (after : MemoryState) : Type 0 where
   pub memory : MemoryState
-  pub quits : settled course ≡ leaving_course memory
+  pub quits : course_settled course ≡ leaving_course memory
   pub part : LeftInPart (leaving_course memory) moment old new
   pub gone : is_gone after ≡ true
 

@@ -21,7 +21,7 @@ use Rattle.session_asks.specs.declared.standing.LinkMark.TheVariants.{Fresh, Sta
 use Rattle.session_asks.specs.declared.standing.Standing.{Standing}
 use Rattle.session_asks.specs.declared.standing.Standing.TheVariants.{Login, Password, In, Gone}
 use Rattle.session_core.specs.Course.{Course, Done, Writes}
-use Rattle.session_core.specs.Login.{naming, proving, turned_away}
+use Rattle.session_core.specs.Login.{name_course, proving, turned_away}
 use Rattle.session_core.specs.Memory.{MemoryState, is_gone, past_first}
 use Rattle.session_core.specs.Session.{command_course, round, to_acked}
 use Rattle.session_core.specs.Texts.{line_end, prompt_of, refusal_line}
@@ -49,7 +49,7 @@ asked_course (Err cause) stamp memory = Writes (refusal_line cause) (round memor
 
 -- a text, by where the session stands
 abbrev pub text_course : List ℕ → Option ℕ → Standing → MemoryState → Course
-text_course text stamp Login memory = naming text memory
+text_course text stamp Login memory = name_course text memory
 text_course text stamp (Password name) memory = proving name text memory
 text_course text stamp (In name) memory = asked_course (command_in memory.aliases text) stamp memory
 text_course text stamp Gone memory = Done memory
@@ -109,8 +109,8 @@ framed framing.Answer standing text = text ++ prompt_of standing
 framed framing.News standing text = unasked text standing
 
 -- what an input makes the session write, by what it remembered before and after, and by the text of its course
-abbrev pub answer_text : Input → MemoryState → MemoryState → List ℕ → List ℕ
-answer_text input before after text = framed (framing_of input before) after.standing text
+abbrev pub text_for_input : Input → MemoryState → MemoryState → List ℕ → List ℕ
+text_for_input input before after text = framed (framing_of input before) after.standing text
 
 -- what is read of a line asks to quit
 abbrev pub is_quit : Result Command Refusal → Bool

@@ -23,12 +23,12 @@ use Rattle.session_asks.specs.Visits.{all_visits}
 use Rattle.simul_control.specs.declared.place.Place.{Place}
 
 -- the acts of entries
-abbrev pub acts_of : Log → List Act
-acts_of made = map (λ e. e.act.act) made
+abbrev pub acts_made : Log → List Act
+acts_made made = map (λ e. e.act.act) made
 
 -- the next act of entries, if there is any
 abbrev pub first_act : Log → Option Act
-first_act made = slice_get (acts_of made) 0
+first_act made = slice_get (acts_made made) 0
 
 -- the news of a game in a round: the game, the entry that asked for them, and the one that gave the game up, if one did
 pub record Telling : Type 0 where
@@ -42,16 +42,16 @@ entries_of telling = telling.fetch ∷ option_to_list telling.clear
 -- the game was asked for its news, and given up exactly where it said that nothing more will come
 pub record IsTelling (telling : Telling) : Type 0 where
   pub fetches : telling.fetch.act.act ≡ at_game telling.game desk_act.Fetch
-  pub clears : acts_of (option_to_list telling.clear)
+  pub clears : acts_made (option_to_list telling.clear)
       ≡ (if says_over telling.fetch.reply then clear_at telling.game ∷ [] else [])
 
 -- these entries end the looking on at the desk of a place
 abbrev pub LooksAway : Log → Place → Type 0
-LooksAway made place = (serial : ℕ) × Contains (acts_of made) (Desk place.desk serial desk_act.Unwatch)
+LooksAway made place = (serial : ℕ) × Contains (acts_made made) (Desk place.desk serial desk_act.Unwatch)
 
 -- these entries ask to look on at the game of a place
 abbrev pub LooksThere : Log → Place → Type 0
-LooksThere made place = Contains (acts_of made) (at_place place desk_act.Watch)
+LooksThere made place = Contains (acts_made made) (at_place place desk_act.Watch)
 
 -- the entries of an input end with the round: behind what the input asked for, if anything, the lobby is asked for what
 -- waits there, and then each game for its news, in order: those of the places that the lobby has told, and those at
@@ -86,9 +86,9 @@ pub record IsOfLogin (made : Log) : Type 0 where
   pub enters : All (λ e. asks_to_enter e.act.act ≡ true) made
 
 -- an act is a half-move
-abbrev pub is_move : Act → Bool
-is_move (Desk desk serial (desk_act.Move word stamp)) = true
-is_move _ = false
+abbrev pub is_played_move : Act → Bool
+is_played_move (Desk desk serial (desk_act.Move word stamp)) = true
+is_played_move _ = false
 
 -- the places of a player, as a reply tells them, if it does
 abbrev pub places_by : PlaceList → Reply → PlaceList
@@ -105,5 +105,5 @@ places_after places (e ∷ made) = places_after (places_by places e.reply) made
 -- next place
 abbrev pub TurnsBehind : MemoryState → Log → Type 0
 TurnsBehind before made = (front later : Log) (e : Entry Timed Reply) → made ≡ front ++ e ∷ later
-    → is_move e.act.act ≡ true → is_accepted e.reply ≡ true → (places_after before.places front).giving ≡ true
+    → is_played_move e.act.act ≡ true → is_accepted e.reply ≡ true → (places_after before.places front).giving ≡ true
     → first_act later ≡ Some (Lobby lobby_act.SimNext)

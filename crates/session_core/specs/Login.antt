@@ -19,8 +19,8 @@ abbrev pub entered_as : Option (List ℕ) → Reply → MemoryState → Course
 entered_as name reply memory = Writes (reply_text reply) (Done (stands_at (admitted name reply) memory))
 
 -- the session asks to enter under a name, or as a guest, perhaps with the digest of a password
-abbrev pub entering : Option (List ℕ) → Option (List ℕ) → MemoryState → Course
-entering name digest memory =
+abbrev pub enter_course : Option (List ℕ) → Option (List ℕ) → MemoryState → Course
+enter_course name digest memory =
     Asks (Lobby (Enter name digest))
     (λ reply. entered_as name reply memory)
 
@@ -34,17 +34,17 @@ is_guest bytes = str_eq_ignore_ascii_case bytes (codes "guest")
 
 abbrev pub entering_named : Option (List ℕ) → MemoryState → Course
 entering_named None memory = turned_away BadHandle memory
-entering_named (Some name) memory = entering (Some name) None memory
+entering_named (Some name) memory = enter_course (Some name) None memory
 
 -- a line where a name is asked for: a guest, or a handle. Nothing is dropped from it, and an empty one asks again
-abbrev pub naming : List ℕ → MemoryState → Course
-naming [] memory = Done memory
-naming (byte ∷ bytes) memory =
+abbrev pub name_course : List ℕ → MemoryState → Course
+name_course [] memory = Done memory
+name_course (byte ∷ bytes) memory =
     if is_guest (byte ∷ bytes)
-    then entering None None memory
+    then enter_course None None memory
     else entering_named (handle_of (byte ∷ bytes)) memory
 
 -- a line where the password of a name is asked for: the digest of its bytes is compared. An empty one asks again
 abbrev pub proving : List ℕ → List ℕ → MemoryState → Course
 proving name [] memory = Done memory
-proving name (byte ∷ bytes) memory = entering (Some name) (Some (sha256 (byte ∷ bytes))) memory
+proving name (byte ∷ bytes) memory = enter_course (Some name) (Some (sha256 (byte ∷ bytes))) memory

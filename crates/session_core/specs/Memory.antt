@@ -9,7 +9,7 @@ use Rattle.lobby_state.specs.Places.{PlaceList, no_places, with_place, without_d
 use Rattle.one_server.specs.declared.reply.Reply.{Reply}
 use Rattle.one_server.specs.declared.reply.Reply.TheVariants.{Lobby}
 use Rattle.session_core.specs.declared.reader.Reader.{Reader}
-pub use Rattle.session_asks.specs.Entering.{is_in}
+pub use Rattle.session_asks.specs.Entering.{standing_in}
 use Rattle.session_asks.specs.declared.standing.LinkMark.{LinkMark}
 use Rattle.session_asks.specs.declared.standing.LinkMark.TheVariants.{Fresh, Plain}
 use Rattle.session_asks.specs.declared.standing.Standing.{Standing}
@@ -37,8 +37,8 @@ newcomer = record {
 }
 
 -- one that a script has seated: it has entered under this name, and was told nothing yet
-abbrev pub seated : List ℕ → MemoryState
-seated name = record newcomer { standing = In name }
+abbrev pub seated_memory : List ℕ → MemoryState
+seated_memory name = record newcomer { standing = In name }
 
 -- where it stands from now on
 abbrev pub stands_at : Standing → MemoryState → MemoryState
@@ -46,7 +46,7 @@ stands_at standing memory = record memory { standing = standing }
 
 -- the session has entered, and hasn't left
 abbrev pub has_entered : MemoryState → Bool
-has_entered memory = is_in memory.standing
+has_entered memory = standing_in memory.standing
 
 abbrev pub is_out : Standing → Bool
 is_out Gone = true
@@ -62,10 +62,10 @@ past_first Fresh = Plain
 past_first mark = mark
 
 -- what the session remembers once it has this reply: the places that it tells, if it tells any
-abbrev pub told : MemoryState → Reply → MemoryState
-told memory (Lobby (Places places)) = record memory { places = places }
-told memory (Lobby (Waiting lines places)) = record memory { places = places }
-told memory _ = memory
+abbrev pub memory_told : MemoryState → Reply → MemoryState
+memory_told memory (Lobby (Places places)) = record memory { places = places }
+memory_told memory (Lobby (Waiting lines places)) = record memory { places = places }
+memory_told memory _ = memory
 
 -- once it has left
 abbrev pub departed : MemoryState → MemoryState
@@ -96,8 +96,8 @@ abbrev pub observed_at : ℕ → MemoryState → Option Place
 observed_at desk memory = find (λ place. place.desk == desk) memory.observed.rows
 
 -- it looks on at 32 games
-abbrev pub is_full : MemoryState → Bool
-is_full memory = nat_le 32 (length memory.observed.rows)
+abbrev pub looks_on_at_most : MemoryState → Bool
+looks_on_at_most memory = nat_le 32 (length memory.observed.rows)
 
 abbrev pub or_else : Option Place → Option Place → Option Place
 or_else None other = other

@@ -14,14 +14,14 @@ use Rattle.lobby_state.specs.declared.acts.LobbyReply.TheVariants.{Found}
 use Rattle.lobby_state.specs.declared.acts.PairAct.TheVariants as pair_act
 use Rattle.simul_control.specs.declared.place.Place.{Place}
 use Rattle.lobby_state.specs.FindGame.{desk_of_game}
-use Rattle.lobby_state.specs.Said.{said}
+use Rattle.lobby_state.specs.Said.{spoken_line}
 use Rattle.one_server.specs.declared.act.Act.{Act}
 use Rattle.one_server.specs.declared.act.Act.TheVariants.{Lobby, Desk, Pair}
 use Rattle.one_server.specs.declared.reply.Reply.{Reply}
 use Rattle.one_server.specs.declared.reply.Reply.TheVariants as reply
 use Rattle.session_core.specs.declared.reaction.Reaction.{Reaction}
 use Rattle.session_core.specs.Course.{Course, Done, Asks, Writes}
-use Rattle.session_core.specs.Memory.{MemoryState, departed, present_in, told, is_full, is_giving, observed_at, reader_in, remark_place}
+use Rattle.session_core.specs.Memory.{MemoryState, departed, present_in, memory_told, looks_on_at_most, is_giving, observed_at, reader_in, remark_place}
 use Rattle.session_core.specs.OwnCommands.{OwnAnswer, own_answer}
 use Rattle.session_core.specs.Reactions.{in_lobby, of_desk, says_no_offer}
 use Rattle.session_core.specs.Texts.{refusal_line, reply_text, news_text, waiting_text, shown_text}
@@ -58,9 +58,9 @@ forgets None desk memory = without_observed desk memory
 forgets (Some seat) desk memory = memory
 
 -- and behind a visit, by whether nothing more will come
-abbrev pub behind : Visit → Bool → MemoryState → MemoryState
-behind visit true memory = forgets visit.seat visit.desk memory
-behind visit false memory = memory
+abbrev pub behind_visit : Visit → Bool → MemoryState → MemoryState
+behind_visit visit true memory = forgets visit.seat visit.desk memory
+behind_visit visit false memory = memory
 
 -- a visit at each game, in order: its news are told, and where nothing more will come it is given up
 abbrev pub visits : List Visit → MemoryState → Course
@@ -68,7 +68,7 @@ visits [] memory = Done memory
 visits (visit ∷ rest) memory =
     Asks (at_game visit desk_act.Fetch)
     (λ reply. Writes (news_text (reader_in memory visit.seat) reply)
-    (given_up visit (says_over reply) (visits rest (behind visit (says_over reply) memory))))
+    (given_up visit (says_over reply) (visits rest (behind_visit visit (says_over reply) memory))))
 
 -- the lobby has told what waits there and which places there are, and the visits follow
 abbrev pub rounding : MemoryState → Course
@@ -77,11 +77,11 @@ rounding memory = visits (visits_in memory) memory
 -- the round, which tells all that is new: the lines that wait in the lobby, and then the news of each game that the
 -- session plays or at which it looks on
 abbrev pub round : MemoryState → Course
-round memory = Asks (Lobby lobby_act.Fetch) (λ reply. Writes (waiting_text reply) (rounding (told memory reply)))
+round memory = Asks (Lobby lobby_act.Fetch) (λ reply. Writes (waiting_text reply) (rounding (memory_told memory reply)))
 
 -- the reply to the act of a command, and then the round
-abbrev pub answered : Reply → MemoryState → Course
-answered reply memory = Writes (reply_text reply) (round memory)
+abbrev pub course_behind : Reply → MemoryState → Course
+course_behind reply memory = Writes (reply_text reply) (round memory)
 
 -- the reply to an act at a desk, as it shows a game to the player of a seat, or to who looks on, and then the round
 abbrev pub shown : Option ℕ → Reply → MemoryState → Course
@@ -99,7 +99,7 @@ placing act memory = at_present act (present_in memory) memory
 
 -- a command to the present place, which the lobby knows
 abbrev pub to_desk : DeskAct → MemoryState → Course
-to_desk act memory = Asks (Lobby lobby_act.Where) (λ reply. placing act (told memory reply))
+to_desk act memory = Asks (Lobby lobby_act.Where) (λ reply. placing act (memory_told memory reply))
 
 -- the desk has accepted a half-move
 abbrev pub is_accepted : Reply → Bool
@@ -112,8 +112,8 @@ turns reply memory = is_accepted reply && is_giving memory
 
 -- the reply to a half-move, and then the round; where the next place comes before it, what the lobby answers to that
 -- isn't printed
-abbrev pub moved : ℕ → Reply → MemoryState → Course
-moved seat reply memory =
+abbrev pub behind_half_move : ℕ → Reply → MemoryState → Course
+behind_half_move seat reply memory =
     Writes (shown_text (reader_in memory (Some seat)) reply)
     (if turns reply memory then Asks (Lobby lobby_act.SimNext) (λ turned. round memory) else round memory)
 
@@ -121,26 +121,27 @@ moved seat reply memory =
 abbrev pub moving_at : MoveWord → Option ℕ → Option Place → MemoryState → Course
 moving_at word stamp None memory = Writes (refusal_line NotPlaying) (round memory)
 moving_at word stamp (Some place) memory =
-    Asks (at_place place (desk_act.Move word stamp)) (λ reply. moved place.seat reply memory)
+    Asks (at_place place (desk_act.Move word stamp)) (λ reply. behind_half_move place.seat reply memory)
 
 -- the lobby has told which place is the present one, and the half-move is made there
 abbrev pub moving : MoveWord → Option ℕ → MemoryState → Course
 moving word stamp memory = moving_at word stamp (present_in memory) memory
 
 -- a half-move at the present place, which the lobby knows; it carries the stamp of its line, where that has one
-abbrev pub to_move : MoveWord → Option ℕ → MemoryState → Course
-to_move word stamp memory = Asks (Lobby lobby_act.Where) (λ reply. moving word stamp (told memory reply))
+abbrev pub half_move_course : MoveWord → Option ℕ → MemoryState → Course
+half_move_course word stamp memory =
+    Asks (Lobby lobby_act.Where) (λ reply. moving word stamp (memory_told memory reply))
 
 -- a remark at the present place, or else at the first game at which the session looks on
 abbrev pub remarking : DeskAct → MemoryState → Course
 remarking act memory = at_present act (remark_place memory) memory
 
 abbrev pub to_remark : DeskAct → MemoryState → Course
-to_remark act memory = Asks (Lobby lobby_act.Where) (λ reply. remarking act (told memory reply))
+to_remark act memory = Asks (Lobby lobby_act.Where) (λ reply. remarking act (memory_told memory reply))
 
 -- the line of a session's remark: its own name, and what it says
 abbrev pub remark_text : Standing → List ℕ → List ℕ
-remark_text (In name) text = said name (codes " kibitzes: ") text
+remark_text (In name) text = spoken_line name (codes " kibitzes: ") text
 remark_text _ text = text
 
 abbrev pub remark_of : List ℕ → MemoryState → DeskAct
@@ -159,31 +160,31 @@ watching place reply memory = Writes (shown_text (reader_in memory None) reply) 
 abbrev pub finding : Reply → MemoryState → Course
 finding (reply.Lobby (Found place)) memory =
     Asks (at_place place desk_act.Watch) (λ reply. watching place reply memory)
-finding other memory = answered other memory
+finding other memory = course_behind other memory
 
 -- looks on at one game more, for which the lobby is asked, where there aren't 32
 abbrev pub to_observe : LobbyAct → MemoryState → Course
 to_observe act memory =
-    if is_full memory then Writes (refusal_line ListFull) (round memory)
+    if looks_on_at_most memory then Writes (refusal_line ListFull) (round memory)
     else Asks (Lobby act) (λ reply. finding reply memory)
 
 -- looks on no longer at this game; where the session doesn't, it answers itself
 abbrev pub unobserved : Option Place → MemoryState → Course
 unobserved None memory = Writes (refusal_line NotWatching) (round memory)
 unobserved (Some place) memory =
-    Asks (at_place place desk_act.Unwatch) (λ reply. answered reply (without_observed place.desk memory))
+    Asks (at_place place desk_act.Unwatch) (λ reply. course_behind reply (without_observed place.desk memory))
 
 abbrev pub to_unobserve : ℕ → MemoryState → Course
 to_unobserve number memory = unobserved (observed_at (desk_of_game number) memory) memory
 
 -- a command that is one act
 abbrev pub to_server : Act → MemoryState → Course
-to_server act memory = Asks act (λ reply. answered reply memory)
+to_server act memory = Asks act (λ reply. course_behind reply memory)
 
 -- the desk has answered the act that accepts or declines: where no offer stands there, the lobby is asked
 abbrev pub reacted : Reaction → Reply → MemoryState → Course
 reacted reaction reply memory =
-    if says_no_offer reply then to_server (in_lobby reaction) memory else answered reply memory
+    if says_no_offer reply then to_server (in_lobby reaction) memory else course_behind reply memory
 
 -- the desk of this place is asked first, and without a place the lobby alone
 abbrev pub reacting_at : Reaction → Option Place → MemoryState → Course
@@ -197,7 +198,7 @@ reacting reaction memory = reacting_at reaction (present_in memory) memory
 
 -- an offer is accepted or declined, where the player names nobody
 abbrev pub to_react : Reaction → MemoryState → Course
-to_react reaction memory = Asks (Lobby lobby_act.Where) (λ reply. reacting reaction (told memory reply))
+to_react reaction memory = Asks (Lobby lobby_act.Where) (λ reply. reacting reaction (memory_told memory reply))
 
 -- a command that the session carries out by itself: its line, and then the round
 abbrev pub by_itself : OwnAnswer → Course
@@ -213,14 +214,15 @@ leave_games (visit ∷ rest) memory =
 -- places are those that it remembers
 abbrev pub leaving_course : MemoryState → Course
 leaving_course memory =
-    Asks (Lobby lobby_act.Going) (λ reply. leave_games (visits_in (told memory reply)) (told memory reply))
+    Asks (Lobby lobby_act.Going)
+    (λ reply. leave_games (visits_in (memory_told memory reply)) (memory_told memory reply))
 
 -- what a session does in a way; a move carries the stamp of its line, where it has one
 abbrev pub way_course : Way → Option ℕ → MemoryState → Course
 way_course way.Round stamp memory = round memory
 way_course (way.Server act) stamp memory = to_server act memory
 way_course (way.Desk act) stamp memory = to_desk act memory
-way_course (way.Move word) stamp memory = to_move word stamp memory
+way_course (way.Move word) stamp memory = half_move_course word stamp memory
 way_course (way.React reaction) stamp memory = to_react reaction memory
 way_course (way.Remark text) stamp memory = to_remark (remark_of text memory) memory
 way_course (way.Observe act) stamp memory = to_observe act memory
@@ -241,4 +243,4 @@ abbrev pub acking : ℕ → MemoryState → Course
 acking stamp memory = acked_at stamp (present_in memory) memory
 
 abbrev pub to_acked : ℕ → MemoryState → Course
-to_acked stamp memory = Asks (Lobby lobby_act.Where) (λ reply. acking stamp (told memory reply))
+to_acked stamp memory = Asks (Lobby lobby_act.Where) (λ reply. acking stamp (memory_told memory reply))

@@ -23,11 +23,11 @@ use Rattle.session_core.specs.declared.leaving_stage.LeavingNext.TheVariants as 
 use Rattle.session_core.specs.declared.leaving_stage.LeavingStage.{LeavingStage}
 use Rattle.session_core.specs.declared.leaving_stage.LeavingStage.TheVariants as leaving_stage
 use Rattle.session_core.specs.Course.{Course, Done, Asks, Writes}
-use Rattle.session_core.specs.Memory.{MemoryState, departed, has_entered, is_gone, stands_at, told, without_observed}
+use Rattle.session_core.specs.Memory.{MemoryState, departed, has_entered, is_gone, stands_at, memory_told, without_observed}
 use Rattle.session_core.specs.Login.{admitted, entered_as}
 use Rattle.session_core.specs.Remembering.{asks_places}
-use Rattle.session_core.specs.Session.{acking, answered, at_place, behind, clear_at, finding, leave_games, leaving_course, placing, reacted, reacting, remarking}
-use Rattle.session_core.specs.Session.{moved, moving, round, rounding, says_over, shown, watched, watching}
+use Rattle.session_core.specs.Session.{acking, course_behind, at_place, behind_visit, clear_at, finding, leave_games, leaving_course, placing, reacted, reacting, remarking}
+use Rattle.session_core.specs.Session.{behind_half_move, moving, round, rounding, says_over, shown, watched, watching}
 use Rattle.session_core.specs.Texts.{waiting_text}
 use Rattle.session_core.specs.Visits.{visits_in}
 use Rattle.session_asks.specs.declared.visit.Visit.{Visit}
@@ -37,20 +37,20 @@ use Rattle.session_core.specs.declared.way.Way.TheVariants as way
 -- what follows the reply to the act at which the session stands
 abbrev pub continues : Stage → MemoryState → Reply → Course
 continues (stage.Entering name) memory reply = entered_as name reply memory
-continues (stage.Placing act) memory reply = placing act (told memory reply)
-continues (stage.Moving word stamp) memory reply = moving word stamp (told memory reply)
-continues (stage.Moved seat) memory reply = moved seat reply memory
+continues (stage.Placing act) memory reply = placing act (memory_told memory reply)
+continues (stage.Moving word stamp) memory reply = moving word stamp (memory_told memory reply)
+continues (stage.Moved seat) memory reply = behind_half_move seat reply memory
 continues stage.Turning memory reply = round memory
-continues (stage.Reacting reaction) memory reply = reacting reaction (told memory reply)
+continues (stage.Reacting reaction) memory reply = reacting reaction (memory_told memory reply)
 continues (stage.Reacted reaction) memory reply = reacted reaction reply memory
-continues stage.Answering memory reply = answered reply memory
+continues stage.Answering memory reply = course_behind reply memory
 continues (stage.Showing seat) memory reply = shown (Some seat) reply memory
-continues (stage.Remarking act) memory reply = remarking act (told memory reply)
+continues (stage.Remarking act) memory reply = remarking act (memory_told memory reply)
 continues stage.Finding memory reply = finding reply memory
 continues (stage.Watching place) memory reply = watching place reply memory
-continues (stage.Unwatching place) memory reply = answered reply (without_observed place.desk memory)
-continues stage.Rounding memory reply = Writes (waiting_text reply) (rounding (told memory reply))
-continues (stage.AwaitingPlace stamp) memory reply = acking stamp (told memory reply)
+continues (stage.Unwatching place) memory reply = course_behind reply (without_observed place.desk memory)
+continues stage.Rounding memory reply = Writes (waiting_text reply) (rounding (memory_told memory reply))
+continues (stage.AwaitingPlace stamp) memory reply = acking stamp (memory_told memory reply)
 continues stage.Acking memory reply = Done memory
 
 -- the session had the memory to write what stands behind a reply
@@ -61,24 +61,24 @@ is_done (Err cause) = false
 -- what the session remembers once it has that reply, whether it has written what stands behind it or ran out of memory
 abbrev pub kept : Stage → MemoryState → Reply → MemoryState
 kept (stage.Entering name) memory reply = stands_at (admitted name reply) memory
-kept (stage.Placing act) memory reply = told memory reply
-kept (stage.Moving word stamp) memory reply = told memory reply
-kept (stage.Reacting reaction) memory reply = told memory reply
-kept (stage.Remarking act) memory reply = told memory reply
+kept (stage.Placing act) memory reply = memory_told memory reply
+kept (stage.Moving word stamp) memory reply = memory_told memory reply
+kept (stage.Reacting reaction) memory reply = memory_told memory reply
+kept (stage.Remarking act) memory reply = memory_told memory reply
 kept (stage.Watching place) memory reply = watched place reply memory
 kept (stage.Unwatching place) memory reply = without_observed place.desk memory
-kept stage.Rounding memory reply = told memory reply
-kept (stage.AwaitingPlace stamp) memory reply = told memory reply
+kept stage.Rounding memory reply = memory_told memory reply
+kept (stage.AwaitingPlace stamp) memory reply = memory_told memory reply
 kept _ memory reply = memory
 
 -- and behind a visit: where it ran out of memory a game that is over isn't forgotten, and is still left and given up in
 -- the end
 abbrev pub kept_behind : {T : Type 0} → Visit → Result T NoMemory → MemoryState → Reply → MemoryState
-kept_behind visit result memory reply = behind visit (is_done result && says_over reply) memory
+kept_behind visit result memory reply = behind_visit visit (is_done result && says_over reply) memory
 
 -- what follows when it leaves
 abbrev pub leaves : LeavingStage → MemoryState → Reply → Course
-leaves leaving_stage.Going memory reply = leave_games (visits_in (told memory reply)) (told memory reply)
+leaves leaving_stage.Going memory reply = leave_games (visits_in (memory_told memory reply)) (memory_told memory reply)
 leaves (leaving_stage.Leaving visit rest) memory reply = Asks (clear_at visit) (λ cleared. leave_games rest memory)
 leaves (leaving_stage.Clearing rest) memory reply = leave_games rest memory
 leaves leaving_stage.Gone memory reply = Done (departed memory)
@@ -207,12 +207,12 @@ onto out (Asks act rest) = out
 onto out (Done memory) = out
 
 -- the course from its next act or its end on
-abbrev pub settled : Course → Course
-settled (Writes put rest) = settled rest
-settled (Asks act rest) = Asks act rest
-settled (Done memory) = Done memory
+abbrev pub course_settled : Course → Course
+course_settled (Writes put rest) = course_settled rest
+course_settled (Asks act rest) = Asks act rest
+course_settled (Done memory) = Done memory
 
 -- a session went on in this course to what comes next: it wrote what stands before that
 pub record Settles (course : Course) (coming : Course) (out out_now : List ℕ) : Type 0 where
   pub text : out_now ≡ onto out course
-  pub goes : coming ≡ settled course
+  pub goes : coming ≡ course_settled course

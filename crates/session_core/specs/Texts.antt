@@ -6,7 +6,7 @@ use Rattle.command_words.specs.declared.style.Style.TheVariants.{One, Twelve}
 use Rattle.fics_words.specs.declared.refusal.Refusal.{Refusal}
 use Rattle.fics_words.specs.Refusal.{refusal_words}
 use Rattle.linked_desk.specs.declared.acts.DeskReply.TheVariants.{Items}
-use Rattle.linked_desk.specs.Sight.{board_in, sight}
+use Rattle.linked_desk.specs.Sight.{board_shown_as, sight}
 use Rattle.lobby_state.specs.declared.acts.LobbyReply.TheVariants.{Asked, Done, Entered, Told, Number, Lines, Waiting}
 use Rattle.one_server.specs.declared.reply.PairReply.TheVariants as pair
 use Rattle.one_server.specs.declared.reply.Reply.{Reply}
@@ -89,7 +89,7 @@ reply_text _ = []
 -- a board as it is printed: in style 12 it is seen as the desk shows it to the player of that seat, or to who looks on
 abbrev pub board_text : Style → Option ℕ → BoardView → List ℕ
 board_text One seat view = lines_text (board1_lines view)
-board_text Twelve seat view = line12_text view (sight seat (board_in view.game) view.face.to_move) ++ line_end
+board_text Twelve seat view = line12_text view (sight seat (board_shown_as view.game) view.face.to_move) ++ line_end
 
 -- the lines of an item, for the player of a seat, or for who looks on
 abbrev pub item_text : Style → Option ℕ → Item → List ℕ
@@ -106,7 +106,7 @@ is_to_move _ = false
 -- on a stamped link the client is asked to acknowledge each board that shows its own turn, by `[G]` and a zero byte
 abbrev pub asks_back : LinkMark → Option ℕ → Item → List ℕ
 asks_back Stamped seat (Board view) =
-    if is_to_move (sight seat (board_in view.game) view.face.to_move).relation
+    if is_to_move (sight seat (board_shown_as view.game) view.face.to_move).relation
     then codes "[G]" ++ 0 ∷ []
     else []
 asks_back _ seat _ = []

@@ -2,7 +2,7 @@
 ghost use Rattle.std.specs.Prelude.{◌≡◌, IfOk, None, Some, false};
 ghost use Rattle.fics_words.specs.HandleTest.{handle_of};
 ghost use Rattle.session_core.specs.Remembering.{is_entered};
-ghost use Rattle.session_core.specs.Login.{admitted, entered_as, entering_named, is_guest, naming};
+ghost use Rattle.session_core.specs.Login.{admitted, entered_as, entering_named, is_guest, name_course};
 ghost use Rattle.session_core.specs.Login.{proving, turned_away};
 ghost use Rattle.session_core.specs.Memory.{has_entered, stands_at};
 ghost use Rattle.session_core.specs.Stages.{IsPrepared, Settles, course_of, first_course};
@@ -26,7 +26,7 @@ pub(crate) fn take_name(
     out: &mut Vec<u8>,
 ) -> Result<First, NoMemory>
     requires outside { has_entered memory.old ≡ false }
-    ensures settles { IfOk result (λ first. Settles (naming text.now memory.old) (first_course first memory.new)
+    ensures settles { IfOk result (λ first. Settles (name_course text.now memory.old) (first_course first memory.new)
         out.old.items out.new.items) }
     ensures ready { IfOk result (IsPrepared memory.new) }
     ensures outside { has_entered memory.new ≡ false }

@@ -1,8 +1,8 @@
 //! How a session makes a half-move, and how who gives a simul then goes to its next place.
 ghost use Rattle.std.specs.Prelude.{◌≡◌, ◌≤◌, IfOk, true};
 ghost use Rattle.one_server.specs.Replies.{IsReply};
-ghost use Rattle.session_core.specs.Memory.{has_entered, told};
-ghost use Rattle.session_core.specs.Session.{is_accepted, moved, moving, turns};
+ghost use Rattle.session_core.specs.Memory.{has_entered, memory_told};
+ghost use Rattle.session_core.specs.Session.{is_accepted, behind_half_move, moving, turns};
 ghost use Rattle.session_core.specs.Stages.{FitsStamp, IsPosed, Settles, acts_left, course_of};
 
 use crate::next::Next;
@@ -26,11 +26,11 @@ pub(crate) fn moving(
 ) -> Result<Next, NoMemory>
     requires inside { has_entered memory.old ≡ true }
     requires stamp { FitsStamp stamp }
-    ensures settles { IfOk result (λ next. Settles (moving word stamp (told memory.old reply.now))
+    ensures settles { IfOk result (λ next. Settles (moving word stamp (memory_told memory.old reply.now))
         (course_of next memory.new) out.old.items out.new.items) }
     ensures ready { IfOk result (IsPosed memory.new) }
     ensures fewer { IfOk result (λ next. acts_left next ≤ 3) }
-    ensures after { memory.new ≡ told memory.old reply.now }
+    ensures after { memory.new ≡ memory_told memory.old reply.now }
     ensures stands { memory.new.standing ≡ memory.old.standing }
 {
     memory.note(reply);
@@ -52,7 +52,7 @@ pub(crate) fn moved(
 ) -> Result<Next, NoMemory>
     requires inside { has_entered memory.old ≡ true }
     requires fits { IsReply reply.now }
-    ensures settles { IfOk result (λ next. Settles (moved seat reply.now memory.old)
+    ensures settles { IfOk result (λ next. Settles (behind_half_move seat reply.now memory.old)
         (course_of next memory.new) out.old.items out.new.items) }
     ensures ready { IfOk result (IsPosed memory.new) }
     ensures fewer { IfOk result (λ next. acts_left next ≤ 2) }

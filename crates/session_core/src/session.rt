@@ -35,8 +35,8 @@ impl Model for Session {
 impl Session {
     ghost use Rattle.std.specs.Prelude.{◌≡◌, [], false, IfOk, OnOk, OnErr};
     ghost use Rattle.session_core.specs.Going.{Answered, Broke, Left, LeftInPart, departing};
-    ghost use Rattle.session_core.specs.Inputs.{FitsInput, answer_text, input_course};
-    ghost use Rattle.session_core.specs.Memory.{has_entered, is_gone, newcomer, seated};
+    ghost use Rattle.session_core.specs.Inputs.{FitsInput, text_for_input, input_course};
+    ghost use Rattle.session_core.specs.Memory.{has_entered, is_gone, newcomer, seated_memory};
     ghost use Rattle.session_core.specs.Texts.{opening_text};
 
     /// A session before its opening. Takes no memory.
@@ -51,7 +51,7 @@ impl Session {
 
     /// A session that has entered under this name, and was told nothing yet. Takes no memory.
     pub fn seated(alloc: Global, name: Handle) -> Session
-        ensures { result ≡ seated name }
+        ensures { result ≡ seated_memory name }
     {
         Session {
             alloc,
@@ -81,7 +81,7 @@ impl Session {
         requires fits { FitsInput input }
         ensures home { R.home r.new ≡ R.home r.old }
         ensures answered { IfOk result (λ wrote. Answered (input_course input self.old)
-            (answer_text input self.old self.new) moment (R.state r.old) []
+            (text_for_input input self.old self.new) moment (R.state r.old) []
             (R.state r.new) wrote.bytes.items self.new) }
         ensures quit { IfOk result (λ wrote. wrote.quit ≡ is_gone self.new) }
         ensures broke { OnErr result (Broke (input_course input self.old) moment (R.state r.old) self.old

@@ -3,9 +3,9 @@ ghost use Rattle.std.specs.Prelude.{◌≡◌, ◌≤◌, IfSome, length, slice_
 ghost use Rattle.command_words.specs.Aliases.{setting, unsetting};
 ghost use Rattle.fics_words.specs.Effect.{Takes, answer_of, state_of};
 ghost use Rattle.lobby_state.specs.Desks.{IsDesk};
-ghost use Rattle.session_core.specs.Memory.{departed, is_full, is_giving, is_gone, newcomer, observed_at};
+ghost use Rattle.session_core.specs.Memory.{departed, looks_on_at_most, is_giving, is_gone, newcomer, observed_at};
 ghost use Rattle.session_core.specs.Memory.{past_first, present_in};
-ghost use Rattle.session_core.specs.Memory.{reader_in, remark_place, seated, stands_at, told, with_observed, without_observed};
+ghost use Rattle.session_core.specs.Memory.{reader_in, remark_place, seated_memory, stands_at, memory_told, with_observed, without_observed};
 ghost use Rattle.session_core.specs.Visits.{visits_in};
 
 use crate::reader::Reader;
@@ -64,7 +64,7 @@ impl SessionMemory {
 
     /// The memory of a session that has entered under a name, before its first input.
     pub(crate) fn seated(alloc: Global, name: Handle) -> SessionMemory
-        ensures { result ≡ seated name }
+        ensures { result ≡ seated_memory name }
     {
         SessionMemory {
             standing: Standing::In(name),
@@ -150,7 +150,7 @@ impl SessionMemory {
 
     /// Remembers what a reply tells.
     pub(crate) fn note(&mut self, reply: &Reply)
-        ensures told { self.new ≡ told self.old reply.now }
+        ensures told { self.new ≡ memory_told self.old reply.now }
         ensures stands { self.new.standing ≡ self.old.standing }
     {
         match reply {
@@ -212,7 +212,7 @@ impl SessionMemory {
 
     /// Whether the session looks on at 32 games.
     pub(crate) fn is_full(&self) -> bool
-        ensures { result ≡ is_full self.now }
+        ensures { result ≡ looks_on_at_most self.now }
     {
         self.observed.len() >= MOST_OBSERVED
     }

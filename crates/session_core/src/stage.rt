@@ -5,8 +5,8 @@ ghost use Rattle.linked_desk.specs.Acts.{FitsDeskAct};
 ghost use Rattle.one_server.specs.Replies.{IsReply};
 ghost use Rattle.session_core.specs.Course.{Writes};
 ghost use Rattle.session_core.specs.Remembering.{is_entered};
-ghost use Rattle.session_core.specs.Memory.{has_entered, told, without_observed};
-ghost use Rattle.session_core.specs.Session.{acking, answered, at_place};
+ghost use Rattle.session_core.specs.Memory.{has_entered, memory_told, without_observed};
+ghost use Rattle.session_core.specs.Session.{acking, course_behind, at_place};
 ghost use Rattle.session_core.specs.Session.{placing, reacted, reacting, rounding, remarking, shown};
 ghost use Rattle.session_core.specs.Stages.{IsPosed, IsSet, Settles, acts_after, acts_left, continues};
 ghost use Rattle.session_core.specs.Stages.{course_of, kept};
@@ -114,11 +114,11 @@ fn placed(
 ) -> Result<Next, NoMemory>
     requires inside { has_entered memory.old ≡ true }
     requires act { FitsDeskAct act }
-    ensures settles { IfOk result (λ next. Settles (placing act (told memory.old reply.now))
+    ensures settles { IfOk result (λ next. Settles (placing act (memory_told memory.old reply.now))
         (course_of next memory.new) out.old.items out.new.items) }
     ensures ready { IfOk result (IsPosed memory.new) }
     ensures fewer { IfOk result (λ next. acts_left next ≤ 2) }
-    ensures after { memory.new ≡ told memory.old reply.now }
+    ensures after { memory.new ≡ memory_told memory.old reply.now }
     ensures stands { memory.new.standing ≡ memory.old.standing }
 {
     memory.note(reply);
@@ -139,11 +139,11 @@ fn remarked(
 ) -> Result<Next, NoMemory>
     requires inside { has_entered memory.old ≡ true }
     requires act { FitsDeskAct act }
-    ensures settles { IfOk result (λ next. Settles (remarking act (told memory.old reply.now))
+    ensures settles { IfOk result (λ next. Settles (remarking act (memory_told memory.old reply.now))
         (course_of next memory.new) out.old.items out.new.items) }
     ensures ready { IfOk result (IsPosed memory.new) }
     ensures fewer { IfOk result (λ next. acts_left next ≤ 2) }
-    ensures after { memory.new ≡ told memory.old reply.now }
+    ensures after { memory.new ≡ memory_told memory.old reply.now }
     ensures stands { memory.new.standing ≡ memory.old.standing }
 {
     memory.note(reply);
@@ -182,7 +182,7 @@ fn unwatched(
     out: &mut Vec<u8>,
 ) -> Result<Next, NoMemory>
     requires inside { has_entered memory.old ≡ true }
-    ensures settles { IfOk result (λ next. Settles (answered reply.now (without_observed desk memory.old))
+    ensures settles { IfOk result (λ next. Settles (course_behind reply.now (without_observed desk memory.old))
         (course_of next memory.new) out.old.items out.new.items) }
     ensures ready { IfOk result (IsPosed memory.new) }
     ensures fewer { IfOk result (λ next. acts_left next ≤ 1) }
@@ -196,10 +196,10 @@ fn unwatched(
 /// The lobby has told the places: the desk of the present one is asked first, and without a place the lobby alone.
 fn reacting(reaction: Reaction, memory: &mut SessionMemory, reply: &Reply) -> Next
     requires inside { has_entered memory.old ≡ true }
-    ensures goes { course_of result memory.new ≡ reacting reaction (told memory.old reply.now) }
+    ensures goes { course_of result memory.new ≡ reacting reaction (memory_told memory.old reply.now) }
     ensures ready { IsPosed memory.new result }
     ensures fewer { acts_left result ≤ 3 }
-    ensures after { memory.new ≡ told memory.old reply.now }
+    ensures after { memory.new ≡ memory_told memory.old reply.now }
     ensures stands { memory.new.standing ≡ memory.old.standing }
 {
     memory.note(reply);
@@ -241,7 +241,7 @@ pub(crate) fn answered(
     out: &mut Vec<u8>,
 ) -> Result<Next, NoMemory>
     requires inside { has_entered memory.old ≡ true }
-    ensures settles { IfOk result (λ next. Settles (answered reply.now memory.old)
+    ensures settles { IfOk result (λ next. Settles (course_behind reply.now memory.old)
         (course_of next memory.new) out.old.items out.new.items) }
     ensures ready { IfOk result (IsPosed memory.new) }
     ensures fewer { IfOk result (λ next. acts_left next ≤ 1) }
@@ -256,11 +256,11 @@ pub(crate) fn answered(
 fn rounded(memory: &mut SessionMemory, reply: &Reply, out: &mut Vec<u8>) -> Result<Next, NoMemory>
     requires inside { has_entered memory.old ≡ true }
     ensures settles { IfOk result
-        (λ next. Settles (Writes (waiting_text reply.now) (rounding (told memory.old reply.now)))
+        (λ next. Settles (Writes (waiting_text reply.now) (rounding (memory_told memory.old reply.now)))
         (course_of next memory.new) out.old.items out.new.items) }
     ensures ready { IfOk result (IsPosed memory.new) }
     ensures fewer { IfOk result (λ next. acts_left next ≤ 0) }
-    ensures after { memory.new ≡ told memory.old reply.now }
+    ensures after { memory.new ≡ memory_told memory.old reply.now }
     ensures stands { memory.new.standing ≡ memory.old.standing }
 {
     memory.note(reply);
@@ -272,10 +272,10 @@ fn rounded(memory: &mut SessionMemory, reply: &Reply, out: &mut Vec<u8>) -> Resu
 fn acking(stamp: u32, memory: &mut SessionMemory, reply: &Reply) -> Next
     requires inside { has_entered memory.old ≡ true }
     requires stamp { IsStamp stamp }
-    ensures goes { course_of result memory.new ≡ acking stamp (told memory.old reply.now) }
+    ensures goes { course_of result memory.new ≡ acking stamp (memory_told memory.old reply.now) }
     ensures ready { IsPosed memory.new result }
     ensures fewer { acts_left result ≤ 1 }
-    ensures after { memory.new ≡ told memory.old reply.now }
+    ensures after { memory.new ≡ memory_told memory.old reply.now }
     ensures stands { memory.new.standing ≡ memory.old.standing }
 {
     memory.note(reply);

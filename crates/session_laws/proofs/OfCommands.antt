@@ -23,13 +23,13 @@ use Rattle.one_server.specs.declared.act.Act.TheVariants as one_act
 use Rattle.one_server.specs.declared.reply.Reply.{Reply}
 use Rattle.one_server.specs.declared.reply.Reply.TheVariants as reply
 use Rattle.session_core.specs.Course.{Course, Asks, Writes}
-use Rattle.session_core.specs.Memory.{MemoryState, is_full, observed_at, present_in, remark_place, told}
+use Rattle.session_core.specs.Memory.{MemoryState, looks_on_at_most, observed_at, present_in, remark_place, memory_told}
 use Rattle.session_core.specs.Memory.{without_observed}
 use Rattle.session_core.specs.OwnCommands.{own_answer}
 use Rattle.session_core.specs.Reactions.{in_lobby, says_no_offer}
-use Rattle.session_core.specs.Session.{answered, at_present, behind, command_course, finding, given_up}
+use Rattle.session_core.specs.Session.{course_behind, at_present, behind_visit, command_course, finding, given_up}
 use Rattle.session_core.specs.Session.{leave_games, leaving_course, moving_at, reacting_at, remark_of, round, says_over}
-use Rattle.session_core.specs.Session.{to_desk, to_move, to_observe, to_react, to_remark, to_server, turns, unobserved}
+use Rattle.session_core.specs.Session.{to_desk, half_move_course, to_observe, to_react, to_remark, to_server, turns, unobserved}
 use Rattle.session_core.specs.Session.{visits, watched, way_course}
 use Rattle.session_core.specs.Texts.{refusal_line}
 use Rattle.session_core.specs.Visits.{visits_in}
@@ -52,12 +52,12 @@ never_visits [] memory = tt
 never_visits (visit ∷ rest) memory = (
   λ is. is,
   λ r.
-      let later = behind visit (says_over r) memory in
+      let later = behind_visit visit (says_over r) memory in
       never_given_up visit (says_over r) (visits rest later) (never_visits rest later),
 )
 
 pub never_round : (memory : MemoryState) → NeverSaves (round memory)
-never_round memory = (λ is. is, λ r. never_visits (visits_in (told memory r)) (told memory r))
+never_round memory = (λ is. is, λ r. never_visits (visits_in (memory_told memory r)) (memory_told memory r))
 
 -- 2. Leaving.
 never_leave_games : (games : List _) (memory : MemoryState) → NeverSaves (leave_games games memory)
@@ -65,7 +65,7 @@ never_leave_games [] memory = (λ is. is, λ r. tt)
 never_leave_games (visit ∷ rest) memory = (λ is. is, λ r. (λ is. is, λ q. never_leave_games rest memory))
 
 pub never_leaving : (memory : MemoryState) → NeverSaves (leaving_course memory)
-never_leaving memory = (λ is. is, λ r. never_leave_games (visits_in (told memory r)) (told memory r))
+never_leaving memory = (λ is. is, λ r. never_leave_games (visits_in (memory_told memory r)) (memory_told memory r))
 
 -- 3. What commands are made of.
 never_server : (act : Act) (memory : MemoryState) → (SaysSaved act → ⊥) → NeverSaves (to_server act memory)
@@ -76,10 +76,11 @@ never_present act None memory = never_round memory
 never_present act (Some place) memory = (λ is. is, λ r. never_round memory)
 
 never_desk : (act : DeskAct) (memory : MemoryState) → NeverSaves (to_desk act memory)
-never_desk act memory = (λ is. is, λ r. never_present act (present_in (told memory r)) (told memory r))
+never_desk act memory = (λ is. is, λ r. never_present act (present_in (memory_told memory r)) (memory_told memory r))
 
 never_remark : (act : DeskAct) (memory : MemoryState) → NeverSaves (to_remark act memory)
-never_remark act memory = (λ is. is, λ r. never_present act (remark_place (told memory r)) (told memory r))
+never_remark act memory =
+    (λ is. is, λ r. never_present act (remark_place (memory_told memory r)) (memory_told memory r))
 
 never_moving : (word : MoveWord) (stamp : Option ℕ) (place : Option Place) (memory : MemoryState)
     → NeverSaves (moving_at word stamp place memory)
@@ -91,8 +92,10 @@ never_moving word stamp (Some place) memory = (
       (λ is. is, λ turned. never_round memory) (never_round memory),
 )
 
-never_move : (word : MoveWord) (stamp : Option ℕ) (memory : MemoryState) → NeverSaves (to_move word stamp memory)
-never_move word stamp memory = (λ is. is, λ r. never_moving word stamp (present_in (told memory r)) (told memory r))
+never_move : (word : MoveWord) (stamp : Option ℕ) (memory : MemoryState)
+    → NeverSaves (half_move_course word stamp memory)
+never_move word stamp memory =
+    (λ is. is, λ r. never_moving word stamp (present_in (memory_told memory r)) (memory_told memory r))
 
 reacts_not : (reaction : Reaction) → SaysSaved (in_lobby reaction) → ⊥
 reacts_not Accepting is = is
@@ -104,12 +107,13 @@ never_reacting reaction None memory = never_server (in_lobby reaction) memory (r
 never_reacting reaction (Some place) memory = (
   λ is. is,
   λ r.
-      never_either (says_no_offer r) (to_server (in_lobby reaction) memory) (answered r memory)
+      never_either (says_no_offer r) (to_server (in_lobby reaction) memory) (course_behind r memory)
       (never_server (in_lobby reaction) memory (reacts_not reaction)) (never_round memory),
 )
 
 never_react : (reaction : Reaction) (memory : MemoryState) → NeverSaves (to_react reaction memory)
-never_react reaction memory = (λ is. is, λ r. never_reacting reaction (present_in (told memory r)) (told memory r))
+never_react reaction memory =
+    (λ is. is, λ r. never_reacting reaction (present_in (memory_told memory r)) (memory_told memory r))
 
 never_finding : (r : Reply) (memory : MemoryState) → NeverSaves (finding r memory)
 never_finding (reply.Lobby (lobby_reply.Found place)) memory = (λ is. is, λ r. never_round (watched place r memory))
@@ -117,7 +121,7 @@ never_finding r memory = never_round memory
 
 never_observe : (act : LobbyAct) (memory : MemoryState) → (TellsSaved act → ⊥) → NeverSaves (to_observe act memory)
 never_observe act memory other =
-    never_either (is_full memory) (Writes (refusal_line refusal.ListFull) (round memory))
+    never_either (looks_on_at_most memory) (Writes (refusal_line refusal.ListFull) (round memory))
     (Asks (one_act.Lobby act) (λ r. finding r memory))
     (never_round memory) (other, λ r. never_finding r memory)
 

@@ -17,25 +17,25 @@ use Rattle.session_asks.specs.declared.standing.Standing.TheVariants as standing
 use Rattle.session_core.specs.Course.{Done}
 use Rattle.session_core.specs.Inputs.{ack_course, asked_course, input_course, is_greeting, line_course, past_line}
 use Rattle.session_core.specs.Inputs.{quiet_course, refusing, stamp_on, text_course}
-use Rattle.session_core.specs.Login.{entering, entering_named, is_guest, naming, proving}
-use Rattle.session_core.specs.Memory.{MemoryState, present_in, told}
+use Rattle.session_core.specs.Login.{enter_course, entering_named, is_guest, name_course, proving}
+use Rattle.session_core.specs.Memory.{MemoryState, present_in, memory_told}
 use Rattle.session_core.specs.Session.{acked_at}
 use Rattle.session_laws.proofs.NeverSaving.{NeverSaves, never_either}
 use Rattle.session_laws.proofs.OfCommands.{never_command, never_round}
 use Rattle.simul_control.specs.declared.place.Place.{Place}
 
 -- 1. The login.
-never_entering : (name digest : Option (List ℕ)) (memory : MemoryState) → NeverSaves (entering name digest memory)
+never_entering : (name digest : Option (List ℕ)) (memory : MemoryState) → NeverSaves (enter_course name digest memory)
 never_entering name digest memory = (λ is. is, λ r. tt)
 
 never_named : (name : Option (List ℕ)) (memory : MemoryState) → NeverSaves (entering_named name memory)
 never_named None memory = tt
 never_named (Some name) memory = never_entering (Some name) None memory
 
-never_naming : (text : List ℕ) (memory : MemoryState) → NeverSaves (naming text memory)
+never_naming : (text : List ℕ) (memory : MemoryState) → NeverSaves (name_course text memory)
 never_naming [] memory = tt
 never_naming (b ∷ text) memory =
-    never_either (is_guest (b ∷ text)) (entering None None memory) (entering_named (handle_of (b ∷ text)) memory)
+    never_either (is_guest (b ∷ text)) (enter_course None None memory) (entering_named (handle_of (b ∷ text)) memory)
     (never_entering None None memory) (never_named (handle_of (b ∷ text)) memory)
 
 never_proving : (name text : List ℕ) (memory : MemoryState) → NeverSaves (proving name text memory)
@@ -65,7 +65,7 @@ never_acked stamp (Some place) memory = (λ is. is, λ r. tt)
 
 never_ack : (stamp : ℕ) (at : Standing) (memory : MemoryState) → NeverSaves (ack_course stamp at memory)
 never_ack stamp (standing.In name) memory =
-    (λ is. is, λ r. never_acked stamp (present_in (told memory r)) (told memory r))
+    (λ is. is, λ r. never_acked stamp (present_in (memory_told memory r)) (memory_told memory r))
 never_ack stamp _ memory = tt
 
 never_line : (line : Incoming) (memory : MemoryState) → NeverSaves (line_course line memory)

@@ -9,7 +9,7 @@ use Rattle.std.proofs.lemmas.List.Sums.{length-filter, count_by-le-length}
 use Rattle.fics_words.specs.Effect.{unless}
 use Rattle.fics_words.specs.declared.refusal.Refusal.TheVariants.{SimulFull}
 use Rattle.fics_words.specs.Desks.{IsDesk}
-use Rattle.simul_control.specs.Places.{AreAtDesks, PlaceList, is_elsewhere, is_full, is_other, with_place}
+use Rattle.simul_control.specs.Places.{AreAtDesks, PlaceList, is_elsewhere, are_places_full, is_other, with_place}
 use Rattle.std.proofs.Math.ListN.{set}
 use Rattle.std.proofs.Math.Seq.{take-append_seam, set-append_seam, append_snoc}
 use Rattle.simul_control.specs.PlaceFields.{column_of, placed, places_in, rows_in, HoldsPlaces, fields_of}
@@ -135,7 +135,7 @@ HoldsPlaces-add p place h more is_desk =
 -- the same, of the places that the field tells
 module _ (p : Inside) (place : Place) (now : PlaceList) (told : places_in p ≡ now) (h : HoldsPlaces p)
     (more : p.count < 32) where
-  pub room-add : is_full now ≡ false
+  pub room-add : are_places_full now ≡ false
   room-add =
       let rows : length now.rows ≡ length (rows_in p) = ap (λ l. length l.rows) (sym told) in
       lt-leb 32 (length now.rows) (omega (arith, h.counted, rows, more))

@@ -36,13 +36,13 @@ Makes change old new (Ok done) = (first_cause change.causes ≡ None) × (new �
 Makes change old new (Err cause) = (first_cause change.causes ≡ Some cause) × (new ≡ old)
 
 -- there is no room for one more
-abbrev pub is_full : PlaceList → Bool
-is_full places = nat_le most_places (length places.rows)
+abbrev pub are_places_full : PlaceList → Bool
+are_places_full places = nat_le most_places (length places.rows)
 
 -- adding a place behind the others: refused where there is no room; the present place stays
-abbrev pub adding : Place → PlaceList → Effect PlaceList (Unit {0})
-adding place places = record {
-  causes = (is_full places, SimulFull) ∷ [];
+abbrev pub adding_place : Place → PlaceList → Effect PlaceList (Unit {0})
+adding_place place places = record {
+  causes = (are_places_full places, SimulFull) ∷ [];
   memory = false;
   reply = tt;
   after = record places { rows = places.rows ++ place ∷ [] };
@@ -50,7 +50,7 @@ adding place places = record {
 
 -- the places once it was added, or as they were
 abbrev pub with_place : Place → PlaceList → PlaceList
-with_place place places = state_of places (adding place places)
+with_place place places = state_of places (adding_place place places)
 
 -- another desk than this one
 abbrev pub is_other : ℕ → ℕ → Bool
@@ -94,8 +94,8 @@ abbrev pub gives_nowhere : PlaceList → Bool
 gives_nowhere places = not places.giving || (length places.rows == 0)
 
 -- turning to the next or the previous place: refused where there is no board of a simul
-abbrev pub turning : Direction → PlaceList → Effect PlaceList (Unit {0})
-turning way places = record {
+abbrev pub turning_place : Direction → PlaceList → Effect PlaceList (Unit {0})
+turning_place way places = record {
   causes = (gives_nowhere places, NotGiving) ∷ [];
   memory = false;
   reply = tt;

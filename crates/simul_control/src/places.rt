@@ -47,8 +47,8 @@ impl Model for Places {
 
 impl Places {
     ghost use Rattle.std.specs.List.{list_any};
-    ghost use Rattle.simul_control.specs.Places.{Makes, adding, gives_nowhere, is_at, is_full, no_places, present_at};
-    ghost use Rattle.simul_control.specs.Places.{switching, turning, with_place, without_desk};
+    ghost use Rattle.simul_control.specs.Places.{Makes, adding_place, gives_nowhere, is_at, are_places_full, no_places, present_at};
+    ghost use Rattle.simul_control.specs.Places.{switching, turning_place, with_place, without_desk};
 
     /// No places, of a player that gives no simul.
     pub fn none() -> Places
@@ -122,7 +122,7 @@ impl Places {
 
     /// Whether there are 32 places, so that none can be added.
     pub fn is_full(&self) -> bool
-        ensures { result ≡ is_full self.now }
+        ensures { result ≡ are_places_full self.now }
     {
         self.count >= MOST
     }
@@ -137,7 +137,7 @@ impl Places {
     /// Puts a place behind the others; the present one stays. Refuses with `SimulFull` where there are 32.
     pub fn add(&mut self, place: Place) -> Result<(), Refusal>
         requires { IsDesk place.desk }
-        ensures makes { Makes (adding place self.old) self.old self.new result }
+        ensures makes { Makes (adding_place place self.old) self.old self.new result }
         ensures after { self.new ≡ with_place place self.old }
     {
         if self.count >= MOST {
@@ -191,7 +191,7 @@ impl Places {
     /// Turns to the next or the previous place, in a circle. Refuses with `NotGiving` where the player gives no simul,
     /// or has no place.
     pub fn turn(&mut self, way: Direction) -> Result<(), Refusal>
-        ensures { Makes (turning way self.old) self.old self.new result }
+        ensures { Makes (turning_place way self.old) self.old self.new result }
     {
         if self.gives_nowhere() {
             return Err(Refusal::NotGiving);

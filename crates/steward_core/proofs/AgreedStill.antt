@@ -33,7 +33,7 @@ use Rattle.one_server.specs.Running.{IsKnown, Log, Made, Ran, RunnerState}
 use Rattle.one_server.specs.Whole.{IsWhole}
 use Rattle.steward_core.specs.Agreement.{AgreesSeen, IsNoOthers, NoOthersSave, SaysSaved, StaysAgreed, state_seen}
 use Rattle.lobby_state.specs.declared.desk_in_use.DeskInUse.{DeskInUse}
-use Rattle.steward_core.specs.Clearing.{AsksAndClears, IsClearing, IsPartOf, acts_of, clears, rows_told}
+use Rattle.steward_core.specs.Clearing.{AsksAndClears, IsClearing, IsPartOf, timed_acts_of, clears, rows_told}
 use Rattle.steward_core.specs.declared.clearing.ClearingEnd.{ClearingEnd}
 use Rattle.steward_core.specs.declared.clearing.ClearingEnd.TheVariants as clearing
 use Rattle.steward_core.proofs.DesksCleared.{some_cleared}
@@ -372,7 +372,7 @@ agreed_still (Some table) it = λ whole none agreed. agreed
 
 -- ---- clearing tells no orders as saved
 
-unsaved_part : (moment : ℕ) (es : Log) (rows : List DeskInUse) → IsPartOf (acts_of es) (map (clears moment) rows)
+unsaved_part : (moment : ℕ) (es : Log) (rows : List DeskInUse) → IsPartOf (timed_acts_of es) (map (clears moment) rows)
     → AllByRecursion NotSaved es
 unsaved_part moment [] rows p = tt
 unsaved_part moment (e ∷ es) [] p = absurd p

@@ -9,7 +9,7 @@ use Rattle.one_server.specs.declared.reply.Reply.{Reply}
 use Rattle.one_server.specs.Running.{IsKnown, Log, Made, Ran, RunnerState}
 use Rattle.steward_core.specs.declared.clearing.ClearingEnd.{ClearingEnd}
 use Rattle.steward_core.specs.declared.clearing.ClearingEnd.TheVariants.{Done, Memory}
-use Rattle.steward_core.specs.Clearing.{AreClears, AsksAndClears, Cleared, ClearsOne, IsPartOf, TakesClearing, acts_of, asks_in_use, clears, end_of_both, rows_told}
+use Rattle.steward_core.specs.Clearing.{AreClears, AsksAndClears, Cleared, ClearsOne, IsPartOf, TakesClearing, timed_acts_of, asks_in_use, clears, end_of_both, rows_told}
 use Rattle.one_server.proofs.Made.{made_none, made_then}
 
 pub part_of_itself : {T : Type 0} (xs : List T) → IsPartOf xs xs
@@ -34,7 +34,8 @@ part_without (x ∷ xs) (z ∷ ys) y (inl p) = inl (p.0, part_without xs ys y p.
 part_without (x ∷ xs) (z ∷ ys) y (inr p) = inr (part_without (x ∷ xs) ys y p)
 
 module _ (moment : ℕ) where
-  more_acts : (entries : Log) (e : Entry Timed Reply) → acts_of (entries ++ e ∷ []) ≡ acts_of entries ++ e.act ∷ []
+  more_acts : (entries : Log) (e : Entry Timed Reply)
+      → timed_acts_of (entries ++ e ∷ []) ≡ timed_acts_of entries ++ e.act ∷ []
   more_acts entries e = map-append (λ (x : Entry Timed Reply). x.act) entries (e ∷ [])
 
   more_rows : (rows : List DeskInUse) (row : DeskInUse)
@@ -49,22 +50,22 @@ module _ (moment : ℕ) where
       ∙ ap (λ (t : Timed). map (clears moment) rows ++ t ∷ []) is ∙ sym (more_rows rows row)
   cleared_more Memory rows row entries e is p =
       subst (λ (l : List Timed). IsPartOf l (map (clears moment) (rows ++ row ∷ []))) (sym (more_acts entries e))
-      (subst (λ (l : List Timed). IsPartOf (acts_of entries ++ e.act ∷ []) l) (sym (more_rows rows row))
-      (subst (λ (t : Timed). IsPartOf (acts_of entries ++ e.act ∷ []) (map (clears moment) rows ++ t ∷ [])) is
-      (part_of_more (acts_of entries) (map (clears moment) rows) e.act p)))
+      (subst (λ (l : List Timed). IsPartOf (timed_acts_of entries ++ e.act ∷ []) l) (sym (more_rows rows row))
+      (subst (λ (t : Timed). IsPartOf (timed_acts_of entries ++ e.act ∷ []) (map (clears moment) rows ++ t ∷ [])) is
+      (part_of_more (timed_acts_of entries) (map (clears moment) rows) e.act p)))
 
   -- in each case some were cleared
   pub some_cleared : (end : ClearingEnd) (rows : List DeskInUse) (entries : Log) → AreClears end moment rows entries
       → AreClears Memory moment rows entries
   some_cleared Done rows entries p =
-      subst (λ (l : List Timed). IsPartOf (acts_of entries) l) p (part_of_itself (acts_of entries))
+      subst (λ (l : List Timed). IsPartOf (timed_acts_of entries) l) p (part_of_itself (timed_acts_of entries))
   some_cleared Memory rows entries p = p
 
   passed_over : (rows : List DeskInUse) (row : DeskInUse) (entries : Log) → AreClears Memory moment rows entries
       → AreClears Memory moment (rows ++ row ∷ []) entries
   passed_over rows row entries p =
-      subst (λ (l : List Timed). IsPartOf (acts_of entries) l) (sym (more_rows rows row))
-      (part_without (acts_of entries) (map (clears moment) rows) (clears moment row) p)
+      subst (λ (l : List Timed). IsPartOf (timed_acts_of entries) l) (sym (more_rows rows row))
+      (part_without (timed_acts_of entries) (map (clears moment) rows) (clears moment row) p)
 
   -- no desk yet
   pub none_cleared : (old : RunnerState) → IsKnown old → Cleared moment Done [] old old

@@ -13,7 +13,7 @@ use Rattle.lobby_store.proofs.OrdersOut.{called_then, carries_none, carries_perh
 use Rattle.one_server.specs.declared.act.Timed.{Timed}
 use Rattle.one_server.specs.declared.reply.Reply.{Reply}
 use Rattle.one_server.specs.Running.{IsKnown, Log, Made, Ran, RunnerState}
-use Rattle.steward_core.specs.Clearing.{acts_of}
+use Rattle.steward_core.specs.Clearing.{timed_acts_of}
 use Rattle.steward_core.specs.Saving.{AreFullRounds, EndsRound, EndsSaving, HasCalled, IsCutShort, IsSaveRound, LeavesInDoubt, RoundAt, RoundDoubts, RunsRound, SavesTold, TakesSaving, TellsUpTo, asks_orders, last_number, orders_in, round_of, says_saved, tells_upto}
 use Rattle.steward_core.specs.declared.saving.SaveRound.{SaveRound}
 use Rattle.steward_core.specs.declared.saving.SaveRound.TheVariants as round
@@ -160,7 +160,7 @@ round_unasked moment store old new grew = record {
 abbrev pub Said : ℕ → Option ℕ → SavedTold → RunnerState → RunnerState → Type 0
 Said moment upto said old new =
     (entries : Log) × Made old entries new
-    × ((said ≡ told.Done → acts_of entries ≡ tells_upto moment upto) × (said ≡ told.Memory → entries ≡ []))
+    × ((said ≡ told.Done → timed_acts_of entries ≡ tells_upto moment upto) × (said ≡ told.Memory → entries ≡ []))
 
 pub said_made : (moment : ℕ) (upto : Option ℕ) (said : SavedTold) (old new : RunnerState) → IsKnown old
     → TellsUpTo moment upto said old new → Said moment upto said old new
@@ -181,7 +181,7 @@ module _ (moment : ℕ) (orders : List Order) (before after : Store) (answer : R
   round_made said made = made_then old mid new (asked ∷ []) said ran.grew made
 
   whole_round : (carried left : List Order) (said : Log) → orders ≡ carried ++ left → left ≡ []
-      → acts_of said ≡ tells_upto moment (last_number carried) → IsSaveRound moment (asked ∷ said) carried
+      → timed_acts_of said ≡ tells_upto moment (last_number carried) → IsSaveRound moment (asked ∷ said) carried
   unfolding asked
   whole_round carried left said all none acts =
       record {
@@ -194,7 +194,7 @@ module _ (moment : ℕ) (orders : List Order) (before after : Store) (answer : R
       }
 
   cut_round : (carried left : List Order) (said : Log) → orders ≡ carried ++ left
-      → (acts_of said ≡ tells_upto moment (last_number carried)) ⊎ (said ≡ [])
+      → (timed_acts_of said ≡ tells_upto moment (last_number carried)) ⊎ (said ≡ [])
       → IsCutShort moment (asked ∷ said) carried
   unfolding asked
   cut_round carried left said all acts =
@@ -210,7 +210,7 @@ module _ (moment : ℕ) (orders : List Order) (before after : Store) (answer : R
   same_length carried left all none = ap length (all ∙ ap (λ l. carried ++ l) none ∙ append-nil carried)
 
   ends_whole : (carried left : List Order) (said : Log) → orders ≡ carried ++ left → left ≡ []
-      → acts_of said ≡ tells_upto moment (last_number carried)
+      → timed_acts_of said ≡ tells_upto moment (last_number carried)
       → (is_full : Bool) → (length orders == 16) ≡ is_full
       → EndsRound moment (cond is_full round.Full (round.Last (length orders))) (asked ∷ said) carried
   ends_whole carried left said all none acts true full =
@@ -227,7 +227,7 @@ module _ (moment : ℕ) (orders : List Order) (before after : Store) (answer : R
 
   ends_by : (outcome : Kept) (said : SavedTold) (carried left : List Order) (entries : Log) → orders ≡ carried ++ left
       → (outcome ≡ kept.Done → left ≡ [])
-      → (said ≡ told.Done → acts_of entries ≡ tells_upto moment (last_number carried))
+      → (said ≡ told.Done → timed_acts_of entries ≡ tells_upto moment (last_number carried))
       → (said ≡ told.Memory → entries ≡ [])
       → EndsRound moment (round_of outcome said (length orders)) (asked ∷ entries) carried
   unfolding asked

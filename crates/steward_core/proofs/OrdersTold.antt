@@ -20,7 +20,7 @@ use Rattle.one_server.specs.Acts.{lobby_reply}
 use Rattle.one_server.specs.House.{house, no_parts}
 use Rattle.one_server.specs.Running.{Log, Made, Ran, RunnerState}
 use Rattle.steward_core.specs.Agreement.{state_seen}
-use Rattle.steward_core.specs.Saving.{Tells, TellsUpTo, asks_orders, last_number, orders_in, says_saved}
+use Rattle.steward_core.specs.Saving.{ToldAsSaved, TellsUpTo, asks_orders, last_number, orders_in, says_saved}
 use Rattle.steward_core.specs.declared.saving.SavedTold.{SavedTold}
 use Rattle.steward_core.specs.declared.saving.SavedTold.TheVariants as told
 use Rattle.steward_core.proofs.StatesLead.{lobby_in}
@@ -103,14 +103,14 @@ says_last orders last there = last_is orders (length orders - 1) last refl there
 pub tells_done : (moment : ℕ) (orders : List Order) (upto : ℕ) (end : SavedTold) (answer : Reply)
     (old new : RunnerState)
     → last_number orders ≡ Some upto → end ≡ told.Done
-    → Ran old (says_saved moment upto) answer new → Tells moment orders end old new
+    → Ran old (says_saved moment upto) answer new → ToldAsSaved moment orders end old new
 tells_done moment orders upto end answer old new last is ran =
-    subst (λ (e : SavedTold). Tells moment orders e old new) (sym is)
+    subst (λ (e : SavedTold). ToldAsSaved moment orders e old new) (sym is)
     (subst (λ (n : Option ℕ). TellsUpTo moment n told.Done old new) (sym last) (answer, ran))
 
 pub tells_short : (moment : ℕ) (orders : List Order) (upto : ℕ) (end : SavedTold) (old new : RunnerState)
     → last_number orders ≡ Some upto → end ≡ told.Memory
-    → Made old [] new → Tells moment orders end old new
+    → Made old [] new → ToldAsSaved moment orders end old new
 tells_short moment orders upto end old new last is made =
-    subst (λ (e : SavedTold). Tells moment orders e old new) (sym is)
+    subst (λ (e : SavedTold). ToldAsSaved moment orders e old new) (sym is)
     (subst (λ (n : Option ℕ). TellsUpTo moment n told.Memory old new) (sym last) made)

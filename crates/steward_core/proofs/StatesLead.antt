@@ -27,7 +27,7 @@ use Rattle.one_server.specs.declared.part.Part.{Part}
 use Rattle.one_server.specs.declared.part.Part.TheVariants.{Lobby as TheLobby, Desk as ADesk}
 use Rattle.one_server.specs.declared.reply.Reply.{Reply}
 use Rattle.one_server.specs.Acts.{IsEvent, planned_desk}
-use Rattle.one_server.specs.Desks.{has_ended, is_left}
+use Rattle.one_server.specs.Desks.{has_ended, nobody_looks_on}
 use Rattle.one_server.specs.House.{house, pair_lobby}
 use Rattle.one_server.specs.LawfulProof.{house_lawful}
 use Rattle.one_server.specs.CarryingProof.{carried_by}
@@ -82,8 +82,9 @@ module _ (xs : List Part) (w : IsWhole xs) (session moment : ℕ) where
       (place_is xs w.lobby w w.first number (ADesk desk) d).1 p in
       elim (has_ended desk serial)
       as (λ t.
-      LeadsAlong w.lobby (cond t (committed w.lobby (Clear by own serial) (kept_at desk) (is_left desk)) w.lobby)) [
-        | true ↦ leads_plan w.lobby (Clear by own serial) (kept_at desk) (is_left desk) w.formed p can
+      LeadsAlong w.lobby
+      (cond t (committed w.lobby (Clear by own serial) (kept_at desk) (nobody_looks_on desk)) w.lobby)) [
+        | true ↦ leads_plan w.lobby (Clear by own serial) (kept_at desk) (nobody_looks_on desk) w.formed p can
         | false ↦ leads_nowhere w.lobby
       ]
   leads_planned (Resume own serial stored terms seats) number desk o d p =

@@ -14,8 +14,8 @@ use Rattle.steward_core.specs.declared.clearing.ClearingEnd.{ClearingEnd}
 use Rattle.steward_core.specs.declared.clearing.ClearingEnd.TheVariants.{Done, Memory}
 
 -- the acts of entries, in their order
-abbrev pub acts_of : Log → List Timed
-acts_of log = map (λ e. e.act) log
+abbrev pub timed_acts_of : Log → List Timed
+timed_acts_of log = map (λ e. e.act) log
 
 -- the desks that a reply tells as in use
 abbrev pub rows_told : Reply → List DeskInUse
@@ -38,8 +38,8 @@ IsPartOf (x ∷ xs) (y ∷ ys) = ((x ≡ y) × IsPartOf xs ys) ⊎ IsPartOf (x �
 
 -- each of the desks has a Clear, in their order; or some have, where one ran out of memory
 abbrev pub AreClears : ClearingEnd → ℕ → List DeskInUse → Log → Type 0
-AreClears Done moment rows entries = acts_of entries ≡ map (clears moment) rows
-AreClears Memory moment rows entries = IsPartOf (acts_of entries) (map (clears moment) rows)
+AreClears Done moment rows entries = timed_acts_of entries ≡ map (clears moment) rows
+AreClears Memory moment rows entries = IsPartOf (timed_acts_of entries) (map (clears moment) rows)
 
 -- the first entry asks which desks are in use, and those behind it clear the desks that it tells
 pub record AsksAndClears (end : ClearingEnd) (moment : ℕ) (entries : Log) : Type 0 where

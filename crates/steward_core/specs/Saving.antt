@@ -14,7 +14,7 @@ use Rattle.one_server.specs.declared.act.Timed.{Timed}
 use Rattle.one_server.specs.declared.reply.Reply.{Reply}
 use Rattle.one_server.specs.declared.reply.Reply.TheVariants as reply
 use Rattle.one_server.specs.Running.{Log, Made, Ran, RunnerState}
-use Rattle.steward_core.specs.Clearing.{acts_of}
+use Rattle.steward_core.specs.Clearing.{timed_acts_of}
 use Rattle.steward_core.specs.declared.saving.SaveRound.{SaveRound}
 use Rattle.steward_core.specs.declared.saving.SaveRound.TheVariants as round
 use Rattle.steward_core.specs.declared.saving.SavedTold.{SavedTold}
@@ -36,9 +36,9 @@ abbrev pub says_saved : ℕ → ℕ → Timed
 says_saved moment upto = record { moment = moment; act = Lobby (Saved upto) }
 
 -- the save orders that the first of these entries was told
-abbrev pub orders_told : Log → List Order
-orders_told [] = []
-orders_told (first ∷ rest) = orders_in first.reply
+abbrev pub orders_told_in : Log → List Order
+orders_told_in [] = []
+orders_told_in (first ∷ rest) = orders_in first.reply
 
 -- the number of the last of these orders, if there is one
 abbrev pub last_number : List Order → Option ℕ
@@ -58,7 +58,7 @@ pub record IsSaveRound (moment : ℕ) (entries : Log) (orders : List Order) : Ty
   pub all : entries ≡ first ∷ rest
   pub asks : first.act ≡ asks_orders moment
   pub told : orders_in first.reply ≡ orders
-  pub saved : acts_of rest ≡ tells_upto moment (last_number orders)
+  pub saved : timed_acts_of rest ≡ tells_upto moment (last_number orders)
 
 -- a round that was cut short: of the orders that were told some were carried out, from the first one on. These were
 -- told as saved, or that ran out of memory
@@ -69,7 +69,7 @@ pub record IsCutShort (moment : ℕ) (entries : Log) (carried : List Order) : Ty
   pub asks : first.act ≡ asks_orders moment
   pub left : List Order
   pub told : orders_in first.reply ≡ carried ++ left
-  pub saved : (acts_of rest ≡ tells_upto moment (last_number carried)) ⊎ (rest ≡ [])
+  pub saved : (timed_acts_of rest ≡ tells_upto moment (last_number carried)) ⊎ (rest ≡ [])
 
 -- so many whole rounds, one after another, in each of which 16 orders were told: these are their entries, and these all
 -- their orders
@@ -96,7 +96,7 @@ EndsSaving moment Memory rounds entries orders = IsCutShort moment entries order
 
 -- of the orders that were told this one comes right behind those that were carried out
 abbrev pub IsNextTold : Log → List Order → Order → Type 0
-IsNextTold entries carried order = (left : List Order) × (orders_told entries ≡ carried ++ order ∷ left)
+IsNextTold entries carried order = (left : List Order) × (orders_told_in entries ≡ carried ++ order ∷ left)
 
 -- the one order that is in doubt: where the keeper failed, the next one that was told at the end, which may be carried
 -- out too; and else there is none
@@ -147,8 +147,8 @@ TellsUpTo moment (Some upto) told.Done old new = (answer : Reply) × Ran old (sa
 TellsUpTo moment (Some upto) told.Memory old new = Made old [] new
 
 -- these orders were told as saved
-abbrev pub Tells : ℕ → List Order → SavedTold → RunnerState → RunnerState → Type 0
-Tells moment orders end old new = TellsUpTo moment (last_number orders) end old new
+abbrev pub ToldAsSaved : ℕ → List Order → SavedTold → RunnerState → RunnerState → Type 0
+ToldAsSaved moment orders end old new = TellsUpTo moment (last_number orders) end old new
 
 -- how a round ended in which so many orders were told
 abbrev pub round_of : Kept → SavedTold → ℕ → SaveRound
@@ -171,7 +171,7 @@ pub record SavesTold (moment : ℕ) (end : SaveRound) (orders : List Order) (bef
   pub only_whole : left ≡ [] → outcome ≡ kept.Done
   pub table : CarriesPerhaps before.table after.table carried (in_doubt outcome left)
   pub called : CallsFor outcome carried before.calls after.calls
-  pub tells : Tells moment carried said old new
+  pub tells : ToldAsSaved moment carried said old new
   pub ends : end ≡ round_of outcome said (length orders)
 
 -- what a round carried out, by how it ended

@@ -4,7 +4,7 @@ ghost use Rattle.edge_traits.specs.Calls.{store_of};
 ghost use Rattle.edge_traits.specs.Faults.{Rose};
 ghost use Rattle.one_server.specs.Running.{IsKnown};
 ghost use Rattle.steward_core.specs.Agreement.{StaysAgreed};
-ghost use Rattle.steward_core.specs.Saving.{RunsRound, SavesTold, TakesSaving, Tells, orders_in, round_of};
+ghost use Rattle.steward_core.specs.Saving.{RunsRound, SavesTold, TakesSaving, ToldAsSaved, orders_in, round_of};
 ghost use Rattle.steward_core.specs.declared.saving.SaveRound.{SaveRound};
 ghost use Rattle.steward_core.specs.declared.turn.StewardEnd.{StewardEnd};
 
@@ -151,7 +151,7 @@ fn tell_saved<R: Runner>(
     orders: &[Order],
 ) -> SavedTold
     ensures home { R.home runner.new ≡ R.home runner.old }
-    ensures told { Tells moment orders.now result (R.state runner.old) (R.state runner.new) }
+    ensures told { ToldAsSaved moment orders.now result (R.state runner.old) (R.state runner.new) }
 {
     let Some(last) = orders.last() else {
         return SavedTold::Done;

@@ -8,8 +8,8 @@ abbrev pub most_bytes : ℕ
 most_bytes = 512
 
 -- so many more bytes may be appended to the line
-abbrev pub HasRoom : ℕ → List ℕ → Type 0
-HasRoom more line = length line + more ≤ most_bytes
+abbrev pub HasRoomInLine : ℕ → List ℕ → Type 0
+HasRoomInLine more line = length line + more ≤ most_bytes
 
 -- so many of the bytes, the first ones, are a line while it is written
 pub record HoldsDraft (bytes : List ℕ) (len : ℕ) : Type 0 where

@@ -4,7 +4,7 @@ ghost use Rattle.std.specs.List.{list_all};
 ghost use Rattle.chess_model.specs.MoveText.{is_printable};
 ghost use Rattle.style12_writer.specs.Board.{square_letter, rank_text, ranks, colour_to_move, double_push, castle_flags, flag_text};
 ghost use Rattle.style12_writer.specs.Line12.{position_fields};
-ghost use Rattle.style12_writer.specs.Room.{HasRoom};
+ghost use Rattle.style12_writer.specs.Room.{HasRoomInLine};
 ghost use Rattle.style12_writer.specs.Spaced.{spaced};
 
 use crate::draft::Draft;
@@ -17,7 +17,7 @@ pub(crate) const RANKS: [usize; 8] = [7, 6, 5, 4, 3, 2, 1, 0];
 /// Appends the fields of the position.
 #[tactic(auto, unfolding(crate::specs::Line12::position_fields))]
 pub(crate) fn put_position(line: &mut Draft, face: &Face)
-    requires room { HasRoom 124 line.old }
+    requires room { HasRoomInLine 124 line.old }
     ensures text { line.new ≡ line.old ++ spaced (position_fields face.now) }
     ensures most { length line.new ≤ length line.old + 124 }
 {
@@ -31,7 +31,7 @@ pub(crate) fn put_position(line: &mut Draft, face: &Face)
 /// Appends the four flags of castling, each as a field.
 #[tactic(auto, unfolding(crate::specs::Board::castle_flags))]
 fn put_castlings(line: &mut Draft, rights: &[bool; 4])
-    requires room { HasRoom 8 line.old }
+    requires room { HasRoomInLine 8 line.old }
     ensures text { line.new ≡ line.old ++ spaced (castle_flags rights.now) }
     ensures len { length line.new ≡ length line.old + 8 }
 {
@@ -44,7 +44,7 @@ fn put_castlings(line: &mut Draft, rights: &[bool; 4])
 /// Appends the eight ranks, each as a field.
 #[tactic(auto, unfolding(crate::specs::Board::ranks))]
 fn put_ranks(line: &mut Draft, men: &[Option<Man>; 64])
-    requires room { HasRoom 72 line.old }
+    requires room { HasRoomInLine 72 line.old }
     ensures text { line.new ≡ line.old ++ spaced (ranks men.now) }
     ensures len { length line.new ≡ length line.old + 72 }
 {
@@ -67,7 +67,7 @@ pub(crate) fn colour_to_move(colour: Colour) -> &'static [u8]
 
 /// Appends the file of a double push, or -1.
 fn put_push(line: &mut Draft, push: Option<u8>)
-    requires room { HasRoom 21 line.old }
+    requires room { HasRoomInLine 21 line.old }
     ensures text { line.new ≡ line.old ++ 32 ∷ double_push push }
     ensures most { length line.new ≤ length line.old + 21 }
 {
@@ -80,7 +80,7 @@ fn put_push(line: &mut Draft, push: Option<u8>)
 /// Appends the eight squares of a rank as a field.
 fn put_rank(line: &mut Draft, men: &[Option<Man>; 64], rank: usize)
     requires rank { rank < 8 }
-    requires room { HasRoom 9 line.old }
+    requires room { HasRoomInLine 9 line.old }
     ensures text { line.new ≡ line.old ++ 32 ∷ rank_text men.now rank }
     ensures len { length line.new ≡ length line.old + 9 }
 {
@@ -91,7 +91,7 @@ fn put_rank(line: &mut Draft, men: &[Option<Man>; 64], rank: usize)
 /// Appends the eight squares of a rank.
 pub(crate) fn put_squares(line: &mut Draft, men: &[Option<Man>; 64], rank: usize)
     requires rank { rank < 8 }
-    requires room { HasRoom 8 line.old }
+    requires room { HasRoomInLine 8 line.old }
     ensures text { line.new ≡ line.old ++ rank_text men.now rank }
     ensures len { length line.new ≡ length line.old + 8 }
 {

@@ -4,7 +4,7 @@ ghost use Rattle.std.specs.Fmt.{signed_decimal};
 ghost use Rattle.std.specs.List.{list_all};
 ghost use Rattle.fics_words.specs.Handle.{most_handle_letters};
 ghost use Rattle.chess_model.specs.MoveText.{is_printable};
-ghost use Rattle.style12_writer.specs.Room.{HasRoom};
+ghost use Rattle.style12_writer.specs.Room.{HasRoomInLine};
 
 use fics_words::{Handle, Line};
 use itoa::Buffer;
@@ -47,7 +47,7 @@ impl Draft {
     /// Appends a text.
     pub(crate) fn text(&mut self, text: &[u8])
         requires printable { IsTrue (list_all is_printable text.now) }
-        requires room { HasRoom (length text.now) self.old }
+        requires room { HasRoomInLine (length text.now) self.old }
         ensures text { self.new ≡ self.old ++ text.now }
         ensures len { length self.new ≡ length self.old + length text.now }
     {
@@ -59,7 +59,7 @@ impl Draft {
     /// Appends a byte.
     pub(crate) fn byte(&mut self, byte: u8)
         requires printable { IsTrue (is_printable byte) }
-        requires room { HasRoom 1 self.old }
+        requires room { HasRoomInLine 1 self.old }
         ensures text { self.new ≡ self.old ++ byte ∷ [] }
         ensures len { length self.new ≡ length self.old + 1 }
     {
@@ -69,7 +69,7 @@ impl Draft {
 
     /// Appends a player's name.
     pub(crate) fn name(&mut self, handle: &Handle)
-        requires room { HasRoom most_handle_letters self.old }
+        requires room { HasRoomInLine most_handle_letters self.old }
         ensures text { self.new ≡ self.old ++ handle.now }
         ensures most { length self.new ≤ length self.old + most_handle_letters }
     {
@@ -78,7 +78,7 @@ impl Draft {
 
     /// Appends a decimal.
     pub(crate) fn number(&mut self, n: u64)
-        requires room { HasRoom 20 self.old }
+        requires room { HasRoomInLine 20 self.old }
         ensures text { self.new ≡ self.old ++ decimal n }
         ensures most { length self.new ≤ length self.old + 20 }
     {
@@ -87,7 +87,7 @@ impl Draft {
 
     /// Appends a decimal with its sign where it is below 0.
     pub(crate) fn signed(&mut self, n: i64)
-        requires room { HasRoom 20 self.old }
+        requires room { HasRoomInLine 20 self.old }
         ensures text { self.new ≡ self.old ++ signed_decimal n }
         ensures most { length self.new ≤ length self.old + 20 }
     {
@@ -97,7 +97,7 @@ impl Draft {
     /// Appends a blank and a field.
     pub(crate) fn field(&mut self, field: &[u8])
         requires printable { IsTrue (list_all is_printable field.now) }
-        requires room { HasRoom (1 + length field.now) self.old }
+        requires room { HasRoomInLine (1 + length field.now) self.old }
         ensures text { self.new ≡ self.old ++ 32 ∷ field.now }
         ensures len { length self.new ≡ length self.old + 1 + length field.now }
     {
@@ -107,7 +107,7 @@ impl Draft {
 
     /// Appends a blank and a player's name.
     pub(crate) fn name_field(&mut self, handle: &Handle)
-        requires room { HasRoom 18 self.old }
+        requires room { HasRoomInLine 18 self.old }
         ensures text { self.new ≡ self.old ++ 32 ∷ handle.now }
         ensures most { length self.new ≤ length self.old + 18 }
     {
@@ -117,7 +117,7 @@ impl Draft {
 
     /// Appends a blank and a decimal.
     pub(crate) fn number_field(&mut self, n: u64)
-        requires room { HasRoom 21 self.old }
+        requires room { HasRoomInLine 21 self.old }
         ensures text { self.new ≡ self.old ++ 32 ∷ decimal n }
         ensures most { length self.new ≤ length self.old + 21 }
     {
@@ -127,7 +127,7 @@ impl Draft {
 
     /// Appends a blank and a decimal with its sign where it is below 0.
     pub(crate) fn signed_field(&mut self, n: i64)
-        requires room { HasRoom 21 self.old }
+        requires room { HasRoomInLine 21 self.old }
         ensures text { self.new ≡ self.old ++ 32 ∷ signed_decimal n }
         ensures most { length self.new ≤ length self.old + 21 }
     {

@@ -3,7 +3,7 @@ ghost use Rattle.std.specs.Prelude.{◌≡◌, ◌+◌, ◌≤◌, ◌↔◌, �
 ghost use Rattle.std.specs.List.{list_all};
 ghost use Rattle.chess_model.specs.MoveText.{is_printable};
 ghost use Rattle.style12_writer.specs.EndLine.{is_decisive, loser_text, manner_text, reason_text, result_text, end_text};
-ghost use Rattle.style12_writer.specs.Room.{HasRoom};
+ghost use Rattle.style12_writer.specs.Room.{HasRoomInLine};
 
 use crate::draft::Draft;
 use crate::game_line::put_game;
@@ -52,7 +52,7 @@ pub fn end_line(
 
 /// Appends why the game ended: 43 bytes at most.
 fn put_reason(line: &mut Draft, v: &BoardView, why: Why, winner: Option<Colour>, own: bool)
-    requires room { HasRoom 43 line.old }
+    requires room { HasRoomInLine 43 line.old }
     ensures text { line.new ≡ line.old ++ reason_text v.now why winner own }
     ensures most { length line.new ≤ length line.old + 43 }
 {
@@ -66,7 +66,7 @@ fn put_reason(line: &mut Draft, v: &BoardView, why: Why, winner: Option<Colour>,
 
 /// Appends the name of the player who lost and a blank, where somebody won.
 fn put_loser(line: &mut Draft, v: &BoardView, winner: Option<Colour>)
-    requires room { HasRoom 18 line.old }
+    requires room { HasRoomInLine 18 line.old }
     ensures text { line.new ≡ line.old ++ loser_text v.now winner }
     ensures most { length line.new ≤ length line.old + 18 }
 {
@@ -79,7 +79,7 @@ fn put_loser(line: &mut Draft, v: &BoardView, winner: Option<Colour>)
 
 /// Appends a player's name and a blank.
 fn put_name(line: &mut Draft, player: &Handle)
-    requires room { HasRoom 18 line.old }
+    requires room { HasRoomInLine 18 line.old }
     ensures text { line.new ≡ line.old ++ player.now ++ codes " " }
     ensures most { length line.new ≤ length line.old + 18 }
 {

@@ -1,14 +1,14 @@
 //! The beginning of a line about a game.
 ghost use Rattle.std.specs.Prelude.{◌≡◌, ◌+◌, ◌≤◌, ◌++◌, length};
 ghost use Rattle.style12_writer.specs.GameLine.{game_text, number_text};
-ghost use Rattle.style12_writer.specs.Room.{HasRoom};
+ghost use Rattle.style12_writer.specs.Room.{HasRoomInLine};
 
 use crate::draft::Draft;
 use fics_words::Handle;
 
 /// Appends the number of the game and its players, `{Game G (W vs. B) `: 69 bytes at most.
 pub(crate) fn put_game(line: &mut Draft, game: u16, white: &Handle, black: &Handle)
-    requires room { HasRoom 69 line.old }
+    requires room { HasRoomInLine 69 line.old }
     ensures text { line.new ≡ line.old ++ game_text game white.now black.now }
     ensures most { length line.new ≤ length line.old + 69 }
 {
@@ -21,7 +21,7 @@ pub(crate) fn put_game(line: &mut Draft, game: u16, white: &Handle, black: &Hand
 
 /// Appends the number of the game, up to its players.
 fn put_number(line: &mut Draft, game: u16)
-    requires room { HasRoom 28 line.old }
+    requires room { HasRoomInLine 28 line.old }
     ensures text { line.new ≡ line.old ++ number_text game }
     ensures most { length line.new ≤ length line.old + 28 }
 {

@@ -2,7 +2,7 @@
 ghost use Rattle.std.specs.Prelude.{◌≡◌, ◌+◌, ◌≤◌, [], ◌∷◌, ◌++◌, IfOk, length};
 ghost use Rattle.move_writer.specs.Letters.{letter_of};
 ghost use Rattle.style12_writer.specs.HoldingsLine.{came_text, hand_text, holdings_text, men_text};
-ghost use Rattle.style12_writer.specs.Room.{HasRoom};
+ghost use Rattle.style12_writer.specs.Room.{HasRoomInLine};
 
 use crate::draft::Draft;
 use chess_model::Kind;
@@ -41,7 +41,7 @@ pub fn line_b1(
 
 /// Appends the men in a hand.
 fn put_hand(line: &mut Draft, hand: &Holdings)
-    requires room { HasRoom 80 line.old }
+    requires room { HasRoomInLine 80 line.old }
     ensures text { line.new ≡ line.old ++ hand_text hand.now }
     ensures most { length line.new ≤ length line.old + 80 }
 {
@@ -54,7 +54,7 @@ fn put_hand(line: &mut Draft, hand: &Holdings)
 
 /// Appends a letter for each man of a kind.
 fn put_men(line: &mut Draft, kind: Kind, count: u8)
-    requires room { HasRoom 16 line.old }
+    requires room { HasRoomInLine 16 line.old }
     ensures text { line.new ≡ line.old ++ men_text kind count }
     ensures most { length line.new ≤ length line.old + 16 }
 {
@@ -65,7 +65,7 @@ fn put_men(line: &mut Draft, kind: Kind, count: u8)
 
 /// Appends the letter of a kind.
 fn put_letter(line: &mut Draft, kind: Kind)
-    requires room { HasRoom 1 line.old }
+    requires room { HasRoomInLine 1 line.old }
     ensures text { line.new ≡ line.old ++ letter_of kind ∷ [] }
     ensures len { length line.new ≡ length line.old + 1 }
 {
@@ -74,7 +74,7 @@ fn put_letter(line: &mut Draft, kind: Kind)
 
 /// Appends the man that has just come, if one has.
 fn put_came(line: &mut Draft, came: Option<Kind>)
-    requires room { HasRoom 5 line.old }
+    requires room { HasRoomInLine 5 line.old }
     ensures text { line.new ≡ line.old ++ came_text came }
     ensures most { length line.new ≤ length line.old + 5 }
 {

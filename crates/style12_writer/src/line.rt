@@ -6,7 +6,7 @@ ghost use Rattle.std.specs.List.{list_all};
 ghost use Rattle.chess_model.specs.MoveText.{is_printable};
 ghost use Rattle.style12_writer.specs.Clocks.{whole_seconds_of, time_taken, two_digits_of};
 ghost use Rattle.style12_writer.specs.Line12.{game_number, white_name, black_name, game_fields, strength_fields, move_fields, fields_of, line12_text, cut_at_blanks};
-ghost use Rattle.style12_writer.specs.Room.{HasRoom};
+ghost use Rattle.style12_writer.specs.Room.{HasRoomInLine};
 ghost use Rattle.style12_writer.specs.Spaced.{spaced};
 
 use crate::board::{flag, put_position};
@@ -34,7 +34,7 @@ pub fn line12(alloc: Global, v: &BoardView, who: Viewer) -> Result<Line, NoMemor
 /// Appends the fields of the game and its terms.
 #[tactic(auto, unfolding(crate::specs::Line12::game_fields))]
 fn put_game(line: &mut Draft, v: &BoardView, who: Viewer)
-    requires room { HasRoom 120 line.old }
+    requires room { HasRoomInLine 120 line.old }
     ensures text { line.new ≡ line.old ++ spaced (game_fields v.now who) }
     ensures most { length line.new ≤ length line.old + 120 }
 {
@@ -46,7 +46,7 @@ fn put_game(line: &mut Draft, v: &BoardView, who: Viewer)
 
 /// Appends the fields of the game's number and its players.
 fn put_players(line: &mut Draft, v: &BoardView)
-    requires room { HasRoom 57 line.old }
+    requires room { HasRoomInLine 57 line.old }
     ensures text { line.new
         ≡ line.old ++ spaced (game_number v.now ∷ white_name v.now ∷ black_name v.now ∷ []) }
     ensures most { length line.new ≤ length line.old + 57 }
@@ -59,7 +59,7 @@ fn put_players(line: &mut Draft, v: &BoardView)
 /// Appends the fields of what the players have.
 #[tactic(auto, unfolding(crate::specs::Line12::strength_fields))]
 fn put_strengths(line: &mut Draft, v: &BoardView)
-    requires room { HasRoom 84 line.old }
+    requires room { HasRoomInLine 84 line.old }
     ensures text { line.new ≡ line.old ++ spaced (strength_fields v.now) }
     ensures most { length line.new ≤ length line.old + 84 }
 {
@@ -73,7 +73,7 @@ fn put_strengths(line: &mut Draft, v: &BoardView)
 /// Appends the fields of the moves, and the board's orientation.
 #[tactic(auto, unfolding(crate::specs::Line12::move_fields))]
 fn put_moves(line: &mut Draft, v: &BoardView, who: Viewer)
-    requires room { HasRoom 80 line.old }
+    requires room { HasRoomInLine 80 line.old }
     ensures text { line.new ≡ line.old ++ spaced (move_fields v.now who) }
     ensures most { length line.new ≤ length line.old + 80 }
 {
@@ -86,7 +86,7 @@ fn put_moves(line: &mut Draft, v: &BoardView, who: Viewer)
 
 /// Appends a time in milliseconds as a field of whole seconds, truncated towards zero.
 fn put_seconds(line: &mut Draft, millis: i64)
-    requires room { HasRoom 21 line.old }
+    requires room { HasRoomInLine 21 line.old }
     ensures text { line.new ≡ line.old ++ 32 ∷ signed_decimal (whole_seconds_of millis) }
     ensures most { length line.new ≤ length line.old + 21 }
 {
@@ -95,7 +95,7 @@ fn put_seconds(line: &mut Draft, millis: i64)
 
 /// Appends a time in milliseconds as the field `(m:ss)`.
 fn put_time_taken(line: &mut Draft, millis: u64)
-    requires room { HasRoom 26 line.old }
+    requires room { HasRoomInLine 26 line.old }
     ensures text { line.new ≡ line.old ++ 32 ∷ time_taken millis }
     ensures most { length line.new ≤ length line.old + 26 }
 {

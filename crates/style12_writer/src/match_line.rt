@@ -4,7 +4,7 @@ ghost use Rattle.std.specs.List.{list_all};
 ghost use Rattle.chess_model.specs.MoveText.{is_printable};
 ghost use Rattle.chess_model.specs.VariantWord.{word_of};
 ghost use Rattle.style12_writer.specs.MatchLine.{match_text, terms_text};
-ghost use Rattle.style12_writer.specs.Room.{HasRoom};
+ghost use Rattle.style12_writer.specs.Room.{HasRoomInLine};
 
 use crate::draft::Draft;
 use crate::game_line::put_game;
@@ -37,7 +37,7 @@ pub(crate) fn match_line(
 
 /// Appends the minutes, the increment and the variant.
 fn put_terms(line: &mut Draft, terms: &Terms)
-    requires room { HasRoom 60 line.old }
+    requires room { HasRoomInLine 60 line.old }
     ensures text { line.new ≡ line.old ++ terms_text terms.now }
     ensures most { length line.new ≤ length line.old + 60 }
 {
@@ -50,7 +50,7 @@ fn put_terms(line: &mut Draft, terms: &Terms)
 
 /// Appends the name of a variant.
 fn put_variant(line: &mut Draft, variant: Variant)
-    requires room { HasRoom 12 line.old }
+    requires room { HasRoomInLine 12 line.old }
     ensures text { line.new ≡ line.old ++ word_of variant }
     ensures most { length line.new ≤ length line.old + 12 }
 {

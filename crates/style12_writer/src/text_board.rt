@@ -2,7 +2,7 @@
 ghost use Rattle.std.specs.Prelude.{◌≡◌, ◌+◌, ◌<◌, ◌≤◌, ◌++◌, IfOk, length};
 ghost use Rattle.std.specs.Fmt.{signed_decimal};
 ghost use Rattle.style12_writer.specs.Board.{rank_text, ranks};
-ghost use Rattle.style12_writer.specs.Room.{HasRoom};
+ghost use Rattle.style12_writer.specs.Room.{HasRoomInLine};
 ghost use Rattle.style12_writer.specs.TextBoard.{board1_lines, clocks_text, summary_text, turn_text};
 ghost use Rattle.style12_writer.specs.Clocks.{whole_seconds_of};
 
@@ -63,7 +63,7 @@ fn summary(alloc: Global, v: &BoardView) -> Result<Line, NoMemory>
 
 /// Appends who is to move, and in which game.
 fn put_to_move(line: &mut Draft, v: &BoardView)
-    requires room { HasRoom 40 line.old }
+    requires room { HasRoomInLine 40 line.old }
     ensures text { line.new ≡ line.old ++ turn_text v.now }
     ensures most { length line.new ≤ length line.old + 40 }
 {
@@ -74,7 +74,7 @@ fn put_to_move(line: &mut Draft, v: &BoardView)
 
 /// Appends the clocks.
 fn put_clocks(line: &mut Draft, v: &BoardView)
-    requires room { HasRoom 60 line.old }
+    requires room { HasRoomInLine 60 line.old }
     ensures text { line.new ≡ line.old ++ clocks_text v.now }
     ensures most { length line.new ≤ length line.old + 60 }
 {
@@ -86,7 +86,7 @@ fn put_clocks(line: &mut Draft, v: &BoardView)
 
 /// Appends a time in milliseconds as whole seconds, truncated towards zero.
 fn put_whole_seconds(line: &mut Draft, millis: i64)
-    requires room { HasRoom 20 line.old }
+    requires room { HasRoomInLine 20 line.old }
     ensures text { line.new ≡ line.old ++ signed_decimal (whole_seconds_of millis) }
     ensures most { length line.new ≤ length line.old + 20 }
 {

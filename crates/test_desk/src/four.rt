@@ -2,7 +2,7 @@
 ghost use Rattle.std.specs.Prelude.{◌≡◌, ◌≢◌, length};
 ghost use Rattle.fics_words.specs.Handle.{key_of};
 ghost use Rattle.fics_words.specs.Seats.{seat_list};
-ghost use Rattle.linked_desk.specs.Seating.{AllDiffer, HasPairsFor, names_of, sessions_of};
+ghost use Rattle.linked_desk.specs.Seating.{AllDiffer, HasPairsFor, names_of, sessions_seated};
 
 use crate::table::{ANN, Accounts, BEN, Sitting, player};
 use chess_model::{Terms, Variant};
@@ -18,7 +18,7 @@ pub const DAN: u32 = 4;
 /// Ann and Ben have White and Black of the first board, Cat and Dan those of the second, in an untimed game.
 pub fn four(rt: &impl Abort, accounts: Accounts) -> Sitting
     ensures pairs { HasPairsFor result.terms result.seats }
-    ensures sessions { AllDiffer (sessions_of result.seats) }
+    ensures sessions { AllDiffer (sessions_seated result.seats) }
     ensures names { AllDiffer (names_of result.seats) }
 {
     Sitting {
@@ -33,7 +33,7 @@ pub fn four(rt: &impl Abort, accounts: Accounts) -> Sitting
 }
 
 fn four_seats(rt: &impl Abort, accounts: Accounts) -> Seats
-    ensures sessions { AllDiffer (sessions_of result) }
+    ensures sessions { AllDiffer (sessions_seated result) }
     ensures names { AllDiffer (names_of result) }
     ensures four { length (seat_list result) ≡ 4 }
 {

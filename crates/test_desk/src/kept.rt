@@ -1,7 +1,7 @@
 //! A stored game, as it goes on again.
 ghost use Rattle.std.specs.Prelude.{◌≡◌, ◌++◌, ◌∷◌, [], IfOk, None, OnOk};
-ghost use Rattle.linked_desk.specs.Seating.{AllDiffer, HasPairsFor, names_of, sessions_of};
-ghost use Rattle.linked_desk.specs.Shelve.{names_in};
+ghost use Rattle.linked_desk.specs.Seating.{AllDiffer, HasPairsFor, names_of, sessions_seated};
+ghost use Rattle.linked_desk.specs.Shelve.{names_seated};
 
 use crate::table::SERIAL;
 use clock_ledger::Moment;
@@ -22,16 +22,16 @@ pub fn restores(
 ) -> Result<bool, NoMemory>
     requires vacant { desk.old.game ≡ None }
     requires pairs { HasPairsFor game.now.terms seats.now }
-    requires sessions { AllDiffer (sessions_of seats.now) }
+    requires sessions { AllDiffer (sessions_seated seats.now) }
     requires names { AllDiffer (names_of seats.now) }
-    requires players { names_in seats.now ≡ game.now.names }
+    requires players { names_seated seats.now ≡ game.now.names }
 {
     desk.restore(alloc, SERIAL, game, seats, Moment::new(u64::from(moment)))
 }
 
 /// The players' names in the order of their seats.
 pub fn names_in(alloc: Global, seats: &Seats) -> Result<Listed<Handle>, NoMemory>
-    ensures { IfOk result (λ names. names ≡ names_in seats.now) }
+    ensures { IfOk result (λ names. names ≡ names_seated seats.now) }
 {
     let mut names = Listed::new(alloc);
     add_names(&mut names, &seats.first)?;

@@ -1,7 +1,7 @@
 //! Stored games that nobody adjourned, as they may lie in a store: one that its last half-move has ended is over at
 //! once, and one that doesn't replay is no game.
 ghost use Rattle.std.specs.Prelude.{◌≡◌, None};
-ghost use Rattle.linked_desk.specs.Seating.{AllDiffer, HasPairsFor, names_of, sessions_of};
+ghost use Rattle.linked_desk.specs.Seating.{AllDiffer, HasPairsFor, names_of, sessions_seated};
 
 use crate::kept::{names_in, restores};
 use crate::stages::{Stage, first_wrong_at};
@@ -206,7 +206,7 @@ fn comes_so(
 ) -> Result<bool, NoMemory>
     requires vacant { desk.old.game ≡ None }
     requires pairs { HasPairsFor sitting.now.terms sitting.now.seats }
-    requires sessions { AllDiffer (sessions_of sitting.now.seats) }
+    requires sessions { AllDiffer (sessions_seated sitting.now.seats) }
     requires names { AllDiffer (names_of sitting.now.seats) }
 {
     let game = StoredGame {

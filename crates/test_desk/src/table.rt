@@ -2,7 +2,7 @@
 ghost use Rattle.std.specs.Prelude.{IfSome};
 ghost use Rattle.clock_ledger.specs.Span.{IsStamp};
 ghost use Rattle.linked_desk.specs.Acts.{FitsDeskAct};
-ghost use Rattle.linked_desk.specs.Seating.{AllDiffer, HasPairsFor, names_of, sessions_of};
+ghost use Rattle.linked_desk.specs.Seating.{AllDiffer, HasPairsFor, names_of, sessions_seated};
 
 use crate::four::four;
 use chess_model::{MoveWord, Square, Terms, Variant};
@@ -92,7 +92,7 @@ pub fn desk_with_game(rt: &impl Abort, alloc: Global, minutes: u16, increment: u
 /// Desk 1 with a game that began so at moment 0.
 pub fn desk_with(rt: &impl Abort, alloc: Global, sitting: &Sitting) -> Desk
     requires pairs { HasPairsFor sitting.now.terms sitting.now.seats }
-    requires sessions { AllDiffer (sessions_of sitting.now.seats) }
+    requires sessions { AllDiffer (sessions_seated sitting.now.seats) }
     requires names { AllDiffer (names_of sitting.now.seats) }
 {
     let mut desk = Desk::vacant(DeskNumber::new(1));
@@ -104,7 +104,7 @@ pub fn desk_with(rt: &impl Abort, alloc: Global, sitting: &Sitting) -> Desk
 /// Ann and Ben, who play chess.
 fn two(rt: &impl Abort, accounts: Accounts, minutes: u16, increment: u16) -> Sitting
     ensures pairs { HasPairsFor result.terms result.seats }
-    ensures sessions { AllDiffer (sessions_of result.seats) }
+    ensures sessions { AllDiffer (sessions_seated result.seats) }
     ensures names { AllDiffer (names_of result.seats) }
 {
     let white = player(rt, accounts, ANN, "Ann");
@@ -150,7 +150,7 @@ pub fn desk_of(rt: &impl Abort, alloc: Global, opening: Opening) -> Desk {
 /// Who sits there.
 pub fn who_sits(rt: &impl Abort, opening: Opening) -> Sitting
     ensures pairs { HasPairsFor result.terms result.seats }
-    ensures sessions { AllDiffer (sessions_of result.seats) }
+    ensures sessions { AllDiffer (sessions_seated result.seats) }
     ensures names { AllDiffer (names_of result.seats) }
 {
     match opening {

@@ -2,7 +2,7 @@
 
 ghost use Rattle.std.specs.Prelude.{◌≡◌, ◌<◌, ◌-◌, ◌^◌, ◌++◌, ◌∷◌, [], IfSome};
 ghost use Rattle.std.specs.Prelude.{map};
-ghost use Rattle.hall_core.specs.Passes.{divided};
+ghost use Rattle.hall_core.specs.Passes.{pass_divided};
 ghost use Rattle.one_server.specs.Acts.{IsEvent};
 ghost use Rattle.turn_table.specs.Views.{joined_number};
 
@@ -62,7 +62,7 @@ impl<'a, J: Here> Guest<'a, J> {
         requires here { first.old.home ≡ J.hall }
         requires first { first.old.number ≡ 0 }
         requires room { first.old.splits < 2 ^ 32 - 1 }
-        ensures { first.new ≡ divided first.old }
+        ensures { first.new ≡ pass_divided first.old }
     {
         Guest {
             hall,

@@ -10,7 +10,7 @@ use Rattle.std.proofs.lemmas.List.{length-map}
 use Rattle.tourney_desk.specs.declared.score.Report.{Report}
 use Rattle.tourney_desk.specs.declared.score.Score.{Score}
 use Rattle.tourney_desk.specs.declared.score.Score.TheVariants.{White, Draw, Black}
-use Rattle.tourney_desk.specs.Scores.{black_halves, halves_from, has_player, white_halves}
+use Rattle.tourney_desk.specs.Scores.{black_halves, halves_from, is_by_player, white_halves}
 use Rattle.tourney_desk.specs.Tourney.{is_of_game, same_players}
 
 -- the first of a list whose elements are apart in pairs is apart from the others, and these are too
@@ -150,7 +150,7 @@ data Sides (player : ℕ) (report : Report) : Type 0 where
   AsWhite : report.white ≡ player → report.black ≡ opponent player report → Sides player report
   AsBlack : report.black ≡ player → report.white ≡ opponent player report → Sides player report
 
-sides : (player : ℕ) (report : Report) → has_player player report ≡ true → Sides player report
+sides : (player : ℕ) (report : Report) → is_by_player player report ≡ true → Sides player report
 sides player report has =
     elim (eqb report.white player) as (λ t. eqb report.white player ≡ t → Sides player report) [
       | true ↦ λ e. AsWhite (eqb-true report.white player e) (sym (ap (λ t. cond t report.black report.white) e))
@@ -166,7 +166,7 @@ same_opponent player x y (AsWhite w b) (AsBlack b' w') e = turned_if x y (w ∙ 
 same_opponent player x y (AsBlack b w) (AsWhite w' b') e = turned_if x y (w ∙ e ∙ sym b') (b ∙ sym w')
 same_opponent player x y (AsBlack b w) (AsBlack b' w') e = same_if x y (w ∙ e ∙ sym w') (b ∙ sym b')
 
-opponents_differ : (player : ℕ) → Numbers Apart IsSmall (has_player player) (opponent player) 64
+opponents_differ : (player : ℕ) → Numbers Apart IsSmall (is_by_player player) (opponent player) 64
 opponents_differ player = record {
   below = λ x p k. opponent_small player x p;
   differ = λ x y p q k l r e.
@@ -175,7 +175,7 @@ opponents_differ player = record {
 
 -- a player has at most 64 results
 pub few_games : (player : ℕ) (reports : List Report) → AllPairs Apart reports → All IsSmall reports
-    → count_by (has_player player) reports ≤ 64
+    → count_by (is_by_player player) reports ≤ 64
 few_games player reports r p = few_kept (opponents_differ player) reports r p
 
 white_most : (score : Score) → white_halves score ≤ 2
@@ -188,7 +188,7 @@ black_most White = omega arith
 black_most Draw = omega arith
 black_most Black = omega arith
 
-one_most : (player : ℕ) (report : Report) → halves_from player report ≤ 2 * cond (has_player player report) 1 0
+one_most : (player : ℕ) (report : Report) → halves_from player report ≤ 2 * cond (is_by_player player report) 1 0
 one_most player report =
     elim (eqb report.white player)
     as (λ s.
@@ -207,19 +207,20 @@ bounds h hs g gs h' g' p q e f = omega arith
 
 -- and at most two half-points from each
 pub halves_most : (player : ℕ) (reports : List Report)
-    → sum_by (halves_from player) reports ≤ 2 * count_by (has_player player) reports
+    → sum_by (halves_from player) reports ≤ 2 * count_by (is_by_player player) reports
 halves_most player [] = omega arith
 halves_most player (report ∷ reports) =
-    let rest : sum_by (halves_from player) reports ≤ 2 * count_by (has_player player) reports =
+    let rest : sum_by (halves_from player) reports ≤ 2 * count_by (is_by_player player) reports =
     halves_most player reports in
-    let first : halves_from player report ≤ 2 * cond (has_player player report) 1 0 = one_most player report in
+    let first : halves_from player report ≤ 2 * cond (is_by_player player report) 1 0 = one_most player report in
     let halves : sum_by (halves_from player) (report ∷ reports)
     ≡ halves_from player report + sum_by (halves_from player) reports =
     sum_by-cons (halves_from player) report reports in
-    let games : count_by (has_player player) (report ∷ reports)
-    ≡ cond (has_player player report) 1 0 + count_by (has_player player) reports =
-    sum_by-cons (λ r. cond (has_player player r) 1 0) report reports in
-    bounds (halves_from player report) (sum_by (halves_from player) reports) (cond (has_player player report) 1 0)
-    (count_by (has_player player) reports)
-    (sum_by (halves_from player) (report ∷ reports)) (count_by (has_player player) (report ∷ reports)) first rest halves
+    let games : count_by (is_by_player player) (report ∷ reports)
+    ≡ cond (is_by_player player report) 1 0 + count_by (is_by_player player) reports =
+    sum_by-cons (λ r. cond (is_by_player player r) 1 0) report reports in
+    bounds (halves_from player report) (sum_by (halves_from player) reports) (cond (is_by_player player report) 1 0)
+    (count_by (is_by_player player) reports)
+    (sum_by (halves_from player) (report ∷ reports)) (count_by (is_by_player player) (report ∷ reports)) first rest
+    halves
     games

@@ -7,7 +7,7 @@ use Rattle.std.proofs.lemmas.List.{length_push}
 use Rattle.std.proofs.lemmas.List.Elements.{All-cons, All-get_or, All-nil, All-push, All-weaker}
 use Rattle.std.proofs.lemmas.List.Quantifiers.{all_pairs_push}
 use Rattle.tourney_desk.specs.Pairing.{is_paired}
-use Rattle.tourney_desk.specs.Scores.{has_player}
+use Rattle.tourney_desk.specs.Scores.{is_by_player}
 use Rattle.tourney_desk.specs.Tourney.{IsTourney, TourneyState, is_of_game, same_players}
 use Rattle.tourney_desk.specs.declared.score.Report.{Report}
 use Rattle.tourney_desk.specs.declared.score.Score.{Score}
@@ -103,7 +103,7 @@ module _ (t : TourneyState) (space : ℕ) (h : IsTourney t space) (started : t.s
 
 -- after the start nobody has more than 64 results
 pub games_few : (t : TourneyState) (space : ℕ) → IsTourney t space → t.started ≡ true → (player : ℕ)
-    → count_by (has_player player) t.results ≤ 64
+    → count_by (is_by_player player) t.results ≤ 64
 games_few t space h started player =
     let two : 2 ≤ length t.players = h.enough started in
     few_games player t.results h.apart (are_small (length t.players) t.results (omega (arith, two)) h.few h.games)

@@ -17,8 +17,8 @@ black_halves Draw = 1
 black_halves Black = 2
 
 -- the result is one of a game of this player
-abbrev pub has_player : ℕ → Report → Bool
-has_player player report = (report.white == player) || (report.black == player)
+abbrev pub is_by_player : ℕ → Report → Bool
+is_by_player player report = (report.white == player) || (report.black == player)
 
 -- what the player has from the result
 abbrev pub halves_from : ℕ → Report → ℕ

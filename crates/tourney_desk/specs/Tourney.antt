@@ -23,17 +23,17 @@ abbrev pub no_tourney : TourneyState
 no_tourney = record { players = []; started = false; results = [] }
 
 -- the handle is that of this key
-abbrev pub has_key : List ℕ → List ℕ → Bool
-has_key key name = bytes_eq (key_of name) key
+abbrev pub is_of_key : List ℕ → List ℕ → Bool
+is_of_key key name = bytes_eq (key_of name) key
 
 -- the number of the player of this key; where no player has it, the number of players, which is nobody's number
 abbrev pub player_number : TourneyState → List ℕ → ℕ
-player_number t key = position_or_len (has_key key) t.players
+player_number t key = position_or_len (is_of_key key) t.players
 
 -- joining is refused after the start, where the handle has joined, and where 64 have; else the handle stands last
-abbrev pub joining : TourneyState → List ℕ → Effect TourneyState (Unit {0})
-joining t name = record {
-  causes = (t.started, TourneyStarted) ∷ (list_any (has_key (key_of name)) t.players, HandleTaken)
+abbrev pub joining_tourney : TourneyState → List ℕ → Effect TourneyState (Unit {0})
+joining_tourney t name = record {
+  causes = (t.started, TourneyStarted) ∷ (list_any (is_of_key (key_of name)) t.players, HandleTaken)
       ∷ (nat_le 64 (length t.players), TourneyFull) ∷ [];
   memory = true;
   reply = tt;
@@ -41,8 +41,8 @@ joining t name = record {
 }
 
 -- the start is refused where it was made, and where fewer than two have joined; it tells the number of rounds
-abbrev pub starting : TourneyState → Effect TourneyState ℕ
-starting t = record {
+abbrev pub starting_tourney : TourneyState → Effect TourneyState ℕ
+starting_tourney t = record {
   causes = (t.started, TourneyStarted) ∷ (nat_lt (length t.players) 2, TooFewPlayers) ∷ [];
   memory = true;
   reply = rounds_of (length t.players);

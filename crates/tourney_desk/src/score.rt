@@ -1,7 +1,7 @@
 //! Results of games, and what players have from them.
 
 ghost use Rattle.std.specs.Prelude.{◌≡◌};
-ghost use Rattle.tourney_desk.specs.Scores.{halves_from, has_player, white_halves, black_halves};
+ghost use Rattle.tourney_desk.specs.Scores.{halves_from, is_by_player, white_halves, black_halves};
 
 /// How a game ended.
 #[derive(Clone, Copy, Debug, PartialEq, Eq)]
@@ -58,7 +58,7 @@ impl Score {
 impl Report {
     /// Whether it is the result of a game of this player.
     pub(crate) fn has_player(&self, player: u8) -> bool
-        ensures { result ≡ has_player player self.now }
+        ensures { result ≡ is_by_player player self.now }
     {
         self.white == player || self.black == player
     }

@@ -43,7 +43,7 @@ impl Tourney {
     ghost use Rattle.tourney_desk.specs.Fairness.{IsFair, IsRoundFair};
     ghost use Rattle.tourney_desk.specs.Pairing.{IsOfPlayers};
     ghost use Rattle.tourney_desk.specs.Table.{IsTable};
-    ghost use Rattle.tourney_desk.specs.Tourney.{has_key, is_of_game, joining, no_tourney, player_number, pairs_told, reporting, starting, table_told};
+    ghost use Rattle.tourney_desk.specs.Tourney.{is_of_key, is_of_game, joining_tourney, no_tourney, player_number, pairs_told, reporting, starting_tourney, table_told};
 
     /// Nobody has joined; takes no memory.
     pub fn new(alloc: Global) -> Tourney
@@ -60,7 +60,7 @@ impl Tourney {
     /// The player joins, and has the next number. Refuses with `TourneyStarted` after the start, else with
     /// `HandleTaken` where the handle has joined, in whatever capitals, and else with `TourneyFull` where 64 have.
     pub fn join(&mut self, name: Handle) -> Result<(), Fail>
-        ensures { Takes (joining self.old name) self.old self.new result }
+        ensures { Takes (joining_tourney self.old name) self.old self.new result }
     {
         if self.started {
             return Err(Fail::Refused(Refusal::TourneyStarted));
@@ -80,7 +80,7 @@ impl Tourney {
     /// `TourneyStarted` where it has started, and else with `TooFewPlayers` where fewer than two have joined.
     #[tactic(auto, using(crate::proofs::Balance::is_fair))]
     pub fn start(&mut self) -> Result<u8, Fail>
-        ensures effect { Takes (starting self.old) self.old self.new result }
+        ensures effect { Takes (starting_tourney self.old) self.old self.new result }
         ensures fair { OnOk result (IsFair (length self.new.players)) }
     {
         if self.started {
@@ -171,7 +171,7 @@ impl Tourney {
 
     /// Whether the handle of this key has joined.
     fn has_joined(&self, key: HandleKey) -> bool
-        ensures { result ≡ list_any (has_key key) self.now.players }
+        ensures { result ≡ list_any (is_of_key key) self.now.players }
     {
         self.players.as_slice().iter().any(|name| name.key() == key)
     }
@@ -188,7 +188,7 @@ impl Tourney {
 
     /// Where the player of this key stands among the players.
     fn place_of(&self, key: HandleKey) -> Option<usize>
-        ensures place { result ≡ position (has_key key) self.now.players }
+        ensures place { result ≡ position (is_of_key key) self.now.players }
         ensures within { IfSome result (λ place. place < length self.now.players) }
         ensures few { length self.now.players ≤ 64 }
     {

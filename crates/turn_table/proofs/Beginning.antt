@@ -13,8 +13,8 @@ use Rattle.histories.specs.History.{state, Legal}
 use Rattle.histories.proofs.Histories.{prefix_refl, length_state, stays_whole}
 use Rattle.turn_table.specs.declared.view.View.{View}
 use Rattle.turn_table.specs.Views.{In, Holds, Looks, begun, second_by}
-use Rattle.turn_table.specs.Rule.{Names, Fits, Rule, Ruled}
-use Rattle.turn_table.specs.Plays.{Sat, Begins}
+use Rattle.turn_table.specs.Rule.{RuleNames, Fits, Rule, Ruled}
+use Rattle.turn_table.specs.Plays.{Sat, BeginsTurn}
 use Rattle.turn_table.proofs.Among.{split_on}
 use Rattle.turn_table.proofs.Owing.{renamed, moved, Owes, stays}
 
@@ -78,7 +78,8 @@ module _ {P A R : Type 0} (c : Core P A R) where
   none_held v e k h = subst (In (k, h.0)) e h.1
 
   module _ (law : Lawful c) (opening : List P) where
-    module _ (s : State (Option P) (View P A R)) (n : Names A R) (id : ℕ) (v : View P A R) (rule : Rule c opening s n)
+    module _ (s : State (Option P) (View P A R)) (n : RuleNames A R) (id : ℕ) (v : View P A R)
+        (rule : Rule c opening s n)
         (at : get_elem? s.views id ≡ some v) (live : v.live ≡ true) where
       pub fit : Fits c opening n id v
       fit = rule.fits id v at live
@@ -108,9 +109,9 @@ module _ {P A R : Type 0} (c : Core P A R) where
 
     -- begin
     pub begins : (a : A) → c.fits a → (id : ℕ) (me : Sat c) → me.0.live ≡ true → me.0.held ≡ [] → (slots word : ℕ)
-        → Allows (Ruled c opening) slots id me word (λ n. n) (Begins c (Some a) (step slots word 0 0 none) me)
+        → Allows (Ruled c opening) slots id me word (λ n. n) (BeginsTurn c (Some a) (step slots word 0 0 none) me)
     begins a may id me live empty slots word s ruled there at bound =
-        let n : Names A R = ruled.0 in
+        let n : RuleNames A R = ruled.0 in
         let rule : Rule c opening s n = ruled.1 in
         let v : View P A R = me.0 in
         let w : View P A R = begun c v a n.log in

@@ -18,7 +18,7 @@ use Rattle.histories.proofs.Histories.{prefix_refl, prefix_more, prefix_trans, g
 use Rattle.turn_table.specs.declared.view.Joined.{Joined}
 use Rattle.turn_table.specs.declared.view.View.{View}
 use Rattle.turn_table.specs.Views.{In, Holds, AllOut, SecondOut, done, left_by, second_left, entry_by}
-use Rattle.turn_table.specs.Rule.{Names, Fits, Rule, Ruled}
+use Rattle.turn_table.specs.Rule.{RuleNames, Fits, Rule, Ruled}
 use Rattle.turn_table.specs.Plays.{Sat, CommitsAct, Commits}
 use Rattle.turn_table.proofs.Among.{in_map, map_in, pair_first, split_on}
 use Rattle.turn_table.proofs.Owing.{renamed, Owes, stays}
@@ -26,7 +26,7 @@ use Rattle.turn_table.proofs.Beginning.{one_more, pair_second, whole, holds_here
 
 module _ {P A R : Type 0} (c : Core P A R) (law : Lawful c) (opening : List P) where
   -- a commit
-  module _ (s : State (Option P) (View P A R)) (n : Names A R) (id : ℕ) (v : View P A R) (rule : Rule c opening s n)
+  module _ (s : State (Option P) (View P A R)) (n : RuleNames A R) (id : ℕ) (v : View P A R) (rule : Rule c opening s n)
       (at : get_elem? s.views id ≡ some v) (live : v.live ≡ true) (a : A) (p : P) (o : Option P)
       (all_out : AllOut c v a p o) where
     now_f : Fits c opening n id v
@@ -302,7 +302,7 @@ module _ {P A R : Type 0} (c : Core P A R) (law : Lawful c) (opening : List P) w
       → Allows (Ruled c opening) slots id me (length opening) (λ n. (n + 1) % 2 ^ 64)
       (Commits c (step slots (length opening) 1 0 none) me)
   commits id me live a p o all_out slots is s ruled there at bound =
-      let n : Names A R = ruled.0 in
+      let n : RuleNames A R = ruled.0 in
       let rule : Rule c opening s n = ruled.1 in
       let v : View P A R = me.0 in
       let log : List (Entry A R) = n.log ++ entry_by c v a p o ∷ [] in

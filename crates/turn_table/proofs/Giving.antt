@@ -13,15 +13,15 @@ use Rattle.histories.specs.History.{state}
 use Rattle.histories.proofs.Histories.{prefix_refl}
 use Rattle.turn_table.specs.declared.view.View.{View}
 use Rattle.turn_table.specs.Views.{In, Holds, given}
-use Rattle.turn_table.specs.Rule.{Names, Fits, Rule, Ruled}
-use Rattle.turn_table.specs.Plays.{Gives}
+use Rattle.turn_table.specs.Rule.{RuleNames, Fits, Rule, Ruled}
+use Rattle.turn_table.specs.Plays.{GivesTurn}
 use Rattle.turn_table.proofs.Among.{kept_was, keeps as stays_in, filter_shorter, split_on, other_number, is_other, at_one, at_one_same, at_one_else}
 use Rattle.turn_table.proofs.Owing.{renamed, Owes, stays}
 use Rattle.turn_table.proofs.Beginning.{only_one, holds_here}
 
 module _ {P A R : Type 0} (c : Core P A R) (law : Lawful c) (opening : List P) where
   -- give
-  module _ (s : State (Option P) (View P A R)) (n : Names A R) (id : ℕ) (v : View P A R) (rule : Rule c opening s n)
+  module _ (s : State (Option P) (View P A R)) (n : RuleNames A R) (id : ℕ) (v : View P A R) (rule : Rule c opening s n)
       (at : get_elem? s.views id ≡ some v) (live : v.live ≡ true) (k : ℕ) (p : P) (held_here : In (k, p) v.held) where
     give_f : Fits c opening n id v
     give_f = rule.fits id v at live
@@ -123,9 +123,9 @@ module _ {P A R : Type 0} (c : Core P A R) (law : Lawful c) (opening : List P) w
   pub gives_turn : (id : ℕ) (v : View P A R) (rest : List (ℕ × Option P)) → v.live ≡ true → (k : ℕ) (p : P)
       → In (k, p) v.held → (slots : ℕ) → slots ≡ length opening
       → Allows (Ruled c opening) slots id (v, (k, Some p) ∷ rest) k (λ _. 0)
-      (λ _. Gives c (step slots k 0 0 none) (v, (k, Some p) ∷ rest) 0)
+      (λ _. GivesTurn c (step slots k 0 0 none) (v, (k, Some p) ∷ rest) 0)
   gives_turn id v rest live k p h slots is s ruled there at bound =
-      let n : Names A R = ruled.0 in
+      let n : RuleNames A R = ruled.0 in
       let rule : Rule c opening s n = ruled.1 in
       let kept =
       stays c opening s n id v (set s.words k 0) (set s.homes k (some (Some p))) (given v k) n.log

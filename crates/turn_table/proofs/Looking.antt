@@ -10,7 +10,7 @@ use Rattle.histories.specs.History.{state}
 use Rattle.histories.proofs.Histories.{prefix_refl}
 use Rattle.turn_table.specs.declared.view.View.{View}
 use Rattle.turn_table.specs.Views.{In, Looks, Knows, looked}
-use Rattle.turn_table.specs.Rule.{Names, Fits, Rule, Ruled}
+use Rattle.turn_table.specs.Rule.{RuleNames, Fits, Rule, Ruled}
 use Rattle.turn_table.specs.Plays.{Sat, LooksOn, Sees}
 use Rattle.turn_table.proofs.Owing.{renamed, moved, Owes, stays}
 use Rattle.turn_table.proofs.Beginning.{fit, look, holds_here}
@@ -19,7 +19,7 @@ module _ {P A R : Type 0} (c : Core P A R) (law : Lawful c) (opening : List P) w
   pub sees : (id : ℕ) (me : Sat c) → me.0.live ≡ true → (slots word : ℕ)
       → Allows (Ruled c opening) slots id me word (λ n. n) (Sees c (step slots word 0 0 none) me)
   sees id me live slots word s ruled there at bound =
-      let n : Names A R = ruled.0 in
+      let n : RuleNames A R = ruled.0 in
       let rule : Rule c opening s n = ruled.1 in
       let v : View P A R = me.0 in
       let w : View P A R = looked v n.log in

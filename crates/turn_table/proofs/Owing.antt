@@ -16,12 +16,12 @@ use Rattle.histories.proofs.Histories.{prefix_trans}
 use Rattle.turn_table.specs.declared.view.Joined.{Joined}
 use Rattle.turn_table.specs.declared.view.View.{View}
 use Rattle.turn_table.specs.Views.{In, Holds, numbers_of}
-use Rattle.turn_table.specs.Rule.{Names, IsHome, HoldsAt, Fits, Rule}
+use Rattle.turn_table.specs.Rule.{RuleNames, IsHome, HoldsAt, Fits, Rule}
 use Rattle.turn_table.proofs.Among.{split_on, map_in, at_length}
 
 module _ {P A R : Type 0} (c : Core P A R) (opening : List P) where
   -- the names after a step: the history and the holders may be others
-  abbrev pub renamed : Names A R → List (Entry A R) → (ℕ → Option ℕ) → Names A R
+  abbrev pub renamed : RuleNames A R → List (Entry A R) → (ℕ → Option ℕ) → RuleNames A R
   renamed n log holder = record { log = log; holder = holder; owner = n.owner; drawn = n.drawn }
 
   -- the table after a step of the view at id
@@ -30,7 +30,7 @@ module _ {P A R : Type 0} (c : Core P A R) (opening : List P) where
   moved s words homes id w = record { words = words; homes = homes; views = set s.views id w }
 
   -- a step of the view v at id, which becomes w
-  pub record Owes (s : State (Option P) (View P A R)) (n : Names A R) (id : ℕ) (v : View P A R) (words : List ℕ)
+  pub record Owes (s : State (Option P) (View P A R)) (n : RuleNames A R) (id : ℕ) (v : View P A R) (words : List ℕ)
       (homes : List (maybe.Option (Option P))) (w : View P A R) (log : List (Entry A R))
       (holder : ℕ → Option ℕ) : Type 0 where
     pub alive : w.live ≡ true
@@ -56,7 +56,7 @@ module _ {P A R : Type 0} (c : Core P A R) (opening : List P) where
     pub fits : Fits c opening (renamed n log holder) id w
     pub newest : (w.seen ≡ log) ⊎ ((w.seen ≡ v.seen) × (log ≡ n.log))
 
-  module _ (s : State (Option P) (View P A R)) (n : Names A R) (id : ℕ) (v : View P A R) (words : List ℕ)
+  module _ (s : State (Option P) (View P A R)) (n : RuleNames A R) (id : ℕ) (v : View P A R) (words : List ℕ)
       (homes : List (maybe.Option (Option P))) (w : View P A R) (log : List (Entry A R)) (holder : ℕ → Option ℕ)
       (rule : Rule c opening s n) (at : get_elem? s.views id ≡ some v) (live : v.live ≡ true)
       (owes : Owes s n id v words homes w log holder) where

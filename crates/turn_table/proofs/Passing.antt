@@ -16,7 +16,7 @@ use Rattle.histories.proofs.Histories.{prefix_refl, prefix_whole, prefix_length,
 use Rattle.turn_table.specs.declared.view.Joined.{Joined}
 use Rattle.turn_table.specs.declared.view.View.{View}
 use Rattle.turn_table.specs.Views.{In, Distinct, Holds, numbers_of, joined_number, divided, split_from, as_joined, merged, spent, new_view}
-use Rattle.turn_table.specs.Rule.{Names, Fits, Rule, Ruled}
+use Rattle.turn_table.specs.Rule.{RuleNames, Fits, Rule, Ruled}
 use Rattle.turn_table.proofs.Among.{in_append, split_on, at_one, at_one_same, at_one_else, at_length}
 use Rattle.turn_table.proofs.Beginning.{some_or_none, none_held}
 use Rattle.std.proofs.lemmas.List.{map-append, length-map}
@@ -38,7 +38,7 @@ distinct_append (x ∷ xs) ys d e n =
 
 module _ {P A R : Type 0} (c : Core P A R) (law : Lawful c) (opening : List P) where
   -- two live views at different places have no number in common
-  numbers_apart : (s : State (Option P) (View P A R)) (n : Names A R) → Rule c opening s n
+  numbers_apart : (s : State (Option P) (View P A R)) (n : RuleNames A R) → Rule c opening s n
       → (i j : ℕ) (u v : View P A R) → get_elem? s.views i ≡ some u → get_elem? s.views j ≡ some v → u.live ≡ true
       → v.live ≡ true → (m : ℕ) → In m (numbers_of u) → In m (numbers_of v) → i ≡ j
   numbers_apart s n rule i j u v at_u at_v live_u live_v m hu hv =
@@ -47,7 +47,7 @@ module _ {P A R : Type 0} (c : Core P A R) (law : Lawful c) (opening : List P) w
       let d : Some i ≡ Some j = sym a ∙ b in cc
 
   -- split
-  module _ (s : State (Option P) (View P A R)) (n : Names A R) (id : ℕ) (v : View P A R) (rule : Rule c opening s n)
+  module _ (s : State (Option P) (View P A R)) (n : RuleNames A R) (id : ℕ) (v : View P A R) (rule : Rule c opening s n)
       (at : get_elem? s.views id ≡ some v) (live : v.live ≡ true) (first : v.number ≡ 0) where
     f : Fits c opening n id v
     f = rule.fits id v at live
@@ -55,7 +55,7 @@ module _ {P A R : Type 0} (c : Core P A R) (law : Lawful c) (opening : List P) w
     drawn_is : v.splits ≡ n.drawn
     drawn_is = f.counts_drawn first
 
-    abbrev after : Names A R
+    abbrev after : RuleNames A R
     after =
         record {
           log = n.log;
@@ -221,7 +221,8 @@ module _ {P A R : Type 0} (c : Core P A R) (law : Lawful c) (opening : List P) w
       (after s ruled.0 id v ruled.1 there live first, split_kept s ruled.0 id v ruled.1 there live first)
 
   -- join
-  module _ (s : State (Option P) (View P A R)) (n : Names A R) (id : ℕ) (v : View P A R) (other : ℕ) (w : View P A R)
+  module _ (s : State (Option P) (View P A R)) (n : RuleNames A R) (id : ℕ) (v : View P A R) (other : ℕ)
+      (w : View P A R)
       (rule : Rule c opening s n) (at : get_elem? s.views id ≡ some v) (ne : other ≢ id)
       (at_w : get_elem? s.views other ≡ some w)
       (live : v.live ≡ true) (live_w : w.live ≡ true) (empty : v.held ≡ []) (empty_w : w.held ≡ []) where
@@ -235,7 +236,7 @@ module _ {P A R : Type 0} (c : Core P A R) (law : Lawful c) (opening : List P) w
     moved_to None = None
     moved_to (Some j) = cond (eqb j other) (Some id) (Some j)
 
-    abbrev joint : Names A R
+    abbrev joint : RuleNames A R
     joint = record { log = n.log; holder = n.holder; owner = λ m. moved_to (n.owner m); drawn = n.drawn }
 
     abbrev both : View P A R
@@ -431,7 +432,7 @@ module _ {P A R : Type 0} (c : Core P A R) (law : Lawful c) (opening : List P) w
       → ((k : ℕ) → slice_index words k ≡ 0) → slots ≡ map Some opening
       → Ruled c opening (table_opening words slots (new_view opening))
   opens words slots whole long zeros is =
-      let n : Names A R = record { log = []; holder = λ k. None; owner = λ m. Some 0; drawn = 0 } in
+      let n : RuleNames A R = record { log = []; holder = λ k. None; owner = λ m. Some 0; drawn = 0 } in
       let first : Fits c opening n 0 (new_view opening) = record {
         same_opening = refl;
         seen_begins = prefix_refl [];
@@ -491,7 +492,7 @@ module _ {P A R : Type 0} (c : Core P A R) (law : Lawful c) (opening : List P) w
       → Final (Seen (Ruled c opening) id v) words slots → Closes v slots
   closes id v words slots live first empty all_joined last =
       let s : State (Option P) (View P A R) = last.0 in
-      let n : Names A R = last.1.0.0 in
+      let n : RuleNames A R = last.1.0.0 in
       let rule : Rule c opening s n = last.1.0.1 in
       let at : get_elem? s.views id ≡ some v = last.1.1 in
       let g : Fits c opening n id v = rule.fits id v at live in

@@ -17,15 +17,15 @@ use Rattle.histories.proofs.Parts.{get_within}
 use Rattle.histories.proofs.Histories.{prefix_refl, length_state}
 use Rattle.turn_table.specs.declared.view.View.{View}
 use Rattle.turn_table.specs.Views.{In, Holds, second_by, taken, tried}
-use Rattle.turn_table.specs.Rule.{Names, Fits, Rule, Ruled}
-use Rattle.turn_table.specs.Plays.{Sat, TakesPart, Takes, FindsBusy}
+use Rattle.turn_table.specs.Rule.{RuleNames, Fits, Rule, Ruled}
+use Rattle.turn_table.specs.Plays.{Sat, TakesPart, TurnTakes, FindsBusy}
 use Rattle.turn_table.proofs.Among.{in_append, in_front, pair_first, split_on, at_one, at_one_same, at_one_else}
 use Rattle.turn_table.proofs.Owing.{renamed, moved, Owes, stays}
 use Rattle.turn_table.proofs.Beginning.{some_or_none, pair_second, only_one, second_found, second_short, second_none, flight_cases, whole, count, look, holds_here}
 use Rattle.std.proofs.lemmas.Bool.{cases_Bool}
 
 module _ {P A R : Type 0} (c : Core P A R) (law : Lawful c) (opening : List P) where
-  module _ (s : State (Option P) (View P A R)) (n : Names A R) (id : ℕ) (v : View P A R) (rule : Rule c opening s n)
+  module _ (s : State (Option P) (View P A R)) (n : RuleNames A R) (id : ℕ) (v : View P A R) (rule : Rule c opening s n)
       (at : get_elem? s.views id ≡ some v) (live : v.live ≡ true) where
     f : Fits c opening n id v
     f = rule.fits id v at live
@@ -257,7 +257,7 @@ module _ {P A R : Type 0} (c : Core P A R) (law : Lawful c) (opening : List P) w
 
     take_hit : slice_index s.words k ≡ 0 → TakeGoal true
     take_hit z =
-        let n : Names A R = ruled.0 in
+        let n : RuleNames A R = ruled.0 in
         let rule : Rule c opening s n = ruled.1 in
         let v : View P A R = me.0 in
         let g : Fits c opening n id v = rule.fits id v at live in
@@ -299,7 +299,7 @@ module _ {P A R : Type 0} (c : Core P A R) (law : Lawful c) (opening : List P) w
 
     take_miss : slice_index s.words k ≢ 0 → TakeGoal false
     take_miss nz =
-        let n : Names A R = ruled.0 in
+        let n : RuleNames A R = ruled.0 in
         let rule : Rule c opening s n = ruled.1 in
         let v : View P A R = me.0 in
         let r : k < length opening = (rule.fits id v at live).there k may in
@@ -327,18 +327,18 @@ module _ {P A R : Type 0} (c : Core P A R) (law : Lawful c) (opening : List P) w
 
   pub takes_turn : (id : ℕ) (me : Sat c) → me.0.live ≡ true → (k : ℕ) → In k me.0.may → (Holds me.0 k → ⊥) → (slots : ℕ)
       → slots ≡ length opening
-      → Allows (Ruled c opening) slots id me k (λ n. either (eqb n 0) 1 n) (Takes c (step slots k 0 1 none) me)
+      → Allows (Ruled c opening) slots id me k (λ n. either (eqb n 0) 1 n) (TurnTakes c (step slots k 0 1 none) me)
   takes_turn id me live k may nh slots is s ruled there at bound = take_either id me live k may nh slots is s ruled at
 
 module _ {P A R : Type 0} (c : Core P A R) where
   -- what a try told, by the number that it found
-  pub took : (st : Step (Option P)) (m : Sat c) (found : ℕ) (m' : Sat c) → found ≡ 0 → Takes c st m found m'
+  pub took : (st : Step (Option P)) (m : Sat c) (found : ℕ) (m' : Sat c) → found ≡ 0 → TurnTakes c st m found m'
       → (p : P) × TakesPart c m st.word p m'
   took st m found m' e t =
       subst (λ b. MatchBool b ((p : P) × TakesPart c m st.word p m') ((found ≡ 1) × FindsBusy c m st.word m'))
       (eq-eqb found 0 e) t
 
-  pub found_busy : (st : Step (Option P)) (m : Sat c) (found : ℕ) (m' : Sat c) → found ≢ 0 → Takes c st m found m'
+  pub found_busy : (st : Step (Option P)) (m : Sat c) (found : ℕ) (m' : Sat c) → found ≢ 0 → TurnTakes c st m found m'
       → FindsBusy c m st.word m'
   found_busy st m found m' ne t =
       (subst (λ b. MatchBool b ((p : P) × TakesPart c m st.word p m') ((found ≡ 1) × FindsBusy c m st.word m'))

@@ -32,8 +32,8 @@ module _ {P A R : Type 0} (c : Core P A R) where
   BeginsAct m a m' =
       (m'.0 ≡ begun c m.0 a m'.0.seen) × (m'.1 ≡ m.1) × Looks c m.0 m'.0.seen × (c.first a < length m.0.opening)
 
-  abbrev pub Begins : Option A → Step (Option P) → Sat → ℕ → Sat → Type 0
-  Begins meant st m found m' = MatchOption meant ⊥ (λ a. BeginsAct m a m')
+  abbrev pub BeginsTurn : Option A → Step (Option P) → Sat → ℕ → Sat → Type 0
+  BeginsTurn meant st m found m' = MatchOption meant ⊥ (λ a. BeginsAct m a m')
 
   -- a turn word that was 0: the turn is taken with the part, which is the history's state's
   pub record TakesPart (m : Sat) (k : ℕ) (p : P) (m' : Sat) : Type 0 where
@@ -50,8 +50,8 @@ module _ {P A R : Type 0} (c : Core P A R) where
   abbrev pub FindsBusy : Sat → ℕ → Sat → Type 0
   FindsBusy m k m' = (m'.0 ≡ tried m.0 k) × (m'.1 ≡ m.1)
 
-  abbrev pub Takes : Step (Option P) → Sat → ℕ → Sat → Type 0
-  Takes st m found m' =
+  abbrev pub TurnTakes : Step (Option P) → Sat → ℕ → Sat → Type 0
+  TurnTakes st m found m' =
       MatchBool (found == 0) ((p : P) × TakesPart m st.word p m') ((found ≡ 1) × FindsBusy m st.word m')
 
   -- the act is the last entry of the history that is seen then
@@ -71,5 +71,5 @@ module _ {P A R : Type 0} (c : Core P A R) where
   Commits st m found m' = (a : A) (p : P) (o : Option P) → AllOut c m.0 a p o → CommitsAct m a p o m'
 
   -- the turn is given with the part
-  abbrev pub Gives : Step (Option P) → Sat → ℕ → Sat → Type 0
-  Gives st m found m' = (m'.0 ≡ given m.0 st.word) × (m'.1 ≡ rest m.1)
+  abbrev pub GivesTurn : Step (Option P) → Sat → ℕ → Sat → Type 0
+  GivesTurn st m found m' = (m'.0 ≡ given m.0 st.word) × (m'.1 ≡ rest m.1)

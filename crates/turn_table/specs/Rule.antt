@@ -15,7 +15,7 @@ use Rattle.turn_table.specs.Views.{In, Distinct, Holds, numbers_of}
 
 -- What the rule names: the one history, which view holds the turn of a part, which view has a number (its own, or that
 -- of a pass that was joined into it), and how many numbers were drawn
-pub record Names (A R : Type 0) : Type 0 where
+pub record RuleNames (A R : Type 0) : Type 0 where
   pub log : List (Entry A R)
   pub holder : ℕ → Option ℕ
   pub owner : ℕ → Option ℕ
@@ -31,7 +31,7 @@ module _ {P A R : Type 0} (c : Core P A R) (opening : List P) where
   IsHome log s k = (p : P) → slice_get (state c opening log) k ≡ Some p → get_elem? s.homes k ≡ some (some (Some p))
 
   -- What holds of each live view, v at the place id
-  pub record Fits (n : Names A R) (id : ℕ) (v : View P A R) : Type 0 where
+  pub record Fits (n : RuleNames A R) (id : ℕ) (v : View P A R) : Type 0 where
     -- all views have the same opening parts
     pub same_opening : v.opening ≡ opening
     -- what a view has seen begins the history
@@ -69,7 +69,7 @@ module _ {P A R : Type 0} (c : Core P A R) (opening : List P) where
     -- the first pass counts the numbers that were drawn
     pub counts_drawn : v.number ≡ 0 → v.splits ≡ n.drawn
 
-  pub record Rule (s : State (Option P) (View P A R)) (n : Names A R) : Type 0 where
+  pub record Rule (s : State (Option P) (View P A R)) (n : RuleNames A R) : Type 0 where
     -- a turn word for each part and the count word, and a slot for each part
     pub words_there : length s.words ≡ length opening + 1
     pub slots_there : length s.homes ≡ length opening
@@ -96,4 +96,4 @@ module _ {P A R : Type 0} (c : Core P A R) (opening : List P) where
 
   -- The rule of the turns, of a table that opened with these parts
   abbrev pub Ruled : State (Option P) (View P A R) → Type 0
-  Ruled s = (n : Names A R) × Rule s n
+  Ruled s = (n : RuleNames A R) × Rule s n

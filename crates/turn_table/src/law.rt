@@ -67,7 +67,7 @@ pub struct Beginning<S, M> {
 
 impl<S: Served, M: Meant<S::Act>> Play<Option<S::Part>, View<S::Part, S::Act, S::Reply>>
     for Beginning<S, M> {
-    ghost use Rattle.turn_table.specs.Plays.{Begins};
+    ghost use Rattle.turn_table.specs.Plays.{BeginsTurn};
 
     ghost then = { Begins S.core M.meant };
 }
@@ -78,7 +78,7 @@ pub struct Taking<S> {
 }
 
 impl<S: Served> Play<Option<S::Part>, View<S::Part, S::Act, S::Reply>> for Taking<S> {
-    ghost use Rattle.turn_table.specs.Plays.{Takes};
+    ghost use Rattle.turn_table.specs.Plays.{TurnTakes};
 
     ghost then = { Takes S.core };
 }
@@ -100,7 +100,7 @@ pub struct Giving<S> {
 }
 
 impl<S: Served> Play<Option<S::Part>, View<S::Part, S::Act, S::Reply>> for Giving<S> {
-    ghost use Rattle.turn_table.specs.Plays.{Gives};
+    ghost use Rattle.turn_table.specs.Plays.{GivesTurn};
 
     ghost then = { Gives S.core };
 }

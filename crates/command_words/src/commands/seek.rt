@@ -1,7 +1,7 @@
 //! `seek`: offers a game to whoever takes it.
 
 ghost use Rattle.std.specs.Prelude.{◌≡◌};
-ghost use Rattle.command_words.specs.Seek.{seek_of};
+ghost use Rattle.command_words.specs.Seek.{seek_command};
 
 use crate::command::Command;
 use crate::terms::{Time, read_terms};
@@ -15,7 +15,7 @@ const FIVE_NOTHING: Time = Time {
 
 /// Reads the arguments, the terms; refuses others with `BadArguments`.
 pub(crate) fn read(rest: &[u8]) -> Result<Command, Refusal>
-    ensures { result ≡ seek_of rest.now }
+    ensures { result ≡ seek_command rest.now }
 {
     match read_terms(FIVE_NOTHING, rest) {
         Some(terms) => Ok(Command::Seek(terms)),

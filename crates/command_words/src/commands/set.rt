@@ -1,7 +1,7 @@
 //! `set`: says what the player wants others to send.
 
 ghost use Rattle.std.specs.Prelude.{◌≡◌};
-ghost use Rattle.command_words.specs.Set.{is_on, set_of, set_to};
+ghost use Rattle.command_words.specs.Set.{on_or_off, set_of, set_to};
 
 use crate::blanks::cut_word;
 use crate::command::Command;
@@ -44,7 +44,7 @@ fn set_to(name: &[u8], on: Option<bool>) -> Result<Command, Refusal>
 
 /// Whether the value is on, where it is 0 or 1.
 fn is_on(value: &[u8]) -> Option<bool>
-    ensures { result ≡ is_on value.now }
+    ensures { result ≡ on_or_off value.now }
 {
     if value == b"0".as_slice() {
         return Some(false);

@@ -3,7 +3,7 @@ ghost use Rattle.std.specs.Prelude.{◌≡◌, ◌<◌, IfSome, false, length};
 ghost use Rattle.std.specs.List.{position};
 ghost use Rattle.fics_words.specs.Effect.{Takes};
 ghost use Rattle.lobby_state.specs.Desks.{IsDesk};
-ghost use Rattle.lobby_state.specs.GoBoard.{go_board_effect, is_against, opponent_of, other_seat};
+ghost use Rattle.lobby_state.specs.GoBoard.{go_board_effect, is_against, opponent_seated, other_seat};
 
 use crate::acts::LobbyReply;
 use crate::roster::Roster;
@@ -66,7 +66,7 @@ impl Roster {
 
 /// The opponent of the seat: the player in the other seat of the same board, if there is one.
 fn opponent_of(seat: u8, seats: &Seats) -> Option<Player>
-    ensures { result ≡ opponent_of seat seats.now }
+    ensures { result ≡ opponent_seated seat seats.now }
 {
     seats.at(other_seat(seat))
 }

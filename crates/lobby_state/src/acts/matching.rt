@@ -4,7 +4,7 @@ ghost use Rattle.channel_feed.specs.Waiting.{with_line as with_one_more};
 ghost use Rattle.fics_words.specs.Effect.{Takes, first_cause};
 ghost use Rattle.tables.specs.Rows.{change_first};
 ghost use Rattle.lobby_state.specs.Lobby.{is_named};
-ghost use Rattle.lobby_state.specs.Match.{challenge_words, challenged_by, match_causes, match_effect, with_line};
+ghost use Rattle.lobby_state.specs.Match.{challenge_words, challenged_by, match_causes, match_effect, member_with_line};
 ghost use Rattle.seek_match.specs.Matches.{with_challenge};
 
 use crate::acts::LobbyReply;
@@ -107,7 +107,7 @@ fn put_and_tell_named(
     line: Line,
 ) -> Result<(), NoMemory>
     ensures put { OnOk result (challenges.new ≡ with_challenge challenge challenges.old) }
-    ensures told { OnOk result (members.new ≡ change_first (is_named to) (with_line line) members.old) }
+    ensures told { OnOk result (members.new ≡ change_first (is_named to) (member_with_line line) members.old) }
     ensures err { OnErr result (challenges.new ≡ challenges.old) }
     ensures untold { OnErr result (members.new ≡ members.old) }
 {

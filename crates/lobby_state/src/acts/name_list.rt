@@ -1,7 +1,7 @@
 //! List: a member puts a name on one of its two lists, or takes it off; and what the lists keep away.
 ghost use Rattle.std.specs.Prelude.{◌≡◌, Some};
 ghost use Rattle.fics_words.specs.Effect.{Takes};
-ghost use Rattle.lobby_state.specs.NameList.{avoids, censors, change_among, list_effect, naming};
+ghost use Rattle.lobby_state.specs.NameList.{avoids, censors, change_among, list_effect, names_with};
 
 use crate::acts::LobbyReply;
 use crate::member::Member;
@@ -79,7 +79,7 @@ fn change_list(
 /// Puts the name on the list, or takes it off. Refuses with `OnList` where it is on it, and else with `ListFull` where
 /// 100 are; and where it is taken off, which takes no memory, with `NotOnList` where it isn't on it.
 fn change_names(names: &mut NameList, name: HandleKey, on: bool) -> Result<(), Fail>
-    ensures { Takes (naming names.old name on) names.old names.new result }
+    ensures { Takes (names_with names.old name on) names.old names.new result }
 {
     if on {
         return names.add(name);

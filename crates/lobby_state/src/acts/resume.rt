@@ -5,7 +5,7 @@ ghost use Rattle.game_records.specs.Bounds.{seats};
 ghost use Rattle.game_records.specs.Replays.{Replays};
 ghost use Rattle.lobby_state.specs.Holds.{holds};
 ghost use Rattle.lobby_state.specs.Pairing.{is_crowded};
-ghost use Rattle.lobby_state.specs.Resume.{are_full_up, are_held, as_they_sat, board_of, going_on, has_asked_for, is_held, playing_as};
+ghost use Rattle.lobby_state.specs.Resume.{are_full_up, are_held, as_they_sat, seats_at_board, resuming_at, has_asked_for, is_held, playing_as};
 ghost use Rattle.lobby_state.specs.Resume.{resume_effect, resuming, seated_as, would_start};
 
 use crate::acts::Plan;
@@ -88,7 +88,7 @@ impl Roster {
     /// The plan of the game at the least free desk.
     fn go_on(&self, row: &Shelved) -> Result<Plan, Refusal>
         requires { Replays row.now.game }
-        ensures { result ≡ answer_of (going_on self.now row.now) }
+        ensures { result ≡ answer_of (resuming_at self.now row.now) }
     {
         let terms = row.game.terms;
         if self.are_held(terms.variant, &row.game.names) {
@@ -166,7 +166,7 @@ impl Roster {
     /// The players of the board whose White has the seat of that number.
     fn board_of(&self, names: &[Handle], number: usize) -> Opponents
         requires { number + 1 < length names.now }
-        ensures { result ≡ board_of self.now names.now number }
+        ensures { result ≡ seats_at_board self.now names.now number }
     {
         Opponents {
             white: self.seated_as(names[number]),

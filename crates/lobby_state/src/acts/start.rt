@@ -2,8 +2,8 @@
 ghost use Rattle.std.specs.Prelude.{◌≡◌, filter, map, not};
 ghost use Rattle.fics_words.specs.Seats.{seat_list, seat_number};
 ghost use Rattle.lobby_state.specs.Desks.{IsDesk};
-ghost use Rattle.lobby_state.specs.Planned.{AreApart};
-ghost use Rattle.lobby_state.specs.Start.{in_seat, is_by_seated, is_settled, seated};
+ghost use Rattle.lobby_state.specs.Planned.{ArePlayersApart};
+ghost use Rattle.lobby_state.specs.Start.{in_seat, is_by_seated, is_settled, lobby_seated};
 
 use crate::challenges::Stays;
 use crate::game::ListedGame;
@@ -58,8 +58,8 @@ impl Roster {
     /// with others, and their seeks and requests to resume. It takes no memory.
     pub(crate) fn start(&mut self, desk: u8, serial: u64, terms: Terms, seats: &Seats)
         requires desk { IsDesk desk }
-        requires apart { AreApart seats.now }
-        ensures { self.new ≡ seated self.old desk serial terms seats.now }
+        requires apart { ArePlayersApart seats.now }
+        ensures { self.new ≡ lobby_seated self.old desk serial terms seats.now }
     {
         drop_challenges(&mut self.challenges, &self.members, seats);
         sit_down(&mut self.members, desk, serial, seats);
@@ -79,7 +79,7 @@ impl Roster {
 /// The players have their places.
 fn sit_down(members: &mut Members, desk: u8, serial: u64, seats: &Seats)
     requires desk { IsDesk desk }
-    requires apart { AreApart seats.now }
+    requires apart { ArePlayersApart seats.now }
     ensures { members.new
         ≡ map (λ member. in_seat desk serial (seat_number member.session (seat_list seats.now)) member) members.old }
 {

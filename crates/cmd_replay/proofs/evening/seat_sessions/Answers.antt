@@ -1,6 +1,6 @@
 use Rattle.std.proofs.Common.{◌+◌, ℕ, List, drop, slice_set, sym, ap, ◌∙◌, arith}
 use Rattle.std.proofs.lemmas.List.{drop_all, drop_more, length-set}
-use Rattle.session_core.specs.Memory.{MemoryState, seated}
+use Rattle.session_core.specs.Memory.{MemoryState, seated_memory}
 use Rattle.cmd_replay.specs.Evening.{seated_from}
 use Rattle.cmd_replay.proofs.evening.seat_sessions.Goals as goal
 
@@ -14,7 +14,7 @@ loop-place-preserved c =
     record {
       due =
           ap (λ (m : MemoryState). seated_from (place + 1) rest (slice_set sessions place m)) c.seated.ensures
-          ∙ ap (λ (x : List ℕ). seated_from (place + 1) rest (slice_set sessions place (seated x)))
+          ∙ ap (λ (x : List ℕ). seated_from (place + 1) rest (slice_set sessions place (seated_memory x)))
           c.index-names-place.is
           ∙ sym
           (ap (λ (l : List (List ℕ)). seated_from place l sessions) (drop_more names place name c.loop-place-test.true))

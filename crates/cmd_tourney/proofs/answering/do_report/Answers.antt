@@ -2,7 +2,7 @@ use Rattle.std.proofs.Common.{◌≡◌, ◌++◌, ℕ, List, OnOk, sym, ap, sub
 use Rattle.fics_words.specs.Effect.{answer_of, state_of}
 use Rattle.fics_words.specs.Handle.{key_of}
 use Rattle.tourney_desk.specs.Tourney.{reporting}
-use Rattle.cmd_tourney.specs.Texts.{answer_text, done_text}
+use Rattle.cmd_tourney.specs.Texts.{told_text, done_text}
 use Rattle.cmd_tourney.proofs.LineAnswers.{on_ok}
 use Rattle.cmd_tourney.proofs.answering.do_report.Goals as goal
 
@@ -28,7 +28,7 @@ returns-in-Ok-clause-text c =
     ∙ ap (λ k. answer_of (reporting t k c.key-2.result c.args.score)) c.key.ensures
     ∙ ap (λ k. answer_of (reporting t (key_of c.args.white) k c.args.score)) c.key-2.ensures in
     subst (λ (l : List ℕ). OnOk c.put_done.result (c.put_done.new.out.items ≡ c.args.out.now.items ++ l))
-    (ap (answer_text done_text) answer) c.put_done.ensures
+    (ap (told_text done_text) answer) c.put_done.ensures
 
 pub returns-in-Err-clause-text : goal.returns-in-Err-clause-text
 returns-in-Err-clause-text c =
@@ -38,4 +38,4 @@ returns-in-Err-clause-text c =
     ∙ ap (λ k. answer_of (reporting t k c.key-2.result c.args.score)) c.key.ensures
     ∙ ap (λ k. answer_of (reporting t (key_of c.args.white) k c.args.score)) c.key-2.ensures in
     subst (λ (l : List ℕ). OnOk c.put_refusal.result (c.put_refusal.new.out.items ≡ c.args.out.now.items ++ l))
-    (ap (answer_text done_text) answer) c.put_refusal.ensures
+    (ap (told_text done_text) answer) c.put_refusal.ensures

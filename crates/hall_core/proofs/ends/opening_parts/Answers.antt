@@ -1,7 +1,7 @@
 use Rattle.std.proofs.Common.{◌≡◌, ◌+◌, [], ◌∷◌, ◌++◌, arith, ap, ◌∙◌}
 use Rattle.lobby_state.specs.Desks.{desks as desk_count}
 use Rattle.one_server.specs.Desks.{vacant}
-use Rattle.one_server.specs.Whole.{parts_of, vacant_from}
+use Rattle.one_server.specs.Whole.{parts_with, vacant_from}
 use Rattle.hall_core.proofs.Opening.{parts_push, is_opened}
 use Rattle.hall_core.proofs.ends.opening_parts.Goals as goal
 
@@ -20,4 +20,4 @@ loop-slot-preserved c =
 pub returns-clause-items : goal.returns-clause-items
 returns-clause-items c =
     let all : c.loop-slot.slot ≡ desk_count = omega (arith, c.loop-slot-test.false, c.loop-slot.auto.slot-end) in
-    c.loop-slot.invariant.items ∙ ap (λ n. parts_of c.args.lobby (vacant_from 1 n)) all ∙ is_opened c.args.lobby
+    c.loop-slot.invariant.items ∙ ap (λ n. parts_with c.args.lobby (vacant_from 1 n)) all ∙ is_opened c.args.lobby

@@ -8,7 +8,7 @@ use Rattle.chess_model.specs.Allowed.{Allowed}
 use Rattle.chess_model.specs.AllMoves.{allowed_moves}
 use Rattle.house_bot.specs.declared.chosen.Choice.{Choice}
 use Rattle.house_bot.specs.Value.{move_value, best_move}
-use Rattle.house_bot.specs.Searching.{cut, GoesOn, IsOver, better, best_of}
+use Rattle.house_bot.specs.Searching.{cut, SearchGoesOn, IsOver, better, best_of}
 use Rattle.house_bot.proofs.Bounds.{IsTwoSets}
 use Rattle.house_bot.proofs.Choices.{no_choice}
 use Rattle.house_bot.proofs.Moves.{allowed_at}
@@ -114,7 +114,7 @@ returns-clause-value c =
     let d : ℕ = c.args.depth - 1 in
     let ms : List Move = c.deref-m-items.result.now in
     let choice : Choice = c.loop-m.choice in
-    let ahead : GoesOn c.args.depth p = c.in_default.ensures.open in
+    let ahead : SearchGoesOn c.args.depth p = c.in_default.ensures.open in
     let listed : ms ≡ allowed_moves p = c.deref-m-items.ensures.value ∙ c.in_ok-moves.ensures in
     let past : length ms ≤ c.loop-m.m-index = search rules in
     let chosen : choice ≡ best_of (move_value d p) no_choice (allowed_moves p) =
@@ -140,7 +140,7 @@ returns-clause-first c =
     let d : ℕ = c.args.depth - 1 in
     let ms : List Move = c.deref-m-items.result.now in
     let choice : Choice = c.loop-m.choice in
-    let ahead : GoesOn c.args.depth p = c.in_default.ensures.open in
+    let ahead : SearchGoesOn c.args.depth p = c.in_default.ensures.open in
     let listed : ms ≡ allowed_moves p = c.deref-m-items.ensures.value ∙ c.in_ok-moves.ensures in
     let past : length ms ≤ c.loop-m.m-index = search rules in
     let chosen : choice ≡ best_of (move_value d p) no_choice (allowed_moves p) =
@@ -163,7 +163,7 @@ returns-clause-none c =
     let d : ℕ = c.args.depth - 1 in
     let ms : List Move = c.deref-m-items.result.now in
     let choice : Choice = c.loop-m.choice in
-    let ahead : GoesOn c.args.depth p = c.in_default.ensures.open in
+    let ahead : SearchGoesOn c.args.depth p = c.in_default.ensures.open in
     let listed : ms ≡ allowed_moves p = c.deref-m-items.ensures.value ∙ c.in_ok-moves.ensures in
     let past : length ms ≤ c.loop-m.m-index = search rules in
     let chosen : choice ≡ best_of (move_value d p) no_choice (allowed_moves p) =

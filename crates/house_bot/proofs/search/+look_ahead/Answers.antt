@@ -8,7 +8,7 @@ use Rattle.chess_model.specs.Allowed.{Allowed}
 use Rattle.chess_model.specs.AllMoves.{allowed_moves}
 use Rattle.variant_rules.specs.Undos.{IsUndoOf}
 use Rattle.house_bot.specs.Value.{value, move_value}
-use Rattle.house_bot.specs.Searching.{cut, IsWindow, GoesOn, is_tried, raised, raised_by}
+use Rattle.house_bot.specs.Searching.{cut, IsWindow, SearchGoesOn, is_tried, raised, raised_by}
 use Rattle.house_bot.proofs.Cuts.{cut-neg, negated, negated_fits, IsBound-low, IsBound-high, IsBound-cut}
 use Rattle.house_bot.proofs.Moves.{allowed_at}
 use Rattle.house_bot.proofs.Raises.{raised_in, turn_reaches, turn_goes_on, turn_grows, greatest_none, first_pass_reaches, first_pass_from, second_pass_gives}
@@ -145,7 +145,7 @@ raised_by-loop-m-preserved t c =
 pub search-returns-then-is_empty-clause-value : goal.search-returns-then-is_empty-clause-value
 search-returns-then-is_empty-clause-value t c =
     let p : Position = c.args.p.now in
-    let ahead : GoesOn c.args.depth p = c.in_default.ensures.open in
+    let ahead : SearchGoesOn c.args.depth p = c.in_default.ensures.open in
     let e = ahead.best (c.args.depth - 1) (omega (arith, ahead.left)) in
     let none : length c.in_ok-moves.moves.items ≡ 0 =
     grind (arith, nat_tests, c.is_empty.ensures, c.if-is_empty.true, c.in_ok-moves.moves.ok.0) in
@@ -165,7 +165,7 @@ search-returns-then-high-raised-clause-value t c =
     let d : ℕ = c.args.depth - 1 in
     let f : Move → ℤ = move_value d p in
     let ms : List Move = allowed_moves p in
-    let ahead : GoesOn c.args.depth p = c.in_default.ensures.open in
+    let ahead : SearchGoesOn c.args.depth p = c.in_default.ensures.open in
     let e = ahead.best d (omega (arith, ahead.left)) in
     let some : 0 < length c.in_ok-moves.moves.items =
     grind (arith, nat_tests, c.is_empty.ensures, c.if-is_empty.false, c.in_ok-moves.moves.ok.0) in
@@ -192,7 +192,7 @@ search-raised_by-requires-2 t c =
     let d : ℕ = c.args.depth - 1 in
     let f : Move → ℤ = move_value d p in
     let ms : List Move = allowed_moves p in
-    let ahead : GoesOn c.args.depth p = c.in_default.ensures.open in
+    let ahead : SearchGoesOn c.args.depth p = c.in_default.ensures.open in
     let left = ahead.left in
     let listed : c.deref.result.now ≡ ms = c.deref.ensures.value ∙ c.in_ok-moves.ensures in
     let r : ℤ = c.in_ok-raised.raised in
@@ -226,7 +226,7 @@ search-returns-clause-value t c =
     let d : ℕ = c.args.depth - 1 in
     let f : Move → ℤ = move_value d p in
     let ms : List Move = allowed_moves p in
-    let ahead : GoesOn c.args.depth p = c.in_default.ensures.open in
+    let ahead : SearchGoesOn c.args.depth p = c.in_default.ensures.open in
     let e = ahead.best d (omega (arith, ahead.left)) in
     let some : 0 < length c.in_ok-moves.moves.items =
     grind (arith, nat_tests, c.is_empty.ensures, c.if-is_empty.false, c.in_ok-moves.moves.ok.0) in

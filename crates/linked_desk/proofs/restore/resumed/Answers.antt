@@ -9,8 +9,8 @@ use Rattle.desk_boards.specs.Replaying.{replayed}
 use Rattle.fics_words.specs.declared.seats.Seats.{Seats}
 use Rattle.style12_writer.specs.declared.item.Item.{Item}
 use Rattle.linked_desk.specs.declared.occasion.Occasion.TheVariants.{Resumption}
-use Rattle.linked_desk.specs.Restore.{finished_at, resumed}
-use Rattle.linked_desk.specs.Seating.{begun, game_at, opening_items, shown_items}
+use Rattle.linked_desk.specs.Restore.{finished_at, game_resumed}
+use Rattle.linked_desk.specs.Seating.{game_begun, game_begins_at, opening_items, shown_items}
 use Rattle.linked_desk.specs.Seats.{pairs_of}
 use Rattle.linked_desk.proofs.Opening.{announced_first}
 use Rattle.linked_desk.proofs.Restored.{numbers_replayed, order_replayed}
@@ -58,9 +58,9 @@ returns-clause-game c =
     ∙ ap (λ (items : List Item). items ++ shown_items desk (pairs_of seats) boards) c.in_ok-feed.ensures.items
     ∙ announced_first Resumption desk g.terms seats boards c.requires.pairs
     (numbers_replayed g c.args.moment boards r found) in
-    let begins : c.game_at-game.result ≡ begun Resumption desk c.args.serial g.terms seats boards c.args.moment =
+    let begins : c.game_at-game.result ≡ game_begun Resumption desk c.args.serial g.terms seats boards c.args.moment =
     c.game_at-game.ensures
-    ∙ ap (λ (items : List Item). game_at c.args.serial g.terms seats boards items c.args.moment) told in
+    ∙ ap (λ (items : List Item). game_begins_at c.args.serial g.terms seats boards items c.args.moment) told in
     let board : c.last_board.result ≡ last_board g.halves = c.last_board.ensures ∙ ap last_board c.as_slice.ensures in
     λ yes. ap Some (c.finish_at.ensures ∙ (λ i. finished_at desk (begins i) c.args.moment (board i)))
-    ∙ sym (ap (option_map (resumed desk c.args.serial g seats c.args.moment)) found)
+    ∙ sym (ap (option_map (game_resumed desk c.args.serial g seats c.args.moment)) found)

@@ -1,7 +1,7 @@
 use Rattle.std.proofs.Common.{not, sym, ap, ◌∙◌}
 use Rattle.channel_feed.specs.Waiting.{with_line as with_one_more}
 use Rattle.lobby_state.specs.Lobby.{is_session}
-use Rattle.lobby_state.specs.Match.{with_line}
+use Rattle.lobby_state.specs.Match.{member_with_line}
 use Rattle.lobby_state.proofs.ByRows.{no_room, room_nowhere, room_there}
 use Rattle.lobby_state.proofs.Lent.{changed_there, kept_here}
 use Rattle.lobby_state.proofs.OneHears.{one_hears}
@@ -43,7 +43,7 @@ returns-clause-told c =
 
 pub returns-clause-ok : goal.returns-clause-ok
 returns-clause-ok c =
-    changed_there (is_session c.args.session) (with_line c.args.line.now) _ c.args.members.now c.in-Some.place
+    changed_there (is_session c.args.session) (member_with_line c.args.line.now) _ c.args.members.now c.in-Some.place
     c.in-Some.ensures
     (λ m at. ap (λ lines. record m { waiting = lines })
     (c.in_ok-push.ensures.ok ∙ (λ j. with_one_more (c.in_ok-copy.ensures j) (c.waiting_mut.ensures.value m at j))))

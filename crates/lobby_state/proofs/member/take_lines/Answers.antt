@@ -1,6 +1,6 @@
 use Rattle.std.proofs.Common.{sym, ap, ◌∙◌}
 use Rattle.lobby_state.specs.Lobby.{is_session, lines_in}
-use Rattle.lobby_state.specs.Fetch.{emptied}
+use Rattle.lobby_state.specs.Fetch.{member_emptied}
 use Rattle.lobby_state.proofs.Lent.{at_place, change_first-missing, changed_there}
 use Rattle.lobby_state.proofs.member.take_lines.Goals as goal
 use Rattle.tables.proofs.Placed.{find-found, find-missing, position-within}
@@ -12,7 +12,7 @@ returns-in_default-clause-lines c =
 
 pub returns-in_default-clause-emptied : goal.returns-in_default-clause-emptied
 returns-in_default-clause-emptied c =
-    sym (change_first-missing (is_session c.args.session) emptied c.args.members.now (sym c.in_default.ensures))
+    sym (change_first-missing (is_session c.args.session) member_emptied c.args.members.now (sym c.in_default.ensures))
 
 pub returns-clause-lines : goal.returns-clause-lines
 returns-clause-lines c =
@@ -25,5 +25,5 @@ returns-clause-lines c =
 
 pub returns-clause-emptied : goal.returns-clause-emptied
 returns-clause-emptied c =
-    changed_there (is_session c.args.session) emptied _ c.args.members.now c.in-Some.place c.in-Some.ensures
+    changed_there (is_session c.args.session) member_emptied _ c.args.members.now c.in-Some.place c.in-Some.ensures
     (λ m at. ap (λ lines. record m { waiting = lines }) c.take_all.ensures.emptied)

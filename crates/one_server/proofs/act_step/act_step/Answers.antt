@@ -10,7 +10,7 @@ use Rattle.one_server.specs.declared.act.Timed.{Timed}
 use Rattle.one_server.specs.declared.reply.Reply.{Reply}
 use Rattle.one_server.specs.Acts.{FitsAct, desk_reply, lobby_reply}
 use Rattle.one_server.specs.House.{house}
-use Rattle.one_server.specs.Whole.{parts_of}
+use Rattle.one_server.specs.Whole.{parts_with}
 use Rattle.one_server.proofs.Stepping.{reply_lobby, after_lobby, desk_with, count_of_desks, reply_desk, after_desk, at_act, on_ok}
 use Rattle.one_server.proofs.act_step.act_step.Goals as goal
 use Rattle.desk_boards.proofs.StoredReplays.{if_ok}
@@ -35,11 +35,11 @@ returns-in-Lobby-clause-reply c =
     let lobby : LobbyState = c.args.lobby.now in
     let desks : List DeskState = c.args.desks.now in
     if_ok (λ (r : Reply). r ≡ lobby_reply (lobby_answer lobby c.args.session c.in-Lobby.act))
-    (λ (r : Reply). reply house (parts_of lobby desks) c.args.session c.args.timed.now ≡ Some r)
+    (λ (r : Reply). reply house (parts_with lobby desks) c.args.session c.args.timed.now ≡ Some r)
     c.lobby_step.result
     (λ r e.
     at_act c.args.timed.now (Lobby c.in-Lobby.act)
-    (λ (t : Timed). reply house (parts_of lobby desks) c.args.session t ≡ Some r) c.in-Lobby.is
+    (λ (t : Timed). reply house (parts_with lobby desks) c.args.session t ≡ Some r) c.in-Lobby.is
     (reply_lobby lobby desks c.args.session c.args.timed.now.moment c.in-Lobby.act r e))
     c.lobby_step.ensures.reply
 
@@ -48,11 +48,11 @@ returns-in-Lobby-clause-after c =
     let lobby : LobbyState = c.args.lobby.now in
     let desks : List DeskState = c.args.desks.now in
     on_ok (c.lobby_step.new.lobby ≡ lobby_after lobby c.args.session c.in-Lobby.act)
-    (after house (parts_of lobby desks) c.args.session c.args.timed.now ≡ parts_of c.lobby_step.new.lobby desks)
+    (after house (parts_with lobby desks) c.args.session c.args.timed.now ≡ parts_with c.lobby_step.new.lobby desks)
     c.lobby_step.result
     (λ e.
     at_act c.args.timed.now (Lobby c.in-Lobby.act)
-    (λ (t : Timed). after house (parts_of lobby desks) c.args.session t ≡ parts_of c.lobby_step.new.lobby desks)
+    (λ (t : Timed). after house (parts_with lobby desks) c.args.session t ≡ parts_with c.lobby_step.new.lobby desks)
     c.in-Lobby.is
     (after_lobby lobby desks c.args.session c.args.timed.now.moment c.in-Lobby.act c.lobby_step.new.lobby e))
     c.lobby_step.ensures.after
@@ -65,11 +65,11 @@ returns-in-Desk-clause-reply c =
     let found = desk_with lobby desks c.in-Desk.desk (count_of_desks lobby desks c.requires.whole) d in
     if_ok (λ (r : Reply).
     r ≡ desk_reply (desk_answer found.0 c.args.session c.args.timed.now.moment c.in-Desk.serial c.in-Desk.act))
-    (λ (r : Reply). reply house (parts_of lobby desks) c.args.session c.args.timed.now ≡ Some r)
+    (λ (r : Reply). reply house (parts_with lobby desks) c.args.session c.args.timed.now ≡ Some r)
     c.step_at_desk.result
     (λ r e.
     at_act c.args.timed.now (Desk c.in-Desk.desk c.in-Desk.serial c.in-Desk.act)
-    (λ (t : Timed). reply house (parts_of lobby desks) c.args.session t ≡ Some r) c.in-Desk.is
+    (λ (t : Timed). reply house (parts_with lobby desks) c.args.session t ≡ Some r) c.in-Desk.is
     (reply_desk lobby desks c.args.session c.args.timed.now.moment c.in-Desk.desk c.in-Desk.serial c.in-Desk.act found.0
     d.0 found.1 r e))
     (subst (λ (m : ℕ).
@@ -86,11 +86,11 @@ returns-in-Desk-clause-after c =
     on_ok (c.step_at_desk.new.desks
     ≡ set desks (c.in-Desk.desk - 1)
     (desk_after found.0 c.args.session c.args.timed.now.moment c.in-Desk.serial c.in-Desk.act))
-    (after house (parts_of lobby desks) c.args.session c.args.timed.now ≡ parts_of lobby c.step_at_desk.new.desks)
+    (after house (parts_with lobby desks) c.args.session c.args.timed.now ≡ parts_with lobby c.step_at_desk.new.desks)
     c.step_at_desk.result
     (λ e.
     at_act c.args.timed.now (Desk c.in-Desk.desk c.in-Desk.serial c.in-Desk.act)
-    (λ (t : Timed). after house (parts_of lobby desks) c.args.session t ≡ parts_of lobby c.step_at_desk.new.desks)
+    (λ (t : Timed). after house (parts_with lobby desks) c.args.session t ≡ parts_with lobby c.step_at_desk.new.desks)
     c.in-Desk.is
     (after_desk lobby desks c.args.session c.args.timed.now.moment c.in-Desk.desk c.in-Desk.serial c.in-Desk.act found.0
     d.0 found.1 c.step_at_desk.new.desks e))
@@ -105,37 +105,38 @@ returns-in-Pair-clause-reply c =
     let lobby : LobbyState = c.args.lobby.now in
     let desks : List DeskState = c.args.desks.now in
     if_ok (λ (r : Reply).
-    reply house (parts_of lobby desks) c.args.session (record {
+    reply house (parts_with lobby desks) c.args.session (record {
       moment = c.args.timed.now.moment;
       act = Pair c.in-Pair.act;
     })
     ≡ Some r)
-    (λ (r : Reply). reply house (parts_of lobby desks) c.args.session c.args.timed.now ≡ Some r)
+    (λ (r : Reply). reply house (parts_with lobby desks) c.args.session c.args.timed.now ≡ Some r)
     c.planned_step.result
     (λ r e.
     at_act c.args.timed.now (Pair c.in-Pair.act)
-    (λ (t : Timed). reply house (parts_of lobby desks) c.args.session t ≡ Some r) c.in-Pair.is e)
+    (λ (t : Timed). reply house (parts_with lobby desks) c.args.session t ≡ Some r) c.in-Pair.is e)
     c.planned_step.ensures.reply
 
 pub returns-in-Pair-clause-after : goal.returns-in-Pair-clause-after
 returns-in-Pair-clause-after c =
     let lobby : LobbyState = c.args.lobby.now in
     let desks : List DeskState = c.args.desks.now in
-    on_ok (after house (parts_of lobby desks) c.args.session (record {
+    on_ok (after house (parts_with lobby desks) c.args.session (record {
       moment = c.args.timed.now.moment;
       act = Pair c.in-Pair.act;
     })
-    ≡ parts_of c.planned_step.new.lobby c.planned_step.new.desks)
-    (after house (parts_of lobby desks) c.args.session c.args.timed.now
-    ≡ parts_of c.planned_step.new.lobby c.planned_step.new.desks)
+    ≡ parts_with c.planned_step.new.lobby c.planned_step.new.desks)
+    (after house (parts_with lobby desks) c.args.session c.args.timed.now
+    ≡ parts_with c.planned_step.new.lobby c.planned_step.new.desks)
     c.planned_step.result
     (λ e.
     at_act c.args.timed.now (Pair c.in-Pair.act)
     (λ (t : Timed).
-    after house (parts_of lobby desks) c.args.session t ≡ parts_of c.planned_step.new.lobby c.planned_step.new.desks)
+    after house (parts_with lobby desks) c.args.session t
+    ≡ parts_with c.planned_step.new.lobby c.planned_step.new.desks)
     c.in-Pair.is e)
     (subst (λ (m : ℕ).
     OnOk c.planned_step.result
-    (after house (parts_of lobby desks) c.args.session (record { moment = m; act = Pair c.in-Pair.act })
-    ≡ parts_of c.planned_step.new.lobby c.planned_step.new.desks))
+    (after house (parts_with lobby desks) c.args.session (record { moment = m; act = Pair c.in-Pair.act })
+    ≡ parts_with c.planned_step.new.lobby c.planned_step.new.desks))
     c.new-moment.ensures c.planned_step.ensures.after)

@@ -7,7 +7,7 @@ use Rattle.one_server.specs.declared.reply.Reply.{Reply}
 use Rattle.one_server.specs.declared.reply.Reply.TheVariants.{Pair as PairReplied}
 use Rattle.one_server.specs.House.{house}
 use Rattle.one_server.specs.Plans.{plan_reply, plan_lobby, plan_desk}
-use Rattle.one_server.specs.Whole.{parts_of}
+use Rattle.one_server.specs.Whole.{parts_with}
 use Rattle.one_server.proofs.Stepping.{reply_refused, after_refused, reply_nowhere, after_nowhere, can_carry, planned_number, desk_with, count_of_desks, reply_planned, after_planned, on_both}
 use Rattle.one_server.proofs.act_step.planned_step.Goals as goal
 use Rattle.desk_boards.proofs.StoredReplays.{if_ok}
@@ -50,7 +50,7 @@ returns-in-Some-clause-reply c =
     let found = desk_with lobby desks c.in-Some.number (count_of_desks lobby desks c.requires.whole) d in
     if_ok (λ (r : Reply). r ≡ PairReplied (plan_reply c.in-Ok.plan found.0))
     (λ (r : Reply).
-    reply house (parts_of lobby desks) c.args.session (record { moment = c.args.moment; act = Pair c.args.act.now })
+    reply house (parts_with lobby desks) c.args.session (record { moment = c.args.moment; act = Pair c.args.act.now })
     ≡ Some r)
     c.carry_out.result
     (λ r e.
@@ -69,8 +69,8 @@ returns-in-Some-clause-after c =
     let found = desk_with lobby desks c.in-Some.number (count_of_desks lobby desks c.requires.whole) d in
     on_both (c.carry_out.new.lobby ≡ plan_lobby lobby c.in-Ok.plan found.0)
     (c.carry_out.new.desks ≡ set desks (c.in-Some.number - 1) (plan_desk lobby c.in-Ok.plan found.0 c.args.moment))
-    (after house (parts_of lobby desks) c.args.session (record { moment = c.args.moment; act = Pair c.args.act.now })
-    ≡ parts_of c.carry_out.new.lobby c.carry_out.new.desks)
+    (after house (parts_with lobby desks) c.args.session (record { moment = c.args.moment; act = Pair c.args.act.now })
+    ≡ parts_with c.carry_out.new.lobby c.carry_out.new.desks)
     c.carry_out.result
     (λ e f.
     after_planned lobby desks c.args.session c.args.moment c.args.act.now c.in-Ok.plan c.in-Some.number found.0

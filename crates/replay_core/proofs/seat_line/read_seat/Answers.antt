@@ -4,7 +4,7 @@ use Rattle.std.proofs.lemmas.List.Elements.{recursion_from_All}
 use Rattle.chess_model.specs.VariantWord.{word_of}
 use Rattle.fics_words.specs.Handle.{IsHandle}
 use Rattle.replay_core.specs.Words.{blank, words_before}
-use Rattle.replay_core.specs.SeatLine.{AreDifferent, MayPlay}
+use Rattle.replay_core.specs.SeatLine.{AreDifferent, NamesMayPlay}
 use Rattle.replay_core.proofs.Seats.{seat_split, one_seat}
 use Rattle.replay_core.proofs.seat_line.read_seat.Goals as goal
 
@@ -16,7 +16,7 @@ returns-in_default-seat_terms-clause-none c seat h e =
     (sym c.in-Some.ensures.rest ∙ (c.bytes.ensures.bytes ∙ e)) c.in_ok-names.ensures.parts
     (recursion_from_All IsHandle _ c.in_ok-names.ensures.handles) c.in_ok-names.ensures.end in
     let names = c.as_slice.ensures ∙ one.0 in
-    let may : MayPlay c.as_slice.result.now seat.terms = record {
+    let may : NamesMayPlay c.as_slice.result.now seat.terms = record {
       count = ap length names ∙ h.count;
       different = subst AreDifferent (sym names) h.different;
       in_range = h.terms;

@@ -1,5 +1,5 @@
 use Rattle.std.proofs.Common.{subst}
-use Rattle.cmd_job.specs.Jobs.{Names}
+use Rattle.cmd_job.specs.Jobs.{NamesJob}
 use Rattle.cmd_job.specs.declared.job.Job.{Job}
 use Rattle.serve_call.proofs.ServeEnds.{no_serve}
 use Rattle.serve_call.proofs.serve_call.asks_to_serve.Goals as goal
@@ -11,7 +11,7 @@ returns-in-Ok-Serve-clause-asks c =
       w.field-0-1,
       w.field-0-2,
       w.field-0-3,
-      subst (λ (job : Job). Names c.args.words.now job) w.field-0-is w.ensures.job,
+      subst (λ (job : Job). NamesJob c.args.words.now job) w.field-0-is w.ensures.job,
     )
 
 pub returns-clause-usage : goal.returns-clause-usage

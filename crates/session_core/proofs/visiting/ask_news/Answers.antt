@@ -1,7 +1,7 @@
 use Rattle.std.proofs.Common.{◌∷◌, subst}
 use Rattle.one_server.specs.Running.{Ran}
 use Rattle.one_server.specs.declared.act.Act.{Act}
-use Rattle.session_core.specs.Course.{timed}
+use Rattle.session_core.specs.Course.{act_at}
 use Rattle.session_core.specs.Session.{visits}
 use Rattle.session_core.proofs.Going.{broke_unasked}
 use Rattle.session_core.proofs.VisitSteps.{broke_news, on_news}
@@ -14,7 +14,7 @@ returns-clause-went g c = λ rest.
     on_news c.args.visit.now c.args.memory.now rest c.args.moment c.tell_news.result c.run.new.reply old
     c.args.out.now.items
     new c.tell_news.new.memory c.tell_news.new.out.items
-    (subst (λ (a : Act). Ran old (timed c.args.moment a) c.run.new.reply new) c.fetch_at-act.ensures
+    (subst (λ (a : Act). Ran old (act_at c.args.moment a) c.run.new.reply new) c.fetch_at-act.ensures
     c.in_ok-run.ensures.ran)
     c.tell_news.ensures.over c.tell_news.ensures.text c.tell_news.ensures.after c.requires.inside
 
@@ -24,7 +24,7 @@ returns-clause-broke g c = λ rest.
     let new = g.R.Runner.state c.run.new.self in
     broke_news c.args.visit.now c.args.memory.now rest c.args.moment c.tell_news.result c.run.new.reply old new
     c.tell_news.new.memory
-    (subst (λ (a : Act). Ran old (timed c.args.moment a) c.run.new.reply new) c.fetch_at-act.ensures
+    (subst (λ (a : Act). Ran old (act_at c.args.moment a) c.run.new.reply new) c.fetch_at-act.ensures
     c.in_ok-run.ensures.ran)
     c.tell_news.ensures.after c.requires.inside
 

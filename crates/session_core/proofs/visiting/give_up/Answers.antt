@@ -1,7 +1,7 @@
 use Rattle.std.proofs.Common.{refl, subst, true}
 use Rattle.one_server.specs.Running.{Ran}
 use Rattle.one_server.specs.declared.act.Act.{Act}
-use Rattle.session_core.specs.Course.{timed}
+use Rattle.session_core.specs.Course.{act_at}
 use Rattle.session_core.specs.Session.{clear_at, given_up}
 use Rattle.session_core.proofs.Going.{broke_unasked, on_made}
 use Rattle.session_core.proofs.Remembering.{remembers_silent}
@@ -20,5 +20,5 @@ returns-clause-went g c = λ rest memory out inside.
     let act = clear_at c.args.visit.now in
     let reply = c.in_ok-_cleared._cleared in
     on_made c.args.moment act (λ cleared. rest) reply old memory out new memory
-    (subst (λ (a : Act). Ran old (timed c.args.moment a) reply new) c.clear_at.ensures c.in_ok-_cleared.ensures.ran)
+    (subst (λ (a : Act). Ran old (act_at c.args.moment a) reply new) c.clear_at.ensures c.in_ok-_cleared.ensures.ran)
     (remembers_silent old.number c.args.moment act reply memory refl inside)

@@ -1,7 +1,7 @@
 use Rattle.std.proofs.Common.{◌≡◌, ◌-◌, List, Some, refl, ap, subst, slice_get, slice_set}
 use Rattle.one_server.specs.Server.{ServerState}
 use Rattle.session_core.specs.Memory.{MemoryState}
-use Rattle.cmd_replay.specs.Evening.{EveningState, HasDone, IsNext, IsNoNext}
+use Rattle.cmd_replay.specs.Evening.{EveningState, HasDone, IsNextLine, IsNoNext}
 use Rattle.cmd_replay.proofs.EveningAnswers.{no_coming, coming_taken}
 use Rattle.cmd_replay.proofs.evening.Evening.take_event.Goals as goal
 
@@ -27,7 +27,7 @@ returns c =
       memories = slice_set c.self.inside.sessions (next.session - 1) kept;
     } in
     let server = ap (λ (v : EveningState). v.server) c.self.view_is in
-    let is_next : IsNext c.args.order line next = rw c.in-Some.is at c.in_ok-next.ensures.next in
+    let is_next : IsNextLine c.args.order line next = rw c.in-Some.is at c.in_ok-next.ensures.next in
     let before = c.item_mut.result.now in
     let memories = ap (λ (v : EveningState). v.memories) c.self.view_is in
     let took : slice_get old.memories (next.session - 1) ≡ Some before =

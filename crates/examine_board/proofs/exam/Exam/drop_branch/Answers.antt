@@ -1,5 +1,5 @@
 use Rattle.std.proofs.Common.{◌≡◌, ◌≤◌, ◌++◌, length, take, sym, ap, subst, ◌∙◌, arith}
-use Rattle.examine_board.specs.Exam.{ExamState, boards_after, present}
+use Rattle.examine_board.specs.Exam.{ExamState, boards_of_halves, present}
 use Rattle.examine_board.specs.Laid.{CanBeLaid}
 use Rattle.examine_board.proofs.Held.{whole}
 use Rattle.examine_board.proofs.exam.Exam.drop_branch.Goals as goal
@@ -19,7 +19,7 @@ invariant_of-self c =
       shared = omega (arith, shared);
       few = c.self.invariant.few;
       point = omega (arith, within, many);
-      boards = c.self.invariant.boards ∙ ap (boards_after i.terms) (same ∙ ap (take i.point) (sym all));
+      boards = c.self.invariant.boards ∙ ap (boards_of_halves i.terms) (same ∙ ap (take i.point) (sym all));
       stored = c.self.invariant.stored;
       list = subst (CanBeLaid i.terms) (sym all) c.self.invariant.stored;
       names = c.self.invariant.names;

@@ -1,7 +1,7 @@
 use Rattle.std.proofs.Common.{◌≡◌, ◌++◌, ◌∷◌, [], List, length, take, sym, ap, subst, ◌∙◌, arith, append_assoc, length-append}
 use Rattle.std.proofs.lemmas.List.{take-append-le}
 use Rattle.game_records.specs.declared.stored_game.Half.{Half}
-use Rattle.examine_board.specs.Exam.{ExamState, boards_after}
+use Rattle.examine_board.specs.Exam.{ExamState, boards_of_halves}
 use Rattle.examine_board.specs.Laid.{CanBeLaid, MayLie}
 use Rattle.examine_board.specs.Play.{uncharged}
 use Rattle.examine_board.proofs.Laying.{CanBeLaid-more}
@@ -31,7 +31,7 @@ invariant_of-self c =
       point = omega (arith, many, c.self.invariant.point);
       boards =
           c.self.invariant.boards
-          ∙ ap (boards_after i.terms)
+          ∙ ap (boards_of_halves i.terms)
           (sym (take-append-le i.point list (h ∷ []) c.self.invariant.point) ∙ ap (take i.point) (sym longer));
       stored = c.self.invariant.stored;
       list = subst (CanBeLaid i.terms) (sym longer) (CanBeLaid-more i.terms list h c.self.invariant.list lies);

@@ -1,7 +1,7 @@
 use Rattle.std.proofs.Common.{◌≡◌, ◌∷◌, [], true, sym, ap, subst, ◌∙◌}
 use Rattle.std.specs.Option.{option_copied, option_to_list}
 use Rattle.chess_model.specs.Tests.{has_drops}
-use Rattle.examine_board.specs.Exam.{ExamState, boards_after, present}
+use Rattle.examine_board.specs.Exam.{ExamState, boards_of_halves, present}
 use Rattle.examine_board.proofs.Shown.{hands_of_one, hands_of_two}
 use Rattle.examine_board.proofs.exam.Exam.put_hands.Goals as goal
 
@@ -9,8 +9,8 @@ pub returns-in_ok-push-2 : goal.returns-in_ok-push-2
 returns-in_ok-push-2 c =
     let e = c.args.self.now in
     let has : has_drops c.self.inside.terms.variant ≡ true = sym c.has_drops.ensures ∙ c.if-not-has_drops.false in
-    let both : c.both.result.0.now ∷ c.in-Some.second.now ∷ [] ≡ boards_after e.terms (present e) =
-    subst (λ (x : ExamState). c.both.result.0.now ∷ c.in-Some.second.now ∷ [] ≡ boards_after x.terms (present x))
+    let both : c.both.result.0.now ∷ c.in-Some.second.now ∷ [] ≡ boards_of_halves e.terms (present e) =
+    subst (λ (x : ExamState). c.both.result.0.now ∷ c.in-Some.second.now ∷ [] ≡ boards_of_halves x.terms (present x))
     c.self.view_is
     (ap (λ o. c.both.result.0.now ∷ option_to_list (option_copied o)) (sym c.in-Some.is) ∙ sym c.both.ensures
     ∙ c.self.invariant.boards) in
@@ -23,8 +23,8 @@ pub returns-in_default : goal.returns-in_default
 returns-in_default c =
     let e = c.args.self.now in
     let has : has_drops c.self.inside.terms.variant ≡ true = sym c.has_drops.ensures ∙ c.if-not-has_drops.false in
-    let one : c.both.result.0.now ∷ [] ≡ boards_after e.terms (present e) =
-    subst (λ (x : ExamState). c.both.result.0.now ∷ [] ≡ boards_after x.terms (present x)) c.self.view_is
+    let one : c.both.result.0.now ∷ [] ≡ boards_of_halves e.terms (present e) =
+    subst (λ (x : ExamState). c.both.result.0.now ∷ [] ≡ boards_of_halves x.terms (present x)) c.self.view_is
     (ap (λ o. c.both.result.0.now ∷ option_to_list (option_copied o)) (sym c.in_default.is) ∙ sym c.both.ensures
     ∙ c.self.invariant.boards) in
     hands_of_one e c.args.lines.now c.push.new.self c.in_ok-hands_line.field-0 c.both.result.0.now one

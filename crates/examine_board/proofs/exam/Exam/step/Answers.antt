@@ -2,7 +2,7 @@ use Rattle.std.proofs.Common.{◌≡◌, ◌+◌, List, ◌++◌, take, sym, ap,
 use Rattle.std.specs.Prelude.{slice_get, Some}
 use Rattle.std.proofs.lemmas.Option.{slice_get_within}
 use Rattle.game_records.specs.declared.stored_game.Half.{Half}
-use Rattle.examine_board.specs.Exam.{ExamState, boards_after}
+use Rattle.examine_board.specs.Exam.{ExamState, boards_of_halves}
 use Rattle.examine_board.specs.Laid.{MayLie}
 use Rattle.examine_board.proofs.Stepping.{laid, lay_allowed, lay_board, lay_room, lay_short, next_first}
 use Rattle.examine_board.proofs.exam.Exam.step.Goals as goal
@@ -64,7 +64,7 @@ invariant_of-self c =
       shared = c.self.invariant.shared;
       few = c.self.invariant.few;
       point = omega (arith, low);
-      boards = new ∙ ap (boards_after i.terms) (next_first list i.point h there);
+      boards = new ∙ ap (boards_of_halves i.terms) (next_first list i.point h there);
       stored = c.self.invariant.stored;
       list = c.self.invariant.list;
       names = c.self.invariant.names;

@@ -10,7 +10,7 @@ use Rattle.fics_words.specs.Boards.{board_place}
 use Rattle.desk_boards.specs.Boards.{boards_after, reply_at, word_at}
 use Rattle.fics_words.specs.declared.board_number.BoardNumber.{BoardNumber}
 use Rattle.linked_desk.specs.Desk.{GameState, moment_at}
-use Rattle.linked_desk.specs.Playing.{captured_by, seat_word, with_cleared}
+use Rattle.linked_desk.specs.Playing.{captured_man, seat_word, with_cleared}
 use Rattle.linked_desk.specs.Seats.{board_of}
 use Rattle.linked_desk.specs.Views.{feed_with, views_of}
 use Rattle.linked_desk.specs.Hands.{hands_at}
@@ -52,10 +52,10 @@ returns c =
     let offers : c.moved.new.self ≡ (with_cleared c.args.seat g).offers =
     c.moved.ensures ∙ ap (λ (s : GameState). (with_cleared c.args.seat s).offers) view in
     let captured : man
-    ≡ captured_by
+    ≡ captured_man
     (reply_at (slice_get g.boards (board_place (board_of c.args.seat))) (seat_word g c.args.seat c.args.word.now)) =
-    ap captured_by c.in_ok-captured.ensures.reply
-    ∙ (λ i. captured_by (reply_at (slice_get (view i).boards (board_place (same i))) (answer i))) in
+    ap captured_man c.in_ok-captured.ensures.reply
+    ∙ (λ i. captured_man (reply_at (slice_get (view i).boards (board_place (same i))) (answer i))) in
     let shown : List Item =
     feed_with held.feed (option_map item.Board (slice_get (views_of c.args.desk played) (board_place at))) in
     let one : c.add_some.new.feed.items ≡ shown =

@@ -6,7 +6,7 @@ use Rattle.tables.specs.Rows.{change_first}
 use Rattle.lobby_state.specs.declared.member.Member.{Member}
 use Rattle.lobby_state.specs.declared.reserve.Ready.TheVariants.{Asking}
 use Rattle.lobby_state.specs.Lobby.{LobbyState, is_session, waiting_of}
-use Rattle.lobby_state.specs.Match.{with_line}
+use Rattle.lobby_state.specs.Match.{member_with_line}
 use Rattle.lobby_state.specs.Reserve.{asking_for}
 use Rattle.lobby_state.specs.Resumed.{ask_line, asked_of}
 use Rattle.lobby_state.proofs.KeepsResumed.{lines-put}
@@ -38,12 +38,13 @@ returns c =
       by = from;
       game = c.args.number;
     }) c.in-Asking.lines (with_one_more (ask_line lobby from) (waiting_of lobby to)) (sym c.in-Asking.is ∙ ready) in
-    let told : c.put_lines.new.members ≡ change_first (is_session to) (with_line (ask_line lobby from)) lobby.members =
+    let told : c.put_lines.new.members
+    ≡ change_first (is_session to) (member_with_line (ask_line lobby from)) lobby.members =
     c.put_lines.ensures ∙ lines-put (ask_line lobby from) c.in-Asking.lines (is_session to) lobby.members lines in
     ap (λ (members : List Member). record lobby { members = members; shelf = c.ask.new.self }) told
     ∙ ap
     (λ (shelf : ShelfState).
     record lobby
-    { members = change_first (is_session to) (with_line (ask_line lobby from)) lobby.members; shelf = shelf })
+    { members = change_first (is_session to) (member_with_line (ask_line lobby from)) lobby.members; shelf = shelf })
     c.ask.ensures
     ∙ ap (λ (l : LobbyState). asked_of l from to c.args.number) c.self.view_is

@@ -3,7 +3,7 @@ use Rattle.lobby_state.specs.declared.acts.Plan.{Plan}
 use Rattle.lobby_state.specs.Lobby.{LobbyState}
 use Rattle.lobby_state.specs.Plans.{committed}
 use Rattle.lobby_state.specs.Reserve.{CanShelve, shelved_in}
-use Rattle.lobby_state.specs.Start.{seated}
+use Rattle.lobby_state.specs.Start.{lobby_seated}
 use Rattle.lobby_state.proofs.KeepsClear.{place-left}
 use Rattle.lobby_state.proofs.roster.Roster.commit.Goals as goal
 
@@ -18,6 +18,6 @@ put_away-requires-clause-place c =
 pub returns-in-Resume : goal.returns-in-Resume
 returns-in-Resume c =
     c.start-in-Resume.ensures
-    ∙ ap (λ (l : LobbyState). seated l c.in-Resume.desk c.in-Resume.serial c.in-Resume.terms c.in-Resume.seats)
+    ∙ ap (λ (l : LobbyState). lobby_seated l c.in-Resume.desk c.in-Resume.serial c.in-Resume.terms c.in-Resume.seats)
     c.take_off.ensures
     ∙ ap (λ (plan : Plan). committed c.args.self.now plan (shelved_in c.args.ready) c.args.cleared) (sym c.in-Resume.is)

@@ -1,5 +1,5 @@
 use Rattle.std.proofs.Common.{◌≡◌, None, Some, drop}
-use Rattle.pgn_book.specs.Reader.{facing}
+use Rattle.pgn_book.specs.Reader.{reader_facing}
 use Rattle.pgn_book.proofs.ReaderSteps.{has_read, game_is_last, end_is_last}
 use Rattle.pgn_book.proofs.reader.PgnReader.finish.Goals as goal
 
@@ -10,7 +10,8 @@ returns-in-Some-clause-last c =
     let some = c.in-Some.is in
     let advanced = c.advance.ensures in
     let found : c.in_ok-game.field-0.game ≡ Some c.in-Some.game = cc in
-    let new_is : c.advance.new.self ≡ facing c.read.new.self (drop c.in_ok-game.field-0.read c.args.self.now.rest) =
+    let new_is : c.advance.new.self
+    ≡ reader_facing c.read.new.self (drop c.in_ok-game.field-0.read c.args.self.now.rest) =
     cc in
     game_is_last c.args.self.now c.advance.new.self c.in_ok-game.field-0.game c.in-Some.game c.read.new.self
     (drop c.in_ok-game.field-0.read c.args.self.now.rest)
@@ -26,7 +27,8 @@ returns-clause-last c =
     let none = c.in_default.is in
     let advanced = c.advance-2.ensures in
     let none_found : c.in_ok-game.field-0.game ≡ None = cc in
-    let new_is : c.advance-2.new.self ≡ facing c.end.new.self (drop c.in_ok-game.field-0.read c.args.self.now.rest) =
+    let new_is : c.advance-2.new.self
+    ≡ reader_facing c.end.new.self (drop c.in_ok-game.field-0.read c.args.self.now.rest) =
     cc in
     end_is_last c.args.self.now c.advance-2.new.self c.in_ok-game.field-0.game c.read.new.self c.end.new.self
     (drop c.in_ok-game.field-0.read c.args.self.now.rest) c.in_ok-step.step

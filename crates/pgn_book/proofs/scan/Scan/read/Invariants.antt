@@ -1,12 +1,12 @@
 use Rattle.std.proofs.Common.{◌-◌, ◌≤◌, drop, length}
-use Rattle.pgn_book.specs.Reader.{facing}
+use Rattle.pgn_book.specs.Reader.{reader_facing}
 use Rattle.pgn_book.proofs.ReaderSteps.{HasPassed}
 use Rattle.pgn_book.proofs.scan.Scan.read.Given as goal
 
 -- no game ended in what was read so far
 abbrev pub invariant-loop-read : goal.invariant-loop-read
 invariant-loop-read l = record {
-  passed : HasPassed (facing l.fn.self l.bytes) (facing l.self (drop l.read l.bytes));
+  passed : HasPassed (reader_facing l.fn.self l.bytes) (reader_facing l.self (drop l.read l.bytes));
   within : l.read ≤ length l.bytes;
 }
 

@@ -1,8 +1,8 @@
 use Rattle.std.proofs.Common.{true, Some, None, cond, refl}
 use Rattle.std.specs.Prelude.{◌==◌}
 use Rattle.pgn_book.specs.declared.place.PlaceInText.TheVariants.{Start, AfterOne, AfterTwo, Between, InLine, InBraces, InWord, InQuotes, InStroke}
-use Rattle.pgn_book.specs.Reading.{started, state_at, begun, in_line, in_braces, in_quotes, in_stroke, step, step_in}
-use Rattle.pgn_book.specs.Taking.{IsStep}
+use Rattle.pgn_book.specs.Reading.{text_started, state_at, piece_begun, in_line, in_braces, in_quotes, in_stroke, step, step_in}
+use Rattle.pgn_book.specs.Taking.{IsStepOfByte}
 use Rattle.pgn_book.proofs.Walking.{step_silent, step_loud, step_back}
 use Rattle.pgn_book.proofs.walk.Walk.step.Goals as goal
 use Rattle.std.proofs.lemmas.Result.{IfOk-weaker, on_err_weaker}
@@ -11,7 +11,7 @@ pub returns-in-Start-clause-taken : goal.returns-in-Start-clause-taken
 returns-in-Start-clause-taken c =
     step_silent c.self.inside.place Start c.self.inside.depth c.self.inside.book c.args.self.now c.start.new.self
     c.args.byte c.start.result c.silent.result
-    (started c.self.inside.depth c.self.inside.book c.args.byte) c.self.view_is c.in-Start.ensures.value refl
+    (text_started c.self.inside.depth c.self.inside.book c.args.byte) c.self.view_is c.in-Start.ensures.value refl
     c.start.ensures c.silent.ensures
 
 pub returns-in-AfterOne-clause-taken : goal.returns-in-AfterOne-clause-taken
@@ -32,7 +32,7 @@ pub returns-in-Between-clause-taken : goal.returns-in-Between-clause-taken
 returns-in-Between-clause-taken c =
     step_silent c.self.inside.place (Between c.in-Between.fresh) c.self.inside.depth c.self.inside.book c.args.self.now
     c.begin.new.self c.args.byte c.begin.result c.silent-in-Between.result
-    (begun c.in-Between.fresh c.self.inside.depth c.self.inside.book c.args.byte) c.self.view_is
+    (piece_begun c.in-Between.fresh c.self.inside.depth c.self.inside.book c.args.byte) c.self.view_is
     c.in-Between.ensures.value refl c.begin.ensures c.silent-in-Between.ensures
 
 pub returns-in-InLine-clause-taken : goal.returns-in-InLine-clause-taken
@@ -53,9 +53,9 @@ pub returns-in-InWord-clause-taken : goal.returns-in-InWord-clause-taken
 returns-in-InWord-clause-taken c =
     IfOk-weaker c.go_on.result
     (λ read.
-    IsStep read c.go_on.new.self
+    IsStepOfByte read c.go_on.new.self
     (step_in (InWord c.in-InWord.glyph c.in-InWord.word) c.self.inside.depth c.self.inside.book c.args.byte))
-    (λ read. IsStep read c.go_on.new.self (step c.args.self.now c.args.byte))
+    (λ read. IsStepOfByte read c.go_on.new.self (step c.args.self.now c.args.byte))
     (λ read h.
     step_loud c.self.inside.place (InWord c.in-InWord.glyph c.in-InWord.word) c.self.inside.depth c.self.inside.book
     c.args.self.now c.go_on.new.self c.args.byte read

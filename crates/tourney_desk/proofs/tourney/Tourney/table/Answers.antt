@@ -1,6 +1,6 @@
 use Rattle.std.proofs.Common.{◌≡◌, ◌≤◌, List, count_by, sym, ap, subst, ◌∙◌}
 use Rattle.tourney_desk.specs.declared.score.Report.{Report}
-use Rattle.tourney_desk.specs.Scores.{has_player}
+use Rattle.tourney_desk.specs.Scores.{is_by_player}
 use Rattle.tourney_desk.specs.Table.{IsTable, table_of}
 use Rattle.tourney_desk.specs.Tourney.{TourneyState}
 use Rattle.tourney_desk.proofs.Joined.{rows_joined}
@@ -11,7 +11,7 @@ use Rattle.tourney_desk.proofs.tourney.Tourney.table.Goals as goal
 pub table_of-requires-clause-games : goal.table_of-requires-clause-games
 table_of-requires-clause-games c =
     λ player.
-    subst (λ (r : List Report). count_by (has_player player) r ≤ 64) (sym c.as_slice.ensures)
+    subst (λ (r : List Report). count_by (is_by_player player) r ≤ 64) (sym c.as_slice.ensures)
     (games_few _ _ c.self.invariant c.if-not-self.false player)
 
 pub returns-clause-sums : goal.returns-clause-sums
