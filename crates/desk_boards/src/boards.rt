@@ -73,12 +73,7 @@ impl Boards {
         requires variant { first.terms.variant ≡ Variant.Bughouse }
         ensures { IfOk result (λ boards. boards ≡ first ∷ new_board 2 first.terms first.begin ∷ []) }
     {
-        let second = GameBoard::start(
-            alloc,
-            BoardNumber::Second,
-            first.terms(),
-            first.begin(),
-        )?;
+        let second = GameBoard::start(alloc, BoardNumber::Second, first.terms(), first.begin())?;
         Ok(Boards {
             first,
             second: Some(second),

@@ -54,8 +54,8 @@ HoldsBoard-empty number terms position begin variant stands = record {
   resumed = omega arith;
 }
 
-pub HoldsBoard-at_start : (number : BoardNumber) (terms : Terms) (position : Position) (list : List Played) (steps : List Step)
-    (white black : Ledger) (begin : ℕ) (all : List Made) →
+pub HoldsBoard-at_start : (number : BoardNumber) (terms : Terms) (position : Position) (list : List Played)
+    (steps : List Step) (white black : Ledger) (begin : ℕ) (all : List Made) →
     position.variant ≡ terms.variant → Stands position [] (board_number number) → list ≡ [] → steps ≡ []
     → white ≡ clock_of terms White [] → black ≡ clock_of terms Black [] →
     all ≡ [] →
