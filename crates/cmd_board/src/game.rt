@@ -7,7 +7,7 @@ ghost use Rattle.style12_writer.specs.Line12.{line12_text};
 use crate::endings::{put_end, put_ended, put_refusal};
 use chess_model::{MoveWord, State, Terms, Variant};
 use clock_ledger::Moment;
-use fics_words::{Handle, Refusal};
+use fics_words::{BoardNumber, Handle, Refusal};
 use game_board::GameBoard;
 use memory::NoMemory;
 use move_reader::read_word;
@@ -45,7 +45,7 @@ impl UntimedGame {
     pub fn new(alloc: Global) -> Result<UntimedGame, NoMemory>
         ensures { IfOk result (λ game. game ≡ new_game) }
     {
-        let board = GameBoard::start(alloc, 1, untimed(), Moment::new(0))?;
+        let board = GameBoard::start(alloc, BoardNumber::First, untimed(), Moment::new(0))?;
         let over = board.state().is_end();
         Ok(UntimedGame { board, over })
     }

@@ -48,7 +48,7 @@ impl Boards {
         ensures boards { IfOk result (λ boards. boards ≡ new_boards terms moment) }
         ensures order { IfOk result (λ boards. latest boards ≤ moment) }
     {
-        let first = GameBoard::start(alloc, 1, terms, moment)?;
+        let first = GameBoard::start(alloc, BoardNumber::First, terms, moment)?;
         match terms.variant {
             Variant::Bughouse => Boards::pair(alloc, first),
             Variant::Chess => Ok(Boards::single(first)),
@@ -73,7 +73,7 @@ impl Boards {
         requires variant { first.terms.variant ≡ Variant.Bughouse }
         ensures { IfOk result (λ boards. boards ≡ first ∷ new_board 2 first.terms first.begin ∷ []) }
     {
-        let second = GameBoard::start(alloc, 2, first.terms(), first.begin())?;
+        let second = GameBoard::start(alloc, BoardNumber::Second, first.terms(), first.begin())?;
         Ok(Boards {
             first,
             second: Some(second),

@@ -1,10 +1,12 @@
 //! The half-moves of a game as its record has them.
 ghost use Rattle.std.specs.Prelude.{◌≡◌, [], IfOk, drop};
+ghost use Rattle.fics_words.specs.Boards.{board_number};
 ghost use Rattle.game_board.specs.Board.{made};
 ghost use Rattle.desk_boards.specs.Halves.{first_charge, half_of, halves_from, halves_of};
 
 use crate::boards::Boards;
 use clock_ledger::Charge;
+use fics_words::BoardNumber;
 use game_board::{Made, Played};
 use game_records::{Half, HalfList};
 use memory::NoMemory;
@@ -36,12 +38,15 @@ fn halves_from(
     let mut one = one;
     let mut two = two;
     for half in all {
-        if half.board == 1 {
-            halves.push(half_of(half, one))?;
-            one = behind_first(one);
-        } else {
-            halves.push(half_of(half, two))?;
-            two = behind_first(two);
+        match half.board {
+            BoardNumber::First => {
+                halves.push(half_of(half, one))?;
+                one = behind_first(one);
+            }
+            BoardNumber::Second => {
+                halves.push(half_of(half, two))?;
+                two = behind_first(two);
+            }
         }
     }
     Ok(halves)
@@ -49,10 +54,10 @@ fn halves_from(
 
 /// A half-move with the charge of the first one of a list.
 fn half_of(half: &Made, list: &[Played]) -> Half
-    ensures { result ≡ half_of (record { board = half.now.board; what = half.now.what }) list.now }
+    ensures { result ≡ half_of (record { board = board_number half.now.board; what = half.now.what }) list.now }
 {
     Half {
-        board: half.board,
+        board: half.board.number(),
         what: half.what,
         charge: first_charge(list),
     }

@@ -109,5 +109,6 @@ fn hands_line(alloc: Global, board: &GameBoard) -> Result<Line, NoMemory>
     let position = board.position();
     let white = position.hand(Colour::White);
     let black = position.hand(Colour::Black);
-    line_b1(alloc, u16::from(board.number()), &white, &black, None)
+    let game = u16::from(board.number().number());
+    line_b1(alloc, game, &white, &black, None)
 }

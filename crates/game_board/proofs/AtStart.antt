@@ -4,6 +4,8 @@ use Rattle.chess_model.specs.declared.man.Colour.TheVariants.{White, Black}
 use Rattle.chess_model.specs.declared.variant.Terms.{Terms}
 use Rattle.chess_model.specs.Position.{Position, Stands}
 use Rattle.clock_ledger.specs.Clock.{Ledger}
+use Rattle.fics_words.specs.Boards.{board_number}
+use Rattle.fics_words.specs.declared.board_number.BoardNumber.{BoardNumber}
 use Rattle.game_board.specs.declared.game_board.GameBoard.TheInside.{Inside}
 use Rattle.game_board.specs.declared.played.Made.{Made}
 use Rattle.game_board.specs.declared.played.Played.{Played}
@@ -14,7 +16,7 @@ use Rattle.game_board.proofs.Steps.{AreSteps-empty}
 use Rattle.chess_model.proofs.LegalLists.{legal_lists}
 
 -- the fields of a board without half-moves
-abbrev empty_board : ℕ → Terms → Position → ℕ → Inside
+abbrev empty_board : BoardNumber → Terms → Position → ℕ → Inside
 empty_board number terms position begin = record {
   number = number;
   terms = terms;
@@ -30,13 +32,11 @@ empty_board number terms position begin = record {
   all = [];
 }
 
-HoldsBoard-empty : (number : ℕ) (terms : Terms) (position : Position) (begin : ℕ) → 1 ≤ number → number ≤ 2
-    → position.variant ≡ terms.variant → Stands position [] number →
+HoldsBoard-empty : (number : BoardNumber) (terms : Terms) (position : Position) (begin : ℕ) →
+    position.variant ≡ terms.variant → Stands position [] (board_number number) →
     HoldsBoard (empty_board number terms position begin)
-HoldsBoard-empty number terms position begin first second variant stands = record {
+HoldsBoard-empty number terms position begin variant stands = record {
   stands = stands;
-  first = first;
-  second = second;
   variant = variant;
   legal = legal_lists.none terms.variant;
   own = refl;
@@ -48,15 +48,15 @@ HoldsBoard-empty number terms position begin first second variant stands = recor
   kept = tt;
   each = refl;
   shown = refl;
-  steps = λ h. AreSteps-empty terms.variant number;
+  steps = λ h. AreSteps-empty terms.variant (board_number number);
   counted = omega arith;
   most = omega arith;
   resumed = omega arith;
 }
 
-pub HoldsBoard-at_start : (number : ℕ) (terms : Terms) (position : Position) (list : List Played) (steps : List Step)
-    (white black : Ledger) (begin : ℕ) (all : List Made) →
-    1 ≤ number → number ≤ 2 → position.variant ≡ terms.variant → Stands position [] number → list ≡ [] → steps ≡ []
+pub HoldsBoard-at_start : (number : BoardNumber) (terms : Terms) (position : Position) (list : List Played)
+    (steps : List Step) (white black : Ledger) (begin : ℕ) (all : List Made) →
+    position.variant ≡ terms.variant → Stands position [] (board_number number) → list ≡ [] → steps ≡ []
     → white ≡ clock_of terms White [] → black ≡ clock_of terms Black [] →
     all ≡ [] →
     HoldsBoard (record {
@@ -73,7 +73,7 @@ pub HoldsBoard-at_start : (number : ℕ) (terms : Terms) (position : Position) (
       resumed = 0;
       all = all;
     })
-HoldsBoard-at_start number terms position list steps white black begin all first second variant stands l s w b a =
+HoldsBoard-at_start number terms position list steps white black begin all variant stands l s w b a =
     let same : empty_board number terms position begin
     ≡ record {
       number = number;
@@ -103,4 +103,4 @@ HoldsBoard-at_start number terms position list steps white black begin all first
       resumed = 0;
       all = sym a i;
     } in
-    subst HoldsBoard same (HoldsBoard-empty number terms position begin first second variant stands)
+    subst HoldsBoard same (HoldsBoard-empty number terms position begin variant stands)

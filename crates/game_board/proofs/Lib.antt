@@ -9,6 +9,7 @@ pub mod ScoreTakenBack
 pub mod Scoresheet
 pub mod Sides
 pub mod Movers
+pub mod Numbers
 pub mod OwnMoves
 pub mod PairHands
 pub mod Received

@@ -20,6 +20,7 @@ use Rattle.variant_rules.specs.Undos.{IsUndoOf}
 use Rattle.game_board.specs.declared.played.Made.{Made}
 use Rattle.game_board.specs.declared.played.Played.{Played}
 use Rattle.game_board.specs.declared.played.Step.{Step}
+use Rattle.fics_words.specs.Boards.{board_number}
 use Rattle.game_board.specs.Board.{half_move, half_moves, made, mover_after}
 use Rattle.game_board.specs.Charges.{charge_to, charges_of, clock_of}
 use Rattle.game_board.specs.Steps.{position_at, IsKeptStep, AreSteps}
@@ -155,7 +156,7 @@ clock_of-shorter t c mover list p k same is_mover =
 
 -- a half-move as it is kept, and what it is to the rules
 abbrev as_rules : Made → HalfMove
-as_rules h = record { board = h.board; what = h.what }
+as_rules h = record { board = board_number h.board; what = h.what }
 
 pub length-made : (all : List Made) → length (made all) ≡ length all
 length-made all = length-map all as_rules

@@ -5,6 +5,7 @@ use Rattle.chess_model.specs.declared.man.Colour.TheVariants.{White, Black}
 use Rattle.chess_model.specs.declared.variant.Terms.{Terms}
 use Rattle.chess_model.specs.MoveList.{HalfMove, side_from}
 use Rattle.chess_model.specs.Position.{Position, position_after}
+use Rattle.fics_words.specs.Boards.{board_number}
 use Rattle.game_board.specs.declared.played.Made.{Made}
 use Rattle.game_board.specs.declared.played.Played.{Played}
 
@@ -54,7 +55,7 @@ position_of b = position_after b.terms.variant b.all b.number
 
 -- half-moves as they are kept, and what they are to the rules
 abbrev pub made : List Made → List HalfMove
-made all = map (λ h. record { board = h.board; what = h.what }) all
+made all = map (λ h. record { board = board_number h.board; what = h.what }) all
 
 -- how many half-moves stand before the first one of a colour
 abbrev pub half_moves_before : Colour → ℕ

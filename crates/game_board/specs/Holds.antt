@@ -7,6 +7,7 @@ use Rattle.chess_model.specs.declared.variant.Variant.TheVariants.{Bughouse}
 use Rattle.chess_model.specs.MoveList.{moves_of}
 use Rattle.chess_model.specs.Position.{Stands}
 use Rattle.chess_model.specs.Allowed.{IsLegal}
+use Rattle.fics_words.specs.Boards.{board_number}
 use Rattle.game_board.specs.declared.game_board.GameBoard.TheInside.{Inside}
 use Rattle.game_board.specs.Board.{half_moves, made}
 use Rattle.game_board.specs.BoardFace.{last_shown}
@@ -17,14 +18,12 @@ use Rattle.game_board.specs.Steps.{AreSteps}
 
 pub record HoldsBoard (g : Inside) : Type 0 where
   -- the position stands for the half-moves of all boards, each of which was allowed
-  pub stands : Stands g.position (made g.all) g.number
-  pub first : 1 ≤ g.number
-  pub second : g.number ≤ 2
+  pub stands : Stands g.position (made g.all) (board_number g.number)
   pub variant : g.position.variant ≡ g.terms.variant
   pub legal : IsLegal g.terms.variant (made g.all)
   -- the list has those of this board, and but in bughouse there are no others
-  pub own : moves_of g.number (made g.all) ≡ map (λ p. p.what) g.list
-  pub alone : g.terms.variant ≢ Bughouse → made g.all ≡ half_moves g.number g.list
+  pub own : moves_of (board_number g.number) (made g.all) ≡ map (λ p. p.what) g.list
+  pub alone : g.terms.variant ≢ Bughouse → made g.all ≡ half_moves (board_number g.number) g.list
   pub others : length g.all ≤ length g.list + most_halves
   -- the clocks have the charges of the list
   pub white : g.white ≡ clock_of g.terms White g.list
@@ -33,9 +32,9 @@ pub record HoldsBoard (g : Inside) : Type 0 where
   pub kept : IfSome g.kept IsStamp
   pub each : length g.steps ≡ length g.list
   pub shown : option_map (λ s. s.shown) (slice_get g.steps (length g.steps - 1))
-      ≡ last_shown g.terms.variant g.number (made g.all) g.list
+      ≡ last_shown g.terms.variant (board_number g.number) (made g.all) g.list
   -- half-moves are taken back where the board is the only one
-  pub steps : g.terms.variant ≢ Bughouse → AreSteps g.terms.variant g.number g.list g.steps
+  pub steps : g.terms.variant ≢ Bughouse → AreSteps g.terms.variant (board_number g.number) g.list g.steps
   pub counted : length g.list ≤ g.played
   pub most : g.played ≤ most_halves
   pub resumed : g.resumed ≤ length g.list

@@ -17,7 +17,7 @@ use chess_model::{
 };
 use clock_ledger::{Charge, ClockLedger, Moment};
 use collections::Roomy;
-use fics_words::Refusal;
+use fics_words::{BoardNumber, Refusal};
 use memory::NoMemory;
 use std::alloc::Global;
 use std::marker::Model;
@@ -26,8 +26,7 @@ use variant_rules::Position;
 /// A game on one board with its clocks, from the start.
 #[derive(Drop)]
 pub struct GameBoard {
-    /// 1, or 2 for the second board of a pair.
-    pub(crate) number: u8,
+    pub(crate) number: BoardNumber,
     pub(crate) terms: Terms,
     pub(crate) position: Position,
     pub(crate) list: Roomy<Played, MOST_HALVES>,
@@ -46,6 +45,7 @@ pub struct GameBoard {
 }
 
 impl Model for GameBoard {
+    ghost use Rattle.fics_words.specs.Boards.{board_number};
     ghost use Rattle.game_board.specs.Board.{Board, made};
 
     ghost Value = { Board };
@@ -53,7 +53,7 @@ impl Model for GameBoard {
     ghost use Rattle.game_board.specs.Holds.{HoldsBoard};
 
     ghost view = { λ g. record {
-      number = g.number;
+      number = board_number g.number;
       terms = g.terms;
       list = g.list;
       begin = g.begin;
@@ -67,6 +67,7 @@ impl Model for GameBoard {
 }
 
 impl GameBoard {
+    ghost use Rattle.fics_words.specs.Boards.{board_number};
     ghost use Rattle.game_board.specs.Acked.{acknowledged};
     ghost use Rattle.game_board.specs.Board.{half_moves, made, new_board, to_move, position_of, has_moved};
     ghost use Rattle.game_board.specs.BoardFace.{board_face, last_played, last_shown, last_taken};
@@ -74,17 +75,15 @@ impl GameBoard {
     ghost use Rattle.game_board.specs.Play.{captured_in, move_answer, next_charge, with_half_move, play_reply, play_after};
     ghost use Rattle.game_board.specs.Flag.{flag_answer, running, has_fallen, cannot_win};
 
-    /// The board of that number, 1 or 2, at the start of a game, whose first player begins to think at `moment`. Room
+    /// The board of that number at the start of a game, whose first player begins to think at `moment`. Room
     /// for all its half-moves and charges is taken here, and no later call takes memory.
     pub fn start(
         alloc: Global,
-        number: u8,
+        number: BoardNumber,
         terms: Terms,
         moment: Moment,
     ) -> Result<GameBoard, NoMemory>
-        requires first { 1 ≤ number }
-        requires last { number ≤ 2 }
-        ensures { IfOk result (λ b. b ≡ new_board number terms moment) }
+        ensures { IfOk result (λ b. b ≡ new_board (board_number number) terms moment) }
     {
         Ok(GameBoard {
             number,
@@ -102,11 +101,9 @@ impl GameBoard {
         })
     }
 
-    /// The number of the board among those of the game, 1 or 2.
-    pub fn number(&self) -> u8
-        ensures value { result ≡ self.now.number }
-        ensures first { 1 ≤ self.now.number }
-        ensures last { self.now.number ≤ 2 }
+    /// The number of the board among those of the game.
+    pub fn number(&self) -> BoardNumber
+        ensures { board_number result ≡ self.now.number }
     {
         self.number
     }

@@ -23,7 +23,7 @@ impl GameBoard {
     {
         give(&mut self.position, man);
         self.all.push(Made {
-            board: 3 - self.number,
+            board: self.number.other(),
             what,
         });
     }

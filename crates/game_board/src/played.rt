@@ -1,6 +1,7 @@
 //! Half-moves of a game with what they charged.
 use chess_model::{Move, Shown};
 use clock_ledger::Charge;
+use fics_words::BoardNumber;
 use variant_rules::Undo;
 
 /// A half-move of a game, with the charge that it made to its colour's clock.
@@ -14,8 +15,7 @@ pub struct Played {
 /// A half-move on one of the boards of a game.
 #[derive(Clone, Copy)]
 pub struct Made {
-    /// The number of the board, 1 or 2.
-    pub board: u8,
+    pub board: BoardNumber,
     pub what: Move,
 }
 

@@ -1,6 +1,7 @@
 //! The end of a game.
 ghost use Rattle.std.specs.Prelude.{◌≡◌, None, option_copied};
 ghost use Rattle.std.specs.Option.{option_to_list};
+ghost use Rattle.fics_words.specs.Boards.{board_number};
 ghost use Rattle.linked_desk.specs.Ends.{end_item, ended_by, winner_on};
 ghost use Rattle.linked_desk.specs.Views.{each_board};
 
@@ -9,7 +10,7 @@ use crate::game::Game;
 use crate::views::view_of;
 use chess_model::Colour;
 use clock_ledger::Moment;
-use fics_words::{DeskNumber, Opponents};
+use fics_words::{BoardNumber, DeskNumber, Opponents};
 use game_board::GameBoard;
 use style12_writer::Item;
 
@@ -55,15 +56,15 @@ fn end_item(desk: DeskNumber, end: &Ended, players: &Opponents, board: &GameBoar
         view: view_of(desk, players, board),
         why: end.why,
         winner: winner_on(end, board.number()),
-        own: board.number() == end.board.number(),
+        own: board.number() == end.board,
     }
 }
 
 /// Who won at a board: at the other board of a pair it is the partner, who has the other colour.
-fn winner_on(end: &Ended, board: u8) -> Option<Colour>
-    ensures { result ≡ winner_on end.now board }
+fn winner_on(end: &Ended, board: BoardNumber) -> Option<Colour>
+    ensures { result ≡ winner_on end.now (board_number board) }
 {
-    if board == end.board.number() {
+    if board == end.board {
         return end.winner;
     }
     match end.winner {

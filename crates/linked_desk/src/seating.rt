@@ -160,7 +160,7 @@ fn announcement(
 ) -> Result<Item, NoMemory>
     ensures { IfOk result (λ item. item ≡ announcement occasion desk terms.now (board_number board) players.now) }
 {
-    let game = game_number(desk, board.number());
+    let game = game_number(desk, board);
     Ok(Item::Talk(news(alloc, occasion, game, players, terms)?))
 }
 

@@ -1,7 +1,7 @@
 //! What is shown of a game.
 ghost use Rattle.std.specs.Prelude.{◌≡◌, ◌+◌, ◌<◌, ◌≤◌, ℕ, IfOk, option_map, slice_get};
 ghost use Rattle.style12_writer.specs.declared.item.Item.TheVariants as item;
-ghost use Rattle.fics_words.specs.Boards.{board_place};
+ghost use Rattle.fics_words.specs.Boards.{board_number, board_place};
 ghost use Rattle.linked_desk.specs.Acts.{game_effect, items_told};
 ghost use Rattle.linked_desk.specs.Desk.{game_number};
 ghost use Rattle.linked_desk.specs.Views.{feed_with, view_of, views_of};
@@ -17,10 +17,10 @@ use std::alloc::Global;
 use style12_writer::{BoardView, Item, ItemList};
 
 /// The number under which a board at a desk is shown.
-pub(crate) fn game_number(desk: DeskNumber, board: u8) -> u16
-    ensures { result ≡ game_number desk board }
+pub(crate) fn game_number(desk: DeskNumber, board: BoardNumber) -> u16
+    ensures { result ≡ game_number desk (board_number board) }
 {
-    2 * (u16::from(desk.get()) - 1) + u16::from(board)
+    2 * (u16::from(desk.get()) - 1) + u16::from(board.number())
 }
 
 /// All that the board line of a game shows.

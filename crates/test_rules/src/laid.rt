@@ -4,7 +4,7 @@ use crate::playing::{STRANGE, play_next, terms};
 use crate::resumed::{Shown, half_move, shows};
 use chess_model::{MOST_HALVES, Variant};
 use clock_ledger::Moment;
-use fics_words::Refusal;
+use fics_words::{BoardNumber, Refusal};
 use game_board::{GameBoard, Played};
 use std::alloc::Global;
 use std::test::Fail;
@@ -156,7 +156,8 @@ fn is_rewound(board: &mut GameBoard) -> bool {
 
 /// The place of the first step that isn't as it has to be, if one isn't.
 fn first_failing(alloc: Global) -> Result<Option<usize>, Fail> {
-    let mut board = GameBoard::start(alloc, 1, terms(5, 3, Variant::Chess), Moment::new(BEGIN))?;
+    let terms = terms(5, 3, Variant::Chess);
+    let mut board = GameBoard::start(alloc, BoardNumber::First, terms, Moment::new(BEGIN))?;
     Ok(first_failing_at(&mut board))
 }
 

@@ -4,7 +4,7 @@
 use crate::chess_words::word_of;
 use chess_model::{Colour, Terms, Variant};
 use clock_ledger::{Moment, STAMP_CYCLE};
-use fics_words::Refusal;
+use fics_words::{BoardNumber, Refusal};
 use game_board::GameBoard;
 use std::alloc::Global;
 use std::process::Abort;
@@ -25,7 +25,7 @@ pub fn terms(minutes: u16, increment: u16, variant: Variant) -> Terms {
 
 /// A board of these terms, begun at moment 0.
 pub fn new_board(alloc: Global, terms: Terms) -> Result<GameBoard, Fail> {
-    Ok(GameBoard::start(alloc, 1, terms, Moment::new(0))?)
+    Ok(GameBoard::start(alloc, BoardNumber::First, terms, Moment::new(0))?)
 }
 
 /// Plays a word of a colour at a moment.

@@ -5,7 +5,7 @@ use crate::playing::{STRANGE, play_next, remaining, terms};
 use crate::puts::put;
 use chess_model::{Colour, Move, Square, Variant};
 use clock_ledger::{Charge, Moment};
-use fics_words::Refusal;
+use fics_words::{BoardNumber, Refusal};
 use game_board::{GameBoard, Played};
 use std::alloc::Global;
 use std::test::Fail;
@@ -232,7 +232,7 @@ fn holds(board: &mut GameBoard, step: &Step) -> Result<bool, Fail> {
 /// The place of the first step of a game that isn't as it has to be, if one isn't.
 fn first_failing(alloc: Global, case: &Case) -> Result<Option<usize>, Fail> {
     let terms = terms(case.minutes, case.increment, Variant::Chess);
-    let mut board = GameBoard::start(alloc, 1, terms, Moment::new(RESUMED))?;
+    let mut board = GameBoard::start(alloc, BoardNumber::First, terms, Moment::new(RESUMED))?;
     first_failing_at(&mut board, case.steps)
 }
 

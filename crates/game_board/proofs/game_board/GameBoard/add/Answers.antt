@@ -1,4 +1,4 @@
-use Rattle.std.proofs.Common.{◌≡◌, ◌-◌, ◌<◌, IfSome, All, List, [], ◌∷◌, ◌++◌, map, length, length-append, ap, ◌∙◌, sym, subst, arith}
+use Rattle.std.proofs.Common.{◌≡◌, ℕ, ◌-◌, ◌<◌, IfSome, All, List, [], ◌∷◌, ◌++◌, map, length, length-append, ap, ◌∙◌, sym, subst, arith}
 use Rattle.chess_model.specs.declared.man.Colour.TheVariants.{White, Black}
 use Rattle.std.specs.Prelude.{slice_get}
 use Rattle.std.specs.Option.{option_map}
@@ -14,6 +14,7 @@ use Rattle.clock_ledger.specs.Charges.{IsChargeable}
 use Rattle.clock_ledger.specs.Clock.{Ledger}
 use Rattle.variant_rules.specs.Showing.{shown_of}
 use Rattle.variant_rules.specs.Undos.{IsUndoOf}
+use Rattle.fics_words.specs.Boards.{board_number}
 use Rattle.game_board.specs.declared.played.Made.{Made}
 use Rattle.game_board.specs.declared.played.Played.{Played}
 use Rattle.game_board.specs.declared.played.Step.{Step}
@@ -34,7 +35,7 @@ make-undo-requires c =
     let i = c.self.inside in
     let e =
     position_of-stands i.position (record {
-      number = i.number;
+      number = board_number i.number;
       terms = i.terms;
       list = i.list;
       begin = i.begin;
@@ -68,7 +69,7 @@ returns-clause-captured c =
     let i = c.self.inside in
     let same : i.position ≡ position_of c.args.self.now =
     position_of-stands i.position (record {
-      number = i.number;
+      number = board_number i.number;
       terms = i.terms;
       list = i.list;
       begin = i.begin;
@@ -94,45 +95,44 @@ pub invariant_of-self : goal.invariant_of-self
 unfolding position_of
 invariant_of-self c =
     let i = c.self.inside in
+    let n : ℕ = board_number i.number in
     let half : Played = c.args.half.now in
     let step : Step = record { undo = c.make-undo.result; shown = c.shown-shown.result } in
     let q : Position = c.make-undo.new.self in
     let v : Variant = i.terms.variant in
     let T : List HalfMove = made i.all in
-    let one : HalfMove = half_move i.number half in
+    let one : HalfMove = half_move n half in
     let is_mover : mover_after i.list ≡ c.to_move-mover.result =
     ap (λ (b : Board). mover_after b.list) c.self.view_is ∙ sym c.to_move-mover.ensures in
     let grown : c.push-2.new.self ≡ i.list ++ half ∷ [] = c.push-2.ensures in
     let more : made c.push-3.new.self ≡ T ++ one ∷ [] =
     ap made c.push-3.ensures
-    ∙ map-append (λ (h : Made). record { board = h.board; what = h.what }) i.all
-    (record { board = i.number; what = half.what } ∷ []) in
-    let old : i.position ≡ position_after v T i.number =
-    c.self.invariant.stands.same ∙ ap (λ w. position_after w T i.number) c.self.invariant.variant in
-    let now : position_after v T i.number ≡ position_of c.args.self.now = ap position_of c.self.view_is in
-    let allowed : Allowed (position_after v T i.number) half.what =
+    ∙ map-append (λ (h : Made). record { board = board_number h.board; what = h.what }) i.all
+    (record { board = n; what = half.what } ∷ []) in
+    let old : i.position ≡ position_after v T n =
+    c.self.invariant.stands.same ∙ ap (λ w. position_after w T n) c.self.invariant.variant in
+    let now : position_after v T n ≡ position_of c.args.self.now = ap position_of c.self.view_is in
+    let allowed : Allowed (position_after v T n) half.what =
     subst (λ (p : Position). Allowed p half.what) (sym now) c.requires.allowed in
     let variant : q.variant ≡ v = c.make-undo.ensures.variant ∙ c.self.invariant.variant in
-    let stands : Stands q (T ++ one ∷ []) i.number = c.make-undo.ensures.stands T i.number c.self.invariant.stands in
-    let new : q ≡ position_after v (T ++ one ∷ []) i.number =
-    stands.same ∙ ap (λ w. position_after w (T ++ one ∷ []) i.number) variant in
-    let shown : step.shown ≡ shown_of (position_after v T i.number) half.what =
+    let stands : Stands q (T ++ one ∷ []) n = c.make-undo.ensures.stands T n c.self.invariant.stands in
+    let new : q ≡ position_after v (T ++ one ∷ []) n =
+    stands.same ∙ ap (λ w. position_after w (T ++ one ∷ []) n) variant in
+    let shown : step.shown ≡ shown_of (position_after v T n) half.what =
     c.shown-shown.ensures ∙ ap (λ (p : Position). shown_of p half.what) (c.position.ensures ∙ sym now) in
     record {
-      stands = subst (λ (U : List HalfMove). Stands q U i.number) (sym more) stands;
-      first = c.self.invariant.first;
-      second = c.self.invariant.second;
+      stands = subst (λ (U : List HalfMove). Stands q U n) (sym more) stands;
       variant = variant;
       legal =
           subst (λ (U : List HalfMove). IsLegal v U) (sym more) (IsLegal-append v T one c.self.invariant.legal allowed);
       own =
-          ap (moves_of i.number) more ∙ moves_of-same i.number T half.what
+          ap (moves_of n) more ∙ moves_of-same n T half.what
           ∙ ap (λ (ms : List Move). ms ++ half.what ∷ []) c.self.invariant.own
           ∙ sym (map-append (λ (p : Played). p.what) i.list (half ∷ []))
           ∙ ap (map (λ (p : Played). p.what)) (sym grown);
       alone = λ h.
           more ∙ ap (λ (U : List HalfMove). U ++ one ∷ []) (c.self.invariant.alone h)
-          ∙ sym (half_moves-append i.number i.list half) ∙ ap (half_moves i.number) (sym grown);
+          ∙ sym (half_moves-append n i.list half) ∙ ap (half_moves n) (sym grown);
       others =
           omega (
             arith,
@@ -140,7 +140,7 @@ invariant_of-self c =
             ap length grown,
             ap length c.push-3.ensures,
             length-append i.list (half ∷ []),
-            length-append i.all (record { board = i.number; what = half.what } ∷ []),
+            length-append i.all (record { board = n; what = half.what } ∷ []),
           );
       white =
           c.charge_clocks.ensures.white
@@ -164,24 +164,24 @@ invariant_of-self c =
             length-append i.steps (step ∷ []),
           );
       shown = ap (λ (l : List Step). option_map (λ s. s.shown) (slice_get l (length l - 1))) c.push.ensures
-          ∙ shown-append v i.number T i.list i.steps half step shown
-          ∙ ap (λ (U : List HalfMove). last_shown v i.number U (i.list ++ half ∷ [])) (sym more)
-          ∙ ap (λ (l : List Played). last_shown v i.number (made c.push-3.new.self) l) (sym grown);
+          ∙ shown-append v n T i.list i.steps half step shown
+          ∙ ap (λ (U : List HalfMove). last_shown v n U (i.list ++ half ∷ [])) (sym more)
+          ∙ ap (λ (l : List Played). last_shown v n (made c.push-3.new.self) l) (sym grown);
       steps = λ h.
-          let before : T ≡ half_moves i.number i.list = c.self.invariant.alone h in
-          let after : T ++ one ∷ [] ≡ half_moves i.number (i.list ++ half ∷ []) =
-          ap (λ (U : List HalfMove). U ++ one ∷ []) before ∙ sym (half_moves-append i.number i.list half) in
-          let undo : IsUndoOf step.undo (position_after v (half_moves i.number i.list) i.number)
-          (position_after v (half_moves i.number (i.list ++ half ∷ [])) i.number) =
+          let before : T ≡ half_moves n i.list = c.self.invariant.alone h in
+          let after : T ++ one ∷ [] ≡ half_moves n (i.list ++ half ∷ []) =
+          ap (λ (U : List HalfMove). U ++ one ∷ []) before ∙ sym (half_moves-append n i.list half) in
+          let undo : IsUndoOf step.undo (position_after v (half_moves n i.list) n)
+          (position_after v (half_moves n (i.list ++ half ∷ [])) n) =
           subst (λ (p : Position).
-          IsUndoOf step.undo p (position_after v (half_moves i.number (i.list ++ half ∷ [])) i.number))
-          (old ∙ ap (λ (U : List HalfMove). position_after v U i.number) before)
+          IsUndoOf step.undo p (position_after v (half_moves n (i.list ++ half ∷ [])) n))
+          (old ∙ ap (λ (U : List HalfMove). position_after v U n) before)
           (subst (λ (p : Position). IsUndoOf step.undo i.position p)
-          (new ∙ ap (λ (U : List HalfMove). position_after v U i.number) after) c.make-undo.ensures.undo) in
-          subst (λ (l : List Played). AreSteps v i.number l c.push.new.self) (sym grown)
-          (subst (AreSteps v i.number (i.list ++ half ∷ [])) (sym c.push.ensures)
-          (AreSteps-append v i.number i.list i.steps half step (c.self.invariant.steps h) undo
-          (shown ∙ ap (λ (U : List HalfMove). shown_of (position_after v U i.number) half.what) before)));
+          (new ∙ ap (λ (U : List HalfMove). position_after v U n) after) c.make-undo.ensures.undo) in
+          subst (λ (l : List Played). AreSteps v n l c.push.new.self) (sym grown)
+          (subst (AreSteps v n (i.list ++ half ∷ [])) (sym c.push.ensures)
+          (AreSteps-append v n i.list i.steps half step (c.self.invariant.steps h) undo
+          (shown ∙ ap (λ (U : List HalfMove). shown_of (position_after v U n) half.what) before)));
       counted = omega (arith, ap length grown, length-append i.list (half ∷ []), c.self.invariant.counted);
       most = omega (arith, ap (λ (b : Board). b.played) c.self.view_is);
       resumed = omega (arith, ap length grown, length-append i.list (half ∷ []), c.self.invariant.resumed);

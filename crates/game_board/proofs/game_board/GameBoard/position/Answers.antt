@@ -1,4 +1,5 @@
 use Rattle.std.proofs.Common.{ap, ◌∙◌}
+use Rattle.fics_words.specs.Boards.{board_number}
 use Rattle.game_board.specs.Board.{position_of, made}
 use Rattle.game_board.proofs.Movers.{position_of-stands}
 use Rattle.game_board.proofs.game_board.GameBoard.position.Goals as goal
@@ -7,7 +8,7 @@ pub returns : goal.returns
 returns c =
     let i = c.self.inside in
     position_of-stands i.position (record {
-      number = i.number;
+      number = board_number i.number;
       terms = i.terms;
       list = i.list;
       begin = i.begin;
