@@ -1,5 +1,5 @@
 -- A board without half-moves keeps what every board keeps.
-use Rattle.std.proofs.Common.{◌≡◌, ℕ, ◌≤◌, ◌^◌, List, [], None, refl, sym, subst, arith}
+use Rattle.std.proofs.Common.{◌≡◌, ℕ, ◌^◌, List, [], None, refl, sym, subst, arith}
 use Rattle.chess_model.specs.declared.man.Colour.TheVariants.{White, Black}
 use Rattle.chess_model.specs.declared.variant.Terms.{Terms}
 use Rattle.chess_model.specs.Position.{Position, Stands}

@@ -108,7 +108,7 @@ invariant_of-self c =
     let more : made c.push-3.new.self ≡ T ++ one ∷ [] =
     ap made c.push-3.ensures
     ∙ map-append (λ (h : Made). record { board = board_number h.board; what = h.what }) i.all
-    (record { board = n; what = half.what } ∷ []) in
+    (record { board = i.number; what = half.what } ∷ []) in
     let old : i.position ≡ position_after v T n =
     c.self.invariant.stands.same ∙ ap (λ w. position_after w T n) c.self.invariant.variant in
     let now : position_after v T n ≡ position_of c.args.self.now = ap position_of c.self.view_is in
@@ -140,7 +140,7 @@ invariant_of-self c =
             ap length grown,
             ap length c.push-3.ensures,
             length-append i.list (half ∷ []),
-            length-append i.all (record { board = n; what = half.what } ∷ []),
+            length-append i.all (record { board = i.number; what = half.what } ∷ []),
           );
       white =
           c.charge_clocks.ensures.white

@@ -1,7 +1,6 @@
 use Rattle.std.proofs.Common.{◌≡◌, ℕ, ◌-◌, List, [], ◌∷◌, ◌++◌, length, length-append, sym, ap, subst, ◌∙◌, arith}
 use Rattle.std.specs.Prelude.{slice_get}
 use Rattle.std.specs.Option.{option_map}
-use Rattle.std.proofs.lemmas.List.{map-append}
 use Rattle.chess_model.specs.declared.variant.Variant.{Variant}
 use Rattle.chess_model.specs.declared.variant.Variant.TheVariants.{Bughouse}
 use Rattle.chess_model.specs.Allowed.{Allowed, IsLegal}
@@ -15,8 +14,8 @@ use Rattle.game_board.specs.declared.played.Made.{Made}
 use Rattle.game_board.specs.declared.played.Played.{Played}
 use Rattle.game_board.specs.Board.{Board, made}
 use Rattle.game_board.specs.BoardFace.{before_own}
-use Rattle.game_board.specs.Learn.{partner_position}
-use Rattle.game_board.proofs.Numbers.{is_first, is_second, other_numbered}
+use Rattle.game_board.specs.Learn.{learnt, partner_position}
+use Rattle.game_board.proofs.Numbers.{is_first, is_second, made-other}
 use Rattle.game_board.proofs.OwnMoves.{before_own-other}
 use Rattle.game_board.proofs.PairHands.{not_king_if, room_if}
 use Rattle.game_board.proofs.Received.{boards_differ, with_captured-variant, Stands-other}
@@ -89,10 +88,7 @@ invariant_of-self c =
     let far : HalfMove = record { board = other_board n; what = c.args.what } in
     let pushed : Made = record { board = c.other.result; what = c.args.what } in
     let more : made c.push.new.self ≡ T ++ far ∷ [] =
-    ap made c.push.ensures
-    ∙ map-append (λ (h : Made). record { board = board_number h.board; what = h.what }) i.all (pushed ∷ [])
-    ∙ ap (λ (k : ℕ). T ++ record { board = k; what = c.args.what } ∷ [])
-    (ap board_number c.other.ensures ∙ other_numbered i.number) in
+    ap made c.push.ensures ∙ made-other i.all i.number c.other.result c.args.what c.other.ensures in
     let stands : Stands c.give.new.position (T ++ far ∷ []) n =
     subst (λ (q : Position). Stands q (T ++ far ∷ []) n) (sym c.give.ensures)
     (Stands-other i.position T n c.args.what c.args.man (c.self.invariant.variant ∙ pair) man_is
@@ -137,3 +133,22 @@ invariant_of-self c =
       most = c.self.invariant.most;
       resumed = c.self.invariant.resumed;
     }
+
+pub returns : goal.returns
+returns c =
+    let i = c.self.inside in
+    let more : made c.push.new.self
+    ≡ made i.all ++ record { board = other_board (board_number i.number); what = c.args.what } ∷ [] =
+    ap made c.push.ensures ∙ made-other i.all i.number c.other.result c.args.what c.other.ensures in
+    let board : List HalfMove → Board =
+    λ all. record {
+      number = board_number i.number;
+      terms = i.terms;
+      list = i.list;
+      begin = i.begin;
+      kept = i.kept;
+      played = i.played;
+      resumed = i.resumed;
+      all = all;
+    } in
+    ap board more ∙ ap (λ (b : Board). learnt b c.args.what) c.self.view_is
