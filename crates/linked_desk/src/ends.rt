@@ -1,5 +1,5 @@
 //! The end of a game.
-ghost use Rattle.std.specs.Prelude.{◌≡◌, None, option_copied};
+ghost use Rattle.std.specs.Prelude.{◌≡◌, ◌==◌, None, option_copied};
 ghost use Rattle.std.specs.Option.{option_to_list};
 ghost use Rattle.fics_words.specs.Boards.{board_number};
 ghost use Rattle.linked_desk.specs.Ends.{end_item, ended_by, winner_on};
@@ -56,7 +56,7 @@ fn end_item(desk: DeskNumber, end: &Ended, players: &Opponents, board: &GameBoar
         view: view_of(desk, players, board),
         why: end.why,
         winner: winner_on(end, board.number()),
-        own: board.number() == end.board,
+        own: ended_on(end, board.number()),
     }
 }
 
@@ -64,11 +64,18 @@ fn end_item(desk: DeskNumber, end: &Ended, players: &Opponents, board: &GameBoar
 fn winner_on(end: &Ended, board: BoardNumber) -> Option<Colour>
     ensures { result ≡ winner_on end.now (board_number board) }
 {
-    if board == end.board {
+    if ended_on(end, board) {
         return end.winner;
     }
     match end.winner {
         Some(colour) => Some(colour.opposite()),
         None => None,
     }
+}
+
+/// Whether the game ended on the board of that number.
+fn ended_on(end: &Ended, board: BoardNumber) -> bool
+    ensures { result ≡ (board_number board == board_number end.now.board) }
+{
+    board.number() == end.board.number()
 }

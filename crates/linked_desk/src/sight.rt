@@ -16,7 +16,7 @@ pub fn viewer_of(seat: Option<u8>, view: &BoardView) -> Viewer
     let Some(seat) = seat else {
         return observing();
     };
-    if board_of(seat) != board_in(view.game) {
+    if board_of(seat).number() != board_in(view.game).number() {
         return observing();
     }
     playing(colour_at(seat), view.face.to_move)
