@@ -14,13 +14,13 @@ use Rattle.command_words.specs.Words.{commands}
 abbrev pub begins : List ℕ → CommandRow → Bool
 begins word row = starts_with nat_eq row.0 word
 
--- the word is the command's name, which has as many letters
-abbrev pub is_name : List ℕ → CommandRow → Bool
-is_name word row = begins word row && nat_eq (count_by (λ b. not (nat_eq b 32)) row.0) (length word)
+-- the word is the name, which has as many letters and blanks behind it
+abbrev pub is_name : List ℕ → List ℕ → Bool
+is_name word name = starts_with nat_eq name word && nat_eq (count_by (λ b. not (nat_eq b 32)) name) (length word)
 
--- or its short form
+-- the word is the command's name or its short form
 abbrev pub is_called : List ℕ → CommandRow → Bool
-is_called word row = is_name word row || bytes_eq word (row.1 ∷ [])
+is_called word row = is_name word row.0 || bytes_eq word (row.1 ∷ [])
 
 -- the command of a row
 abbrev pub taken_by_row : Option CommandRow → Option Takes

@@ -1,10 +1,38 @@
--- `set VARIABLE 0|1`: says what the player wants others to send. The variables are FICS's.
-use Rattle.std.specs.Prelude.{◌≡◌, ℕ, bytes_eq, if◌then◌else◌, Bool, true, false, List, [], ◌∷◌, Option, Some, None, Result, Ok, Err, codes, refl}
+-- `set VARIABLE VALUE`: says what the player wants others to send. The variables are FICS's.
+use Rattle.std.specs.Prelude.{◌≡◌, ℕ, bytes_eq, find, if◌then◌else◌, Bool, true, false, List, [], ◌∷◌, Option, Some, None, Result, Ok, Err, codes, refl}
 use Rattle.fics_words.specs.declared.refusal.Refusal.{Refusal}
 use Rattle.fics_words.specs.declared.refusal.Refusal.TheVariants.{BadArguments}
 use Rattle.command_words.specs.declared.command.Command.{Command}
-use Rattle.command_words.specs.declared.command.Command.TheVariants.{SetOpen, SetShout, SetSeek}
+use Rattle.command_words.specs.declared.command.Command.TheVariants.{Set}
+use Rattle.command_words.specs.declared.variables.Values.{Values}
+use Rattle.command_words.specs.declared.variables.Values.TheVariants.{OnOff}
+use Rattle.command_words.specs.declared.variables.Variable.TheVariants.{Open, Shout, Seek}
+use Rattle.command_words.specs.declared.variables.VariableRow.{VariableRow}
 use Rattle.command_words.specs.Blanks.{Words, words_of}
+use Rattle.command_words.specs.Naming.{is_name}
+use Rattle.command_words.specs.Shapes.{read_as}
+use Rattle.command_words.specs.Words.{in_nine}
+
+-- a variable of this name, which takes this
+abbrev pub variable : List ℕ → Values → VariableRow
+variable name values = record { 0 = in_nine name; 1 = values }
+
+-- the variables
+abbrev pub variables : List VariableRow
+variables =
+    variable (codes "open") (OnOff Open)
+    ∷ variable (codes "shout") (OnOff Shout)
+    ∷ variable (codes "seek") (OnOff Seek)
+    ∷ []
+
+-- the variable has this name
+abbrev pub is_variable : List ℕ → VariableRow → Bool
+is_variable name row = is_name name row.0
+
+-- what the variable of a row takes
+abbrev pub values_in_row : Option VariableRow → Option Values
+values_in_row None = None
+values_in_row (Some row) = Some row.1
 
 -- 0 is off and 1 is on
 abbrev pub on_or_off : List ℕ → Option Bool
@@ -13,27 +41,24 @@ on_or_off value =
     else if bytes_eq value (codes "1") then Some true
     else None
 
-abbrev pub set_to : List ℕ → Option Bool → Result Command Refusal
-set_to name None = Err BadArguments
-set_to name (Some on) =
-    if bytes_eq name (codes "open") then Ok (SetOpen on)
-    else if bytes_eq name (codes "shout") then Ok (SetShout on)
-    else if bytes_eq name (codes "seek") then Ok (SetSeek on)
-    else Err BadArguments
+-- what is set, where a variable takes the value
+abbrev pub set_to : Option Values → List ℕ → Result Command Refusal
+set_to None value = Err BadArguments
+set_to (Some (OnOff which)) value = read_as (Set which) (on_or_off value)
 
 -- two words, the variable's name and its value
 abbrev pub setting_of : Words → Result Command Refusal
-setting_of (name ∷ value ∷ []) = set_to name (on_or_off value)
+setting_of (name ∷ value ∷ []) = set_to (values_in_row (find (is_variable name) variables)) value
 setting_of words = Err BadArguments
 
 abbrev pub set_of : List ℕ → Result Command Refusal
 set_of rest = setting_of (words_of rest)
 
-example_off : set_of (codes "shout 0") ≡ Ok (SetShout false)
+example_off : set_of (codes "shout 0") ≡ Ok (Set Shout false)
 unfolding words_of
 example_off = refl
 
-example_on : set_of (codes "seek  1") ≡ Ok (SetSeek true)
+example_on : set_of (codes "seek  1") ≡ Ok (Set Seek true)
 unfolding words_of
 example_on = refl
 
@@ -44,6 +69,11 @@ example_two = refl
 example_three_words : set_of (codes "open 1 1") ≡ Err BadArguments
 unfolding words_of
 example_three_words = refl
+
+-- a name stands whole
+example_front : set_of (codes "ope 1") ≡ Err BadArguments
+unfolding words_of
+example_front = refl
 
 -- argument words count with case
 example_capital : set_of (codes "Open 1") ≡ Err BadArguments

@@ -2,6 +2,7 @@
 
 use crate::rows::{Bare, ByName, ByNumber, MaybeByName, OnChannel, WithText};
 use crate::style::Style;
+use crate::variables::Variable;
 use chess_model::{MoveWord, Terms};
 use fics_words::{Handle, Line};
 
@@ -34,12 +35,8 @@ pub enum Command {
     ObservePlayer(Handle),
     /// To offer a game of these terms to whoever takes it.
     Seek(Terms),
-    /// To be challenged, or not to be.
-    SetOpen(bool),
-    /// To hear of seeks, or not to.
-    SetSeek(bool),
-    /// To hear what others shout, or not to.
-    SetShout(bool),
+    /// To turn a variable on, or off.
+    Set(Variable, bool),
     /// To have boards printed so.
     Style(Style),
     /// To offer at the present place that so many half-moves are taken back, 1 to 1,200.

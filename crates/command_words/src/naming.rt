@@ -58,14 +58,7 @@ fn count_begun(word: &[u8]) -> usize
 fn is_called(row: &CommandRow, word: &[u8]) -> bool
     ensures { result ≡ is_called word.now row.now }
 {
-    is_name(row, word) || word == [row.1].as_slice()
-}
-
-/// Whether the word is the command's name.
-fn is_name(row: &CommandRow, word: &[u8]) -> bool
-    ensures { result ≡ is_name word.now row.now }
-{
-    begins(row, word) && row.0.iter().filter(|byte| **byte != b' ').count() == word.len()
+    is_name(&row.0, word) || word == [row.1].as_slice()
 }
 
 /// Whether the command's name begins with the word.
@@ -73,4 +66,11 @@ fn begins(row: &CommandRow, word: &[u8]) -> bool
     ensures { result ≡ begins word.now row.now }
 {
     row.0.starts_with(word)
+}
+
+/// Whether the word is the name, which has blanks behind it.
+pub(crate) fn is_name(name: &[u8; 9], word: &[u8]) -> bool
+    ensures { result ≡ is_name word.now name.now }
+{
+    name.starts_with(word) && name.iter().filter(|byte| **byte != b' ').count() == word.len()
 }

@@ -88,7 +88,7 @@ pub enum Takes {
     Look,
     /// The terms, usually 5 minutes and 0 seconds.
     Seek,
-    /// `open`, `shout` or `seek`, and then 0 or 1.
+    /// The name of a variable, and then a value that it takes.
     Setting,
     /// 1 or 12.
     Style,

@@ -2,7 +2,7 @@
 use Rattle.std.proofs.Common.{◌≡◌, ℕ, ◌≤◌, List, [], ◌∷◌, Ok, Err, Result, refl, sym, ap, subst, inl, inr, rules}
 use Rattle.std.specs.declared.option.Option.{Option}
 use Rattle.std.specs.declared.option.Option.TheVariants.{None, Some}
-use Rattle.std.specs.Prelude.{Bool, true, false, ◌==◌, if◌then◌else◌, ◌&&◌, bytes_eq, codes, length, map, nat_le, nat_lt}
+use Rattle.std.specs.Prelude.{Bool, true, false, ◌==◌, if◌then◌else◌, ◌&&◌, bytes_eq, codes, find, length, map, nat_le, nat_lt}
 use Rattle.std.specs.Char.{to_ascii_lowercase}
 use Rattle.chess_model.specs.declared.moves.MoveWord.{MoveWord}
 use Rattle.chess_model.specs.declared.man.Colour.{Colour}
@@ -34,8 +34,10 @@ use Rattle.command_words.specs.declared.rows.OnChannel.TheVariants.{Ask}
 use Rattle.command_words.specs.declared.rows.Takes.{Takes}
 use Rattle.command_words.specs.declared.rows.Takes.TheVariants as takes
 use Rattle.command_words.specs.declared.rows.WithText.TheVariants.{Register}
+use Rattle.command_words.specs.declared.variables.Values.{Values}
+use Rattle.command_words.specs.declared.variables.Values.TheVariants.{OnOff}
 use Rattle.command_words.specs.Numbers.{is_no_channel, number_within}
-use Rattle.command_words.specs.Set.{on_or_off, set_to, setting_of}
+use Rattle.command_words.specs.Set.{is_variable, on_or_off, set_to, setting_of, values_in_row, variables}
 use Rattle.command_words.specs.Tell.{tell_to, telling, telling_to}
 use Rattle.command_words.specs.Takeback.{takeback_from, takeback_of}
 use Rattle.command_words.specs.TermReading.{agreed_terms, terms_of}
@@ -167,14 +169,12 @@ tell_fits word text =
     either_fits (is_no_channel word) (Err BadChannel) (telling_to (number_within 255 word) word text) tt
     (telling_to_fits (number_within 255 word) word text)
 
-set_to_fits : (name : List ℕ) (on : Option Bool) → FitsAnswer (set_to name on)
-set_to_fits name None = tt
-set_to_fits name (Some on) =
-    either_fits (bytes_eq name (codes "open")) _ _ tt
-    (either_fits (bytes_eq name (codes "shout")) _ _ tt (either_fits (bytes_eq name (codes "seek")) _ _ tt tt))
+set_to_fits : (values : Option Values) (value : List ℕ) → FitsAnswer (set_to values value)
+set_to_fits None value = tt
+set_to_fits (Some (OnOff which)) value = read_as_fits (command.Set which) (on_or_off value) (λ on. tt)
 
 setting_fits : (words : Words) → FitsAnswer (setting_of words)
-setting_fits (name ∷ value ∷ []) = set_to_fits name (on_or_off value)
+setting_fits (name ∷ value ∷ []) = set_to_fits (values_in_row (find (is_variable name) variables)) value
 setting_fits _ = tt
 
 nothing_fits : (which : Bare) (rest : List ℕ) → FitsAnswer (nothing which rest)

@@ -1,11 +1,13 @@
 //! The ways in which a session carries out commands, and which one each command goes.
 ghost use Rattle.std.specs.Prelude.{◌≡◌};
-ghost use Rattle.session_core.specs.Ways.{way_of};
+ghost use Rattle.session_core.specs.Ways.{var_of, way_of};
 
 use crate::own_commands::OwnCommand;
 use crate::reaction::Reaction;
 use chess_model::MoveWord;
-use command_words::{Bare, ByName, ByNumber, Command, MaybeByName, OnChannel, WithText};
+use command_words::{
+    Bare, ByName, ByNumber, Command, MaybeByName, OnChannel, Variable, WithText,
+};
 use fics_words::{Handle, HandleKey, Line};
 use linked_desk::{DeskAct, Offer};
 use lobby_state::{LobbyAct, PairAct, Var, WhichList};
@@ -61,9 +63,10 @@ pub(crate) fn way_of(command: Command) -> Way
         Command::ObserveGame(number) => Way::Observe(LobbyAct::FindGame { number }),
         Command::ObservePlayer(name) => Way::Observe(LobbyAct::Find { name: name.key() }),
         Command::Seek(terms) => lobby(LobbyAct::Post { terms }),
-        Command::SetOpen(on) => set(Var::Open, on),
-        Command::SetSeek(on) => set(Var::Seek, on),
-        Command::SetShout(on) => set(Var::Shout, on),
+        Command::Set(variable, on) => lobby(LobbyAct::Var {
+            which: var_of(variable),
+            on,
+        }),
         Command::Style(style) => Way::Own(OwnCommand::Style(style)),
         Command::Takeback(number) => offering(Offer::Takeback(number)),
         Command::Tell(to, text) => lobby(LobbyAct::Tell { to: to.key(), text }),
@@ -185,11 +188,15 @@ fn on_channel(which: OnChannel, channel: u8) -> Way
     }
 }
 
-/// The setting of a variable.
-fn set(which: Var, on: bool) -> Way
-    ensures { result ≡ Way.Server (Act.Lobby (LobbyAct.Var which on)) }
+/// The variable as the lobby keeps it.
+fn var_of(variable: Variable) -> Var
+    ensures { result ≡ var_of variable }
 {
-    lobby(LobbyAct::Var { which, on })
+    match variable {
+        Variable::Open => Var::Open,
+        Variable::Shout => Var::Shout,
+        Variable::Seek => Var::Seek,
+    }
 }
 
 /// The change of a list.

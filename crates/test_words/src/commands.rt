@@ -3,7 +3,8 @@
 use crate::{lists, offers, resuming, simuls, watching};
 use chess_model::{Colour, Terms, variant_word};
 use command_words::{
-    Aliases, Bare, ByName, ByNumber, Command, MaybeByName, OnChannel, Style, WithText, read_command,
+    Aliases, Bare, ByName, ByNumber, Command, MaybeByName, OnChannel, Style, Variable, WithText,
+    read_command,
 };
 use fics_words::{Fail as Failed, Handle, Line, write_number};
 use memory::NoMemory;
@@ -182,6 +183,8 @@ set open on|refused 28
 set Open 1|refused 28
 set tell 1|refused 28
 set 1 open|refused 28
+set ope 1|refused 28
+set openness 1|refused 28
 set open 1 1|refused 28
 match ann|match ann 2 12 chess
 MATCH Ann|match Ann 2 12 chess
@@ -377,9 +380,7 @@ fn told(alloc: Global, command: &Command) -> Result<Vec<u8>, NoMemory> {
         Command::ObserveGame(number) => with_number(alloc, b"observe", *number),
         Command::ObservePlayer(name) => with_text(alloc, b"observe", name.letters()),
         Command::Seek(terms) => with_terms(of(alloc, b"seek")?, terms),
-        Command::SetOpen(on) => with_text(alloc, b"set open", digit(*on)),
-        Command::SetSeek(on) => with_text(alloc, b"set seek", digit(*on)),
-        Command::SetShout(on) => with_text(alloc, b"set shout", digit(*on)),
+        Command::Set(which, on) => with_text(alloc, set(*which), digit(*on)),
         Command::Style(Style::One) => of(alloc, b"style 1"),
         Command::Style(Style::Twelve) => of(alloc, b"style 12"),
         Command::Takeback(number) => with_number(alloc, b"takeback", *number),
@@ -459,6 +460,14 @@ fn on_channel(which: OnChannel) -> &'static [u8] {
         OnChannel::Ask => b"inchannel",
         OnChannel::Join => b"+channel",
         OnChannel::Leave => b"-channel",
+    }
+}
+
+fn set(which: Variable) -> &'static [u8] {
+    match which {
+        Variable::Open => b"set open",
+        Variable::Shout => b"set shout",
+        Variable::Seek => b"set seek",
     }
 }
 

@@ -1,13 +1,15 @@
 //! `set`: says what the player wants others to send.
 
-ghost use Rattle.std.specs.Prelude.{◌≡◌};
-ghost use Rattle.command_words.specs.Set.{on_or_off, set_of, set_to};
+ghost use Rattle.std.specs.Prelude.{◌≡◌, find};
+ghost use Rattle.command_words.specs.Set.{is_variable, on_or_off, set_of, set_to, values_in_row, variables};
 
 use crate::blanks::cut_word;
 use crate::command::Command;
+use crate::naming::is_name;
+use crate::variables::{VARIABLES, Values};
 use fics_words::Refusal;
 
-/// Reads the arguments, the name of a variable and then 0 or 1; refuses others with `BadArguments`.
+/// Reads the arguments, the name of a variable and then a value that it takes; refuses others with `BadArguments`.
 pub(crate) fn read(rest: &[u8]) -> Result<Command, Refusal>
     ensures { result ≡ set_of rest.now }
 {
@@ -18,28 +20,30 @@ pub(crate) fn read(rest: &[u8]) -> Result<Command, Refusal>
         return Err(Refusal::BadArguments);
     };
     match cut_word(end) {
-        None => set_to(name, is_on(value)),
+        None => set_to(values_of(name), value),
         Some(_) => Err(Refusal::BadArguments),
     }
 }
 
-/// The setting of the variable of that name.
-fn set_to(name: &[u8], on: Option<bool>) -> Result<Command, Refusal>
-    ensures { result ≡ set_to name.now on }
+/// What the variable of that name takes.
+fn values_of(name: &[u8]) -> Option<Values>
+    ensures { result ≡ values_in_row (find (is_variable name.now) variables) }
 {
-    let Some(on) = on else {
-        return Err(Refusal::BadArguments);
-    };
-    if name == b"open".as_slice() {
-        return Ok(Command::SetOpen(on));
+    let row = VARIABLES.iter().find(|row| is_name(&row.0, name))?;
+    Some(row.1)
+}
+
+/// The setting of a variable that takes this.
+fn set_to(values: Option<Values>, value: &[u8]) -> Result<Command, Refusal>
+    ensures { result ≡ set_to values value.now }
+{
+    match values {
+        Some(Values::OnOff(variable)) => match is_on(value) {
+            Some(on) => Ok(Command::Set(variable, on)),
+            None => Err(Refusal::BadArguments),
+        },
+        None => Err(Refusal::BadArguments),
     }
-    if name == b"shout".as_slice() {
-        return Ok(Command::SetShout(on));
-    }
-    if name == b"seek".as_slice() {
-        return Ok(Command::SetSeek(on));
-    }
-    Err(Refusal::BadArguments)
 }
 
 /// Whether the value is on, where it is 0 or 1.
