@@ -7,7 +7,7 @@ from .sources import text, tracked
 REFUSALS = "crates/fics_words/src/refusal.rt"
 CLIENTS = "docs/CLIENTS.md"
 # those of exams and of round robins, which no client of the server is told, stand on pages of their own
-FIRST_OF_COMMANDS = 57
+OF_COMMANDS = range(57, 66)
 VARIANT = re.compile(r"^    ([A-Z]\w+)(?: = 1)?,$", re.MULTILINE)
 ROW = re.compile(r"^\| (\d+) \| (\w+) \|", re.MULTILINE)
 NAMED = re.compile(r"\b(\d{1,2}) ([A-Z][a-z]+[A-Za-z]*)\b")
@@ -33,7 +33,7 @@ def faults():
     listed = {name: int(number) for number, name in ROW.findall(text(CLIENTS))}
     told = {name for page in tracked() if page.suffix == ".md" for _, name in NAMED.findall(text(page))}
     for name, number in known.items():
-        if listed.get(name) != number and (number < FIRST_OF_COMMANDS or name not in told):
+        if listed.get(name) != number and (number not in OF_COMMANDS or name not in told):
             yield f"{CLIENTS} has no row of the refusal {number} {name}"
     for page, bounds in BOUNDS.items():
         for form, bound in bounds:
