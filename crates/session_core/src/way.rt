@@ -5,9 +5,7 @@ ghost use Rattle.session_core.specs.Ways.{var_of, way_of};
 use crate::own_commands::OwnCommand;
 use crate::reaction::Reaction;
 use chess_model::MoveWord;
-use command_words::{
-    Bare, ByName, ByNumber, Command, MaybeByName, OnChannel, Variable, WithText,
-};
+use command_words::{Bare, ByName, ByNumber, Command, MaybeByName, OnChannel, Variable, WithText};
 use fics_words::{Handle, HandleKey, Line};
 use linked_desk::{DeskAct, Offer};
 use lobby_state::{LobbyAct, PairAct, Var, WhichList};
