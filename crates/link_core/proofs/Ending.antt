@@ -12,7 +12,7 @@ use Rattle.session_asks.specs.declared.standing.Standing.{Standing}
 use Rattle.session_asks.specs.declared.standing.Standing.TheVariants as standing
 use Rattle.session_core.specs.Course.{Course, Done, Asks, Writes as Puts, Follows, Passes}
 use Rattle.session_core.specs.Going.{Left, LeftInPart, departing}
-use Rattle.session_core.specs.Memory.{MemoryState, has_entered, is_gone, is_in, is_out}
+use Rattle.session_core.specs.Memory.{MemoryState, has_entered, is_gone, standing_in, is_out}
 use Rattle.session_core.specs.Session.{leaving_course}
 use Rattle.session_core.proofs.Going.{same_mark, same_number}
 use Rattle.one_server.proofs.Made.{made_then}
@@ -43,7 +43,7 @@ passes_follows mark (Asks act rest) session moment (e ∷ es) text memory f =
     )
 
 -- who has left doesn't leave again
-out_not_in : (s : Standing) → is_out s ≡ true → is_in s ≡ false
+out_not_in : (s : Standing) → is_out s ≡ true → standing_in s ≡ false
 out_not_in standing.Login h = absurd (let bad : false ≡ true = h in cc)
 out_not_in (standing.Password name) h = absurd (let bad : false ≡ true = h in cc)
 out_not_in (standing.In name) h = absurd (let bad : false ≡ true = h in cc)

@@ -22,7 +22,7 @@ use Rattle.lobby_state.specs.Keeps.{KeepsWhere, TellsDesks}
 use Rattle.lobby_state.specs.Lobby.{LobbyState, is_named, is_session, member_of, named, partner_in, places_of}
 use Rattle.lobby_state.specs.NameList.{listing, with_names_on}
 use Rattle.lobby_state.specs.Partner.{is_asked_by}
-use Rattle.lobby_state.specs.Places.{switching, turning}
+use Rattle.lobby_state.specs.Places.{switching, turning_place}
 use Rattle.lobby_state.specs.Ptell.{confided}
 use Rattle.lobby_state.specs.Shout.{hears_shouts, shouted}
 use Rattle.lobby_state.specs.Tell.{has_told}
@@ -127,9 +127,10 @@ keeps_act lobby by (Ptell text) =
     (λ partner _. all_told (is_session partner) _)))
     (λ _. tt)
 keeps_act lobby by SimOpen = keeps (placed_follows lobby by (switching (places_of lobby by)).after refl) (λ _. tt)
-keeps_act lobby by SimNext = keeps (placed_follows lobby by (turning Next (places_of lobby by)).after refl) (λ _. tt)
+keeps_act lobby by SimNext =
+    keeps (placed_follows lobby by (turning_place Next (places_of lobby by)).after refl) (λ _. tt)
 keeps_act lobby by SimPrev =
-    keeps (placed_follows lobby by (turning Previous (places_of lobby by)).after refl) (λ _. tt)
+    keeps (placed_follows lobby by (turning_place Previous (places_of lobby by)).after refl) (λ _. tt)
 keeps_act lobby by (GoBoard name) =
     let places = places_of lobby by in
     keeps (placed_follows lobby by _ (rows_gone (first_against lobby (named lobby name) places.rows) places)) (λ _. tt)

@@ -22,7 +22,7 @@ use Rattle.simul_control.specs.declared.place.Place.{Place}
 use Rattle.lobby_state.specs.Keeps.{KeepsPlan}
 use Rattle.lobby_state.specs.Desks.{IsDesk}
 use Rattle.lobby_state.specs.Lobby.{LobbyState}
-use Rattle.lobby_state.specs.Places.{PlaceList, is_full}
+use Rattle.lobby_state.specs.Places.{PlaceList, are_places_full}
 use Rattle.lobby_state.specs.Pairing.{needs_partners}
 use Rattle.lobby_state.specs.Planned.{CanStart, FitsVariant}
 use Rattle.lobby_state.specs.Start.{in_seat, is_seek_of_seated, is_settled, lobby_seated}
@@ -86,7 +86,7 @@ HasSeats-in_seat : (games : List (Option ListedGame)) (desk serial : ℕ) (terms
 HasSeats-in_seat games desk serial terms seats member None is_desk in_use e h = h
 HasSeats-in_seat games desk serial terms seats member (Some number) is_desk in_use e h =
     let sits = Sits-seat_number member.session seats number e in
-    rows_by_test (IsSeatOf games member.session) (is_full member.places) member.places (record {
+    rows_by_test (IsSeatOf games member.session) (are_places_full member.places) member.places (record {
       desk = desk;
       serial = serial;
       seat = number;

@@ -7,7 +7,7 @@ use Rattle.chess_model.specs.declared.variant.Variant.TheVariants.{Bughouse}
 use Rattle.lobby_state.specs.declared.member.Member.{Member}
 use Rattle.lobby_state.specs.Holds.{holds}
 use Rattle.lobby_state.specs.Lobby.{LobbyState, gives, is_busy, is_session, member_of, partner_in}
-use Rattle.lobby_state.specs.Places.{is_full}
+use Rattle.lobby_state.specs.Places.{are_places_full}
 
 -- bughouse is played by two pairs of partners, at two boards
 abbrev pub needs_partners : Variant → Bool
@@ -59,7 +59,7 @@ are_playing lobby pairing = list_any (holds is_busy) (would_sit lobby pairing)
 
 -- the member has 32 places, so that it can't be seated at one more board
 abbrev pub is_crowded : Member → Bool
-is_crowded member = is_full member.places
+is_crowded member = are_places_full member.places
 
 -- one of those who would be seated is crowded
 abbrev pub are_crowded : LobbyState → Pairing → Bool

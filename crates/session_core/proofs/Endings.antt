@@ -27,7 +27,7 @@ use Rattle.session_asks.specs.declared.visit.Visit.{Visit}
 use Rattle.session_core.specs.Course.{Course, Done, Asks, Writes, Follows}
 use Rattle.session_core.specs.Inputs.{asks_to_quit, input_course, is_ack, is_greeting, line_course, line_quits, past_line, quiet_course, refusing, stamp_on, text_course, text_quits}
 use Rattle.session_core.specs.Laws.{EndsWithRound, IsTelling, Telling, entries_of, is_silent}
-use Rattle.session_core.specs.Memory.{MemoryState, has_entered, is_gone, is_in, memory_told}
+use Rattle.session_core.specs.Memory.{MemoryState, has_entered, is_gone, standing_in, memory_told}
 use Rattle.session_core.specs.Session.{at_game, behind_visit, clear_at, given_up, round, says_over, visits}
 use Rattle.session_core.specs.Visits.{visits_in}
 use Rattle.session_core.proofs.Rounds.{Same, Seen, ToRound, at_round, by_asked, written}
@@ -152,7 +152,7 @@ module _ (session moment : ℕ) (after : MemoryState) where
 -- the inputs that end so
 text_to_round : (text : List ℕ) (stamp : Option ℕ) (at : Standing) (before memory : MemoryState)
     → memory.places ≡ before.places → Same before memory
-    → is_in at ≡ true → text_quits text at memory.aliases ≡ false
+    → standing_in at ≡ true → text_quits text at memory.aliases ≡ false
     → ToRound before before.places [] (text_course text stamp at memory)
 text_to_round text stamp standing.Login before memory known s here goes_on = let bad : false ≡ true = here in cc
 text_to_round text stamp (standing.Password name) before memory known s here goes_on =
@@ -162,7 +162,7 @@ text_to_round text stamp (standing.In name) before memory known s here goes_on =
 text_to_round text stamp standing.Gone before memory known s here goes_on = let bad : false ≡ true = here in cc
 
 refusing_to_round : (cause : Refusal) (at : Standing) (before memory : MemoryState) → Same before memory
-    → is_in at ≡ true
+    → standing_in at ≡ true
     → ToRound before before.places [] (refusing cause at memory)
 refusing_to_round cause standing.Login before memory s here = let bad : false ≡ true = here in cc
 refusing_to_round cause (standing.Password name) before memory s here = let bad : false ≡ true = here in cc
@@ -170,7 +170,7 @@ refusing_to_round cause (standing.In name) before memory s here = written before
 refusing_to_round cause standing.Gone before memory s here = let bad : false ≡ true = here in cc
 
 line_to_round : (line : Incoming) (before memory : MemoryState) → memory.places ≡ before.places → Same before memory
-    → is_in memory.standing ≡ true → is_ack line ≡ false
+    → standing_in memory.standing ≡ true → is_ack line ≡ false
     → line_quits line memory ≡ false → ToRound before before.places [] (line_course line memory)
 line_to_round (incoming.Plain text) before memory known s here loud goes_on =
     text_to_round text None memory.standing before memory known s here goes_on
@@ -190,7 +190,7 @@ quits_past (incoming.Ack stamp) memory = refl
 quits_past incoming.TooLong memory = refl
 quits_past incoming.BadByte memory = refl
 
-quiet_to_round : (at : Standing) (before : MemoryState) → is_in at ≡ true
+quiet_to_round : (at : Standing) (before : MemoryState) → standing_in at ≡ true
     → ToRound before before.places [] (quiet_course at before)
 quiet_to_round standing.Login before here = let bad : false ≡ true = here in cc
 quiet_to_round (standing.Password name) before here = let bad : false ≡ true = here in cc

@@ -15,7 +15,7 @@ use Rattle.histories.specs.declared.entry.Entry.{Entry}
 use Rattle.histories.specs.History.{entry}
 use Rattle.linked_desk.specs.declared.acts.DeskAct.TheVariants as desk_act
 use Rattle.linked_desk.specs.declared.acts.DeskReply.TheVariants as desk_reply
-use Rattle.lobby_state.specs.Places.{PlaceList, is_elsewhere, is_full as holds_most}
+use Rattle.lobby_state.specs.Places.{PlaceList, is_elsewhere, are_places_full as holds_most}
 use Rattle.lobby_state.proofs.Lists.{All-filter_passing, Contains-filter}
 use Rattle.memory.specs.declared.NoMemory.{NoMemory}
 use Rattle.one_server.specs.declared.act.Act.{Act}

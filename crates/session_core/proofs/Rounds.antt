@@ -18,7 +18,7 @@ use Rattle.linked_desk.specs.declared.acts.DeskAct.{DeskAct}
 use Rattle.linked_desk.specs.declared.acts.DeskAct.TheVariants as desk_act
 use Rattle.linked_desk.specs.declared.acts.DeskReply.TheVariants as desk_reply
 use Rattle.lobby_state.specs.FindGame.{desk_of_game}
-use Rattle.lobby_state.specs.Places.{PlaceList, is_elsewhere, is_full as holds_most}
+use Rattle.lobby_state.specs.Places.{PlaceList, is_elsewhere, are_places_full as holds_most}
 use Rattle.lobby_state.specs.declared.acts.LobbyAct.{LobbyAct}
 use Rattle.lobby_state.specs.declared.acts.LobbyAct.TheVariants as lobby_act
 use Rattle.lobby_state.specs.declared.acts.LobbyReply.TheVariants as lobby_reply

@@ -30,7 +30,7 @@ use Rattle.session_core.specs.Course.{Course, Done, Asks, Writes, Follows, next_
 use Rattle.session_core.specs.Inputs.{ack_course, asked_course, input_course, is_greeting, line_course, past_line, quiet_course, refusing, stamp_on, text_course}
 use Rattle.session_core.specs.Laws.{IsOfLogin, TurnsBehind, asks_to_enter, first_act, is_played_move, places_after, places_by}
 use Rattle.session_core.specs.Login.{enter_course, entering_named, is_guest, name_course, proving}
-use Rattle.session_core.specs.Memory.{MemoryState, has_entered, is_in, present_in, memory_told}
+use Rattle.session_core.specs.Memory.{MemoryState, has_entered, standing_in, present_in, memory_told}
 use Rattle.session_core.specs.Session.{acked_at, behind_visit, given_up, is_accepted, leave_games, leaving_course, round, says_over, visits}
 use Rattle.session_core.specs.Visits.{visits_in}
 use Rattle.session_core.proofs.Rounds.{Same, ToRound, at_round, by_asked, written}
@@ -168,7 +168,7 @@ unfolding OneAct
 one_proving name [] memory = tt
 one_proving name (b ∷ text) memory = one_entering (Some name) (Some (sha256 (b ∷ text))) memory
 
-one_text : (text : List ℕ) (stamp : Option ℕ) (at : Standing) (memory : MemoryState) → is_in at ≡ false
+one_text : (text : List ℕ) (stamp : Option ℕ) (at : Standing) (memory : MemoryState) → standing_in at ≡ false
     → OneAct (text_course text stamp at memory)
 unfolding OneAct
 one_text text stamp standing.Login memory out = one_naming text memory
@@ -176,7 +176,7 @@ one_text text stamp (standing.Password name) memory out = one_proving name text 
 one_text text stamp (standing.In name) memory out = let bad : true ≡ false = out in cc
 one_text text stamp standing.Gone memory out = tt
 
-one_refusing : (cause : Refusal) (at : Standing) (memory : MemoryState) → is_in at ≡ false
+one_refusing : (cause : Refusal) (at : Standing) (memory : MemoryState) → standing_in at ≡ false
     → OneAct (refusing cause at memory)
 unfolding OneAct
 one_refusing cause standing.Login memory out = tt
@@ -184,12 +184,14 @@ one_refusing cause (standing.Password name) memory out = tt
 one_refusing cause (standing.In name) memory out = let bad : true ≡ false = out in cc
 one_refusing cause standing.Gone memory out = tt
 
-one_ack : (stamp : ℕ) (at : Standing) (memory : MemoryState) → is_in at ≡ false → OneAct (ack_course stamp at memory)
+one_ack : (stamp : ℕ) (at : Standing) (memory : MemoryState) → standing_in at ≡ false
+    → OneAct (ack_course stamp at memory)
 unfolding OneAct
 one_ack stamp (standing.In name) memory out = let bad : true ≡ false = out in cc
 one_ack stamp _ memory out = tt
 
-one_line : (line : Incoming) (memory : MemoryState) → is_in memory.standing ≡ false → OneAct (line_course line memory)
+one_line : (line : Incoming) (memory : MemoryState) → standing_in memory.standing ≡ false
+    → OneAct (line_course line memory)
 one_line (incoming.Plain text) memory out = one_text text None memory.standing memory out
 one_line (incoming.Stamped text stamp) memory out =
     one_text text (stamp_on memory.link stamp) memory.standing memory out
@@ -197,7 +199,7 @@ one_line (incoming.Ack stamp) memory out = one_ack stamp memory.standing memory 
 one_line incoming.TooLong memory out = one_refusing refusal.TooLong memory.standing memory out
 one_line incoming.BadByte memory out = one_refusing refusal.BadByte memory.standing memory out
 
-one_quiet : (at : Standing) (memory : MemoryState) → is_in at ≡ false → OneAct (quiet_course at memory)
+one_quiet : (at : Standing) (memory : MemoryState) → standing_in at ≡ false → OneAct (quiet_course at memory)
 unfolding OneAct
 one_quiet (standing.In name) memory out = let bad : true ≡ false = out in cc
 one_quiet _ memory out = tt
