@@ -1,13 +1,12 @@
 """Serves the page, and a link for each tab, until the chess server has ended."""
 
 import asyncio
-import os
 import signal
-import socket
 from asyncio import StreamReader, StreamWriter
 
 from aiohttp import web
 from aiohttp.typedefs import Handler
+from ficsd_companions.limits import door
 from ficsd_companions.limits.refused import Refused, Why
 
 from .archived import Archived
@@ -20,8 +19,6 @@ from .server_end import PIECE
 from .settings import Settings
 from .tabs import Tabs
 
-BACKLOG = 256  # connections that wait to be taken in
-A_TURN = 4  # of them that are taken in one turn of the loop
 LAST_WORDS_SECONDS = 10
 KEEP_ALIVE_SECONDS = 15
 BODY_SECONDS = 1  # for who sends a body to read that it has none to send
@@ -31,13 +28,6 @@ def closing(refusal: web.HTTPException) -> web.HTTPException:
     """A refusal behind which the connection is closed."""
     refusal.force_close()
     return refusal
-
-
-def let_wait(door: asyncio.Server, count: int) -> None:
-    """Lets so many connections wait at a door; asyncio takes as many in one turn of its loop as it was told could."""
-    for it in door.sockets:
-        with socket.socket(fileno=os.dup(it.fileno())) as same:
-            same.listen(count)
 
 
 class GoBetween:
@@ -75,11 +65,10 @@ class GoBetween:
         ]
         tasks = [asyncio.create_task(it) for it in work]
         try:
-            door = await loop.create_server(lambda: Gate(self.porter, serving), address, port, backlog=A_TURN)
-            let_wait(door, BACKLOG)
+            opening = await door.opened(lambda: Gate(self.porter, serving), address, port)
             print("ready", flush=True)
             has_ended = await self.over
-            door.close()
+            opening.close()
             if not has_ended:
                 await self.tabs.send_away()
             await self.tabs.have_left(LAST_WORDS_SECONDS)
