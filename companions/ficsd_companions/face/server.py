@@ -6,7 +6,7 @@ from contextlib import suppress
 from ficslink.errors import TooLong
 
 from ficsd_companions.cli.words import Address as Place
-from ficsd_companions.limits import descriptors
+from ficsd_companions.limits import descriptors, door
 from ficsd_companions.limits.addresses import Address, Addresses
 from ficsd_companions.limits.pieces import Pieces
 from ficsd_companions.limits.refused import Refused, Why
@@ -18,7 +18,6 @@ from .server_end import PIECE, ServerEnd
 from .session import Session
 from .shared import Shared
 
-BACKLOG = 256
 LINKS = 256
 SPARE = 48  # files for the program itself, and for links that are being closed
 LOGIN_SECONDS = 120
@@ -44,8 +43,7 @@ class GoBetween:
         """Serves clients until the server has ended. An `OSError` comes where either isn't to be had."""
         descriptors.most(2 * LINKS + SPARE)
         reader, writer = await asyncio.open_connection(*self.place)
-        loop = asyncio.get_running_loop()
-        door = await loop.create_server(self.newcomer, address, port, backlog=BACKLOG)
+        opening = await door.opened(self.newcomer, address, port)
         print("ready", flush=True)
         telling = asyncio.create_task(self.refused.tell())
         with suppress(OSError):
@@ -53,7 +51,7 @@ class GoBetween:
                 pass
         telling.cancel()
         writer.close()
-        door.close()
+        opening.close()
         if self.links:
             await asyncio.wait(set(self.links), timeout=ENDING_SECONDS)
 

@@ -6,6 +6,7 @@ which there is no room, before a byte of it is read."""
 
 import asyncio
 import socket
+from collections.abc import Callable
 from typing import Protocol
 
 from aiohttp import WSCloseCode, web
@@ -41,19 +42,20 @@ class Doorkeeper(Protocol):
 
 
 class Gate(asyncio.BufferedProtocol):
-    """One connection. `porter` says whether it may come; `handler` is the protocol that it is for."""
+    """One connection. `porter` says whether it may come; `serving` makes the protocol that it is for, its `handler`."""
 
     room = memoryview(bytearray(PIECE))  # one for all, since what is read is taken at once
 
     transport: asyncio.Transport
+    handler: asyncio.Protocol
     socket: socket.socket
     peer: str  # its address
     visitor: str  # the address of who asks by it, behind a proxy
     pace: Pace  # of a tab
     flooded: asyncio.Future[None] | None = None  # which ends where a tab has sent too much
 
-    def __init__(self, porter: Doorkeeper, handler: asyncio.Protocol) -> None:
-        self.porter, self.handler = porter, handler
+    def __init__(self, porter: Doorkeeper, serving: Callable[[], asyncio.Protocol]) -> None:
+        self.porter, self.serving = porter, serving
         self.timer: asyncio.TimerHandle | None = None
         self.is_in = self.is_lost = self.is_tab = self.is_at_work = self.is_held = self.goes_on = False
         self.is_last = False  # no further request is taken
@@ -80,6 +82,7 @@ class Gate(asyncio.BufferedProtocol):
         self.socket.setsockopt(socket.SOL_SOCKET, socket.SO_SNDBUF, UNSENT)
         transport.set_write_buffer_limits(high=UNSENT, low=UNSENT_AGAIN)
         self.expect(ASKING_SECONDS)
+        self.handler = self.serving()
         self.handler.connection_made(transport)
 
     def get_buffer(self, sizehint: int) -> memoryview:

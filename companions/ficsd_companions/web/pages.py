@@ -19,7 +19,6 @@ HEADERS = {
     "X-Frame-Options": "DENY",
 }
 INDEX = "index.html"
-A_TURN = 4  # files that are answered in one turn of the loop
 
 
 async def add_headers(_request: web.BaseRequest, response: web.StreamResponse) -> None:
@@ -45,11 +44,12 @@ class Pages:
         self.folder = folder.resolve()
         self.files: dict[Path, tuple[State, File]] = {}  # by their paths
         self.packed = Packed(self.folder)
-        self.turns = asyncio.Semaphore(A_TURN)
+        self.turn = asyncio.Lock()
 
     async def serve(self, request: web.Request) -> web.Response:
-        """A file; 404 where there is none of that name and of a known type within the folder."""
-        async with self.turns:
+        """A file; 404 where there is none of that name and of a known type within the folder. In one turn of the loop
+        one is answered, so that no line waits behind many."""
+        async with self.turn:
             await asyncio.sleep(0)
         return self.answer(request, request.match_info["name"] or INDEX)
 

@@ -6,6 +6,7 @@ from asyncio import StreamReader, StreamWriter
 
 from aiohttp import web
 from aiohttp.typedefs import Handler
+from ficsd_companions.limits import door
 from ficsd_companions.limits.refused import Refused, Why
 
 from .archived import Archived
@@ -18,7 +19,6 @@ from .server_end import PIECE
 from .settings import Settings
 from .tabs import Tabs
 
-BACKLOG = 256
 LAST_WORDS_SECONDS = 10
 KEEP_ALIVE_SECONDS = 15
 BODY_SECONDS = 1  # for who sends a body to read that it has none to send
@@ -65,10 +65,10 @@ class GoBetween:
         ]
         tasks = [asyncio.create_task(it) for it in work]
         try:
-            door = await loop.create_server(lambda: Gate(self.porter, serving()), address, port, backlog=BACKLOG)
+            opening = await door.opened(lambda: Gate(self.porter, serving), address, port)
             print("ready", flush=True)
             has_ended = await self.over
-            door.close()
+            opening.close()
             if not has_ended:
                 await self.tabs.send_away()
             await self.tabs.have_left(LAST_WORDS_SECONDS)

@@ -173,10 +173,11 @@ export class RunningGames {
     }
   }
 
-  /** Looks on at the games whose boards are seen. */
+  /** Looks on at the games whose boards are seen. Whether the lobby is seen is asked last, since the browser then lays
+   * the page out at once, and a half-move would wait for that. */
   want() {
-    const isSeen = document.visibilityState === "visible" && this.session.isIn && isLobbySeen();
-    const seen = this.rows.filter((it) => this.inSight.has(this.cardOf(it).row));
-    this.smallGames.want(isSeen ? seen.map((it) => it.game) : []);
+    const inSight = this.rows.filter((it) => this.inSight.has(this.cardOf(it).row)).map((it) => it.game);
+    const areSeen = inSight.length > 0 && document.visibilityState === "visible" && this.session.isIn && isLobbySeen();
+    this.smallGames.want(areSeen ? inSight : []);
   }
 }

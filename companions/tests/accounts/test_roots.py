@@ -57,10 +57,13 @@ def test_a_link_leads_root_nowhere(owned: Store) -> None:
     owner = ["setpriv", "--reuid", str(OWNER), "--regid", str(OWNER), "--clear-groups"]
     with subprocess.Popen([*owner, sys.executable, "-c", PUTS_LINK, str(place), str(roots)]) as other:
         hold = "strace", "-f", "-qqq", "-o", "/dev/null", "-e", f"trace={CALLS}"
-        done = owned.tool(
-            "password", "ann", given="a\na\n", ahead=[*hold, "-e", f"inject={CALLS}:delay_enter={HELD}:when=1"]
-        )
-        other.wait(10)
+        try:
+            done = owned.tool(
+                "password", "ann", given="a\na\n", ahead=[*hold, "-e", f"inject={CALLS}:delay_enter={HELD}:when=1"]
+            )
+            other.wait(10)
+        finally:
+            other.kill()
     found = roots.stat()
     assert (found.st_uid, stat.S_IMODE(found.st_mode), roots.read_bytes()) == (0, 0o600, b"")
     assert done.returncode == 1, done.stderr

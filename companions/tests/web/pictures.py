@@ -21,8 +21,8 @@ DOCUMENTED = {"web": (1180, 720), "lobby": (1180, 900), "archive": (1180, 720)}
 
 
 def take(folder: Path, window: Window, name: str, sizes: tuple[Size, ...] = WIDTHS) -> None:
-    """Pictures of those sizes, with the mouse on nothing. For eyes alone are the dark ones, and the wait until no notice
-    is on them."""
+    """Pictures of those sizes, with the mouse on nothing. For eyes alone are the dark ones, and the wait until no
+    notice is on them."""
     window.leave_alone()
     if paths.pictures:
         window.until(lambda: not window.is_seen("#notice"), "without a notice")

@@ -39,7 +39,7 @@ class Writer(asyncio.Protocol):
 async def test_nobody_waits_with_little_unsent() -> None:
     loop = asyncio.get_running_loop()
     writer = Writer()
-    it = Gate(Porter(), writer)
+    it = Gate(Porter(), lambda: writer)
     door = await loop.create_server(lambda: it, "127.0.0.1", 0)
     with socket.socket() as reader:
         reader.setsockopt(socket.SOL_SOCKET, socket.SO_RCVBUF, PIECE)
