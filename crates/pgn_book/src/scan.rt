@@ -66,7 +66,7 @@ impl Scan {
     pub(crate) fn read(&mut self, alloc: Global, bytes: &[u8]) -> Result<Found, NoMemory>
         ensures goes_on { IfOk result (λ found.
             ReaderGoesOn (reader_facing self.old bytes.now) found.game
-                (reader_facing self.new (drop found.read bytes.now))) }
+            (reader_facing self.new (drop found.read bytes.now))) }
         ensures fewer { IfOk result (λ found. LeavesFewer (reader_facing self.old bytes.now) (step_of found.game)
             (reader_facing self.new (drop found.read bytes.now))) }
         ensures within { IfOk result (λ found. found.read ≤ length bytes.now) }
