@@ -1,12 +1,12 @@
 -- Numbers cut to a window, and the greater of two numbers.
-use Rattle.std.proofs.Common.{arith, ◌≡◌, ℤ, pos, neg_ℤ, ◌-ℤ◌, ◌<ℤ◌, ◌≤ℤ◌, true, false, FitsSigned, w32, to_z, of_z}
+use Rattle.std.proofs.Common.{arith, ◌≡◌, ℤ, pos, neg_ℤ, ◌-ℤ◌, ◌<ℤ◌, ◌≤ℤ◌, true, false, ◌∙◌, FitsSigned, w32, to_z, of_z}
 use Rattle.std.specs.Int.{int_max, int_min}
 use Rattle.std.specs.Prelude.{int_lt}
 use Rattle.std.proofs.lemmas.Int.{ints, clamps}
 use Rattle.house_bot.specs.Searching.{cut, IsWindow}
 
 -- what the other player's search gives, seen from this side
-pub cut-neg : (low high x r : ℤ) → low <ℤ high → r ≡ cut (neg_ℤ high) (neg_ℤ low) x → neg_ℤ r ≡ cut low high (neg_ℤ x)
+cut-neg : (low high x r : ℤ) → low <ℤ high → r ≡ cut (neg_ℤ high) (neg_ℤ low) x → neg_ℤ r ≡ cut low high (neg_ℤ x)
 cut-neg low high x r h e = omega (arith, ints, clamps, e)
 
 pub int_max-swap : (a b c : ℤ) → int_max (int_max a b) c ≡ int_max (int_max a c) b
@@ -47,20 +47,34 @@ pub record IsBound (z : ℤ) : Type 0 where
   pub least : neg_ℤ (pos 200000) ≤ℤ z
   pub most : z ≤ℤ pos 200000
 
-pub IsBound-low : (low high : ℤ) → IsWindow low high → IsBound low
+IsBound-low : (low high : ℤ) → IsWindow low high → IsBound low
 IsBound-low low high h = record { least = h.from; most = omega (arith, ints, h.order, h.to) }
 
-pub IsBound-high : (low high : ℤ) → IsWindow low high → IsBound high
+IsBound-high : (low high : ℤ) → IsWindow low high → IsBound high
 IsBound-high low high h = record { least = omega (arith, ints, h.order, h.from); most = h.to }
 
-pub IsBound-cut : (low high v x : ℤ) → IsWindow low high → x ≡ cut (neg_ℤ high) (neg_ℤ low) v → IsBound x
-IsBound-cut low high v x h e = record {
-  least = omega (arith, ints, clamps, e, h.from, h.order, h.to);
-  most = omega (arith, ints, clamps, e, h.from, h.order, h.to);
-}
+abbrev negated_bits : ℤ → ℤ
+negated_bits z = to_z w32 (of_z w32 (pos 0 -ℤ to_z w32 (of_z w32 z)))
 
-pub negated : (z : ℤ) → IsBound z → to_z w32 (of_z w32 (pos 0 -ℤ to_z w32 (of_z w32 z))) ≡ neg_ℤ z
+negated : (z : ℤ) → IsBound z → negated_bits z ≡ neg_ℤ z
 negated z h = omega (arith, ints, h.least, h.most)
 
 pub negated_fits : (z : ℤ) → IsBound z → FitsSigned w32 (pos 0 -ℤ to_z w32 (of_z w32 z))
 negated_fits z h = omega (arith, ints, h.least, h.most)
+
+-- what the other player's search gives, asked for with the window negated
+module _ (low high v x : ℤ) (window : IsWindow low high)
+    (gives : x ≡ cut (negated_bits high) (negated_bits low) v) where
+  from_other : x ≡ cut (neg_ℤ high) (neg_ℤ low) v
+  from_other =
+      gives
+      ∙ (λ i. cut (negated high (IsBound-high low high window) i) (negated low (IsBound-low low high window) i) v)
+
+  pub IsBound-given : IsBound x
+  IsBound-given = record {
+    least = omega (arith, ints, clamps, from_other, window.from, window.order, window.to);
+    most = omega (arith, ints, clamps, from_other, window.from, window.order, window.to);
+  }
+
+  pub negated_given : negated_bits x ≡ cut low high (neg_ℤ v)
+  negated_given = negated x IsBound-given ∙ cut-neg low high v x window.order from_other

@@ -2,15 +2,18 @@
 use Rattle.std.proofs.Common.{arith, ◌≡◌, ℕ, ℤ, pos, ◌+◌, ◌<◌, ◌<ℤ◌, ◌≤ℤ◌, Bool, true, false, cond, List, [], ◌∷◌, map, length, take, drop, get_or, refl, sym, ap, ◌∙◌}
 use Rattle.std.specs.Prelude.{not}
 use Rattle.std.specs.Int.{int_max, int_min}
-use Rattle.std.proofs.lemmas.Int.{ints, clamps}
+use Rattle.std.proofs.lemmas.Int.{ints, clamps, to_z-of_z}
 use Rattle.std.proofs.lemmas.List.{take-append-drop}
 use Rattle.std.proofs.lemmas.List.Sums.{fold-append, fold_more}
 use Rattle.std.proofs.lemmas.List.Folds.{fold-map}
 use Rattle.chess_model.specs.declared.moves.Move.{Move}
 use Rattle.chess_model.specs.Placement.{Placement}
-use Rattle.house_bot.specs.Value.{greatest}
+use Rattle.chess_model.specs.Position.{Position}
+use Rattle.house_bot.specs.Value.{greatest, move_value}
 use Rattle.house_bot.specs.Searching.{cut, raised, raised_by, is_tried}
 use Rattle.house_bot.proofs.Cuts.{int_max-swap, int_max-comm, le-trans, int_min-reached, int_min-below, int_min-over, cut-whole, cut-over}
+use mir.Syntax.{w32}
+use mir.Val.{SFits, to_z, of_z}
 
 -- the greatest of a bound and of what all the moves are worth
 abbrev pub top : (Move → ℤ) → ℤ → List Move → ℤ
@@ -114,36 +117,65 @@ first_pass_from f P low high a ms order first =
     let grown = raised_by-grows f (is_tried true P) low ms in
     omega (arith, ints, clamps, first, grown, order)
 
+-- what a pass over the moves gives, as the code says it
+pub pass_gives : (d : ℕ) (takes : Bool) (p q : Position) (low high r : ℤ) (ls ms : List Move) → SFits w32 low
+    → SFits w32 high → q ≡ p → ls ≡ ms →
+    r
+    ≡ int_min (to_z w32 (of_z w32 high))
+    (raised_by (move_value d q) (is_tried takes q.men) (to_z w32 (of_z w32 low)) ls)
+    → r ≡ int_min high (raised_by (move_value d p) (is_tried takes p.men) low ms)
+pass_gives d takes p q low high r ls ms low_fits high_fits same listed gives =
+    gives
+    ∙ (λ i. int_min (to_z-of_z w32 high high_fits i)
+    (raised_by (move_value d (same i)) (is_tried takes (same i).men) (to_z-of_z w32 low low_fits i) (listed i)))
+
 -- ---- a turn of the loop over the moves
-raised_next : (f : Move → ℤ) (t : Move → Bool) (low : ℤ) (ms : List Move) (i : ℕ) (b : ℤ) (m : Move) →
-    b ≡ raised_by f t low (take i ms) → m ≡ get_or ms i m → i < length ms →
-    raised f t b m ≡ raised_by f t low (take (i + 1) ms)
-raised_next f t low ms i b m so_far here less =
-    ap (λ x. raised f t x m) so_far
-    ∙ ap (λ x. raised f t (raised_by f t low (take i ms)) x) here
-    ∙ sym (fold_more (raised f t) low ms i m less)
+pub record Turn (f : Move → ℤ) (t : Move → Bool) (low high : ℤ) (ms : List Move) (i : ℕ) (b r : ℤ) (m : Move) : Type 0
+  where
+    pub so_far : b ≡ raised_by f t low (take i ms)
+    pub here : m ≡ get_or ms i m
+    pub less : i < length ms
+    pub gives : r ≡ int_min high (raised f t b m)
 
-pub turn_reaches : (f : Move → ℤ) (t : Move → Bool) (low high : ℤ) (ms : List Move) (i : ℕ) (b r : ℤ) (m : Move) →
-    b ≡ raised_by f t low (take i ms) → m ≡ get_or ms i m → i < length ms → r ≡ int_min high (raised f t b m) →
-    high ≤ℤ r → high ≡ int_min high (raised_by f t low ms)
-turn_reaches f t low high ms i b r m so_far here less gives more =
-    let next = raised_next f t low ms i b m so_far here less in
-    let over = int_min-over high (raised f t b m) r gives more in
-    let over_all : high ≤ℤ raised_by f t low (take (i + 1) ms) = omega (arith, ints, over, next) in
-    stops f t low high ms (i + 1) over_all
+-- as the code says it
+pub turn_from : (d : ℕ) (takes : Bool) (p q : Position) (low high : ℤ) (ms : List Move) (i : ℕ) (b r : ℤ) (m : Move)
+    → SFits w32 low → SFits w32 high → q ≡ p →
+    b ≡ raised_by (move_value d p) (is_tried takes p.men) (to_z w32 (of_z w32 low)) (take i ms) →
+    m ≡ get_or ms i m → i < length ms →
+    r ≡ int_min (to_z w32 (of_z w32 high)) (raised (move_value d q) (is_tried takes q.men) b m)
+    → Turn (move_value d p) (is_tried takes p.men) low high ms i b r m
+turn_from d takes p q low high ms i b r m low_fits high_fits same so_far here less gives = record {
+  so_far =
+      so_far ∙ ap (λ z. raised_by (move_value d p) (is_tried takes p.men) z (take i ms)) (to_z-of_z w32 low low_fits);
+  here = here;
+  less = less;
+  gives = gives
+      ∙ (λ j. int_min (to_z-of_z w32 high high_fits j)
+      (raised (move_value d (same j)) (is_tried takes (same j).men) b m));
+}
 
-pub turn_goes_on : (f : Move → ℤ) (t : Move → Bool) (low high : ℤ) (ms : List Move) (i : ℕ) (b r : ℤ) (m : Move) →
-    b ≡ raised_by f t low (take i ms) → m ≡ get_or ms i m → i < length ms → r ≡ int_min high (raised f t b m) →
-    r <ℤ high → r ≡ raised_by f t low (take (i + 1) ms)
-turn_goes_on f t low high ms i b r m so_far here less gives below =
-    int_min-below high (raised f t b m) r gives below ∙ raised_next f t low ms i b m so_far here less
+module _ {f : Move → ℤ} {t : Move → Bool} {low high : ℤ} {ms : List Move} {i : ℕ} {b r : ℤ} {m : Move}
+    (turn : Turn f t low high ms i b r m) where
+  next : raised f t b m ≡ raised_by f t low (take (i + 1) ms)
+  next =
+      ap (λ x. raised f t x m) turn.so_far
+      ∙ ap (λ x. raised f t (raised_by f t low (take i ms)) x) turn.here
+      ∙ sym (fold_more (raised f t) low ms i m turn.less)
 
-pub turn_grows : (f : Move → ℤ) (t : Move → Bool) (high b r : ℤ) (m : Move) → r ≡ int_min high (raised f t b m) →
-    r <ℤ high → b ≤ℤ r
-turn_grows f t high b r m gives below =
-    let same = int_min-below high (raised f t b m) r gives below in
-    let grown = raised-grows (t m) b (f m) in
-    omega (arith, ints, same, grown)
+  pub turn_reaches : high ≤ℤ r → high ≡ int_min high (raised_by f t low ms)
+  turn_reaches more =
+      let over = int_min-over high (raised f t b m) r turn.gives more in
+      let over_all : high ≤ℤ raised_by f t low (take (i + 1) ms) = omega (arith, ints, over, next) in
+      stops f t low high ms (i + 1) over_all
+
+  pub turn_goes_on : r <ℤ high → r ≡ raised_by f t low (take (i + 1) ms)
+  turn_goes_on below = int_min-below high (raised f t b m) r turn.gives below ∙ next
+
+  pub turn_grows : r <ℤ high → b ≤ℤ r
+  turn_grows below =
+      let same = int_min-below high (raised f t b m) r turn.gives below in
+      let grown = raised-grows (t m) b (f m) in
+      omega (arith, ints, same, grown)
 
 -- a move that is tried
 pub raised_in : (tried : Bool) (low high w r : ℤ) → tried ≡ true → low <ℤ high → r ≡ cut low high w →

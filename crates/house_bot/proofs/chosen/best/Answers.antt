@@ -108,77 +108,42 @@ loop-m-preserved c =
 pub returns-clause-same : goal.returns-clause-same
 returns-clause-same c = c.loop-m.invariant.same
 
+-- the choice at the end of the loop is the best of all moves
+whole : (c : goal.After-drop-moves-2) → IsFound c.args.depth c.args.p.now c.loop-m.choice
+whole c =
+    let p : Position = c.args.p.now in
+    let d : ℕ = c.args.depth - 1 in
+    let ms : List Move = c.deref-m-items.result.now in
+    let choice : Choice = c.loop-m.choice in
+    let ahead : SearchGoesOn c.args.depth p = c.in_default.ensures.open in
+    let listed : ms ≡ allowed_moves p = c.deref-m-items.ensures.value ∙ c.in_ok-moves.ensures in
+    let past : length ms ≤ c.loop-m.m-index = search rules in
+    let chosen : choice ≡ best_of (move_value d p) no_choice (allowed_moves p) =
+    c.loop-m.invariant.choice
+    ∙ ap (λ (l : List Move). best_of (move_value d p) no_choice l) (take_all c.loop-m.m-index ms past ∙ listed) in
+    let two : IsTwoSets p = record {
+      variant = c.requires;
+      squares = c.has_two_sets.ensures.squares;
+      men = c.has_two_sets.ensures.men c.requires;
+    } in
+    found c.args.depth d p choice (omega (arith, ahead.left)) (omega (arith, c.ranges.depth.fits)) two ahead
+    (has_moves p c.requires ahead.goes) chosen
+
 pub returns-clause-value : goal.returns-clause-value
 returns-clause-value c =
-    let p : Position = c.args.p.now in
-    let d : ℕ = c.args.depth - 1 in
-    let ms : List Move = c.deref-m-items.result.now in
-    let choice : Choice = c.loop-m.choice in
-    let ahead : SearchGoesOn c.args.depth p = c.in_default.ensures.open in
-    let listed : ms ≡ allowed_moves p = c.deref-m-items.ensures.value ∙ c.in_ok-moves.ensures in
-    let past : length ms ≤ c.loop-m.m-index = search rules in
-    let chosen : choice ≡ best_of (move_value d p) no_choice (allowed_moves p) =
-    c.loop-m.invariant.choice
-    ∙ ap (λ (l : List Move). best_of (move_value d p) no_choice l) (take_all c.loop-m.m-index ms past ∙ listed) in
-    let some_allowed : 0 < length (allowed_moves p) = has_moves p c.requires ahead.goes in
-    let two : IsTwoSets p = record {
-      variant = c.requires;
-      squares = c.has_two_sets.ensures.squares;
-      men = c.has_two_sets.ensures.men c.requires;
-    } in
-    let done : IsFound c.args.depth p choice =
-    found c.args.depth d p choice (omega (arith, ahead.left)) (omega (arith, c.ranges.depth.fits)) two ahead
-    some_allowed chosen in
     let least = c.loop-m.invariant.least in
     let below = c.loop-m.invariant.below in
-    let fits : SFits w32 choice.worth = omega (arith, ints, least, below) in
-    to_z-of_z w32 choice.worth fits ∙ done.worth
+    let fits : SFits w32 c.loop-m.choice.worth = omega (arith, ints, least, below) in
+    to_z-of_z w32 c.loop-m.choice.worth fits ∙ (whole c).worth
 
 pub returns-clause-first : goal.returns-clause-first
-returns-clause-first c =
-    let p : Position = c.args.p.now in
-    let d : ℕ = c.args.depth - 1 in
-    let ms : List Move = c.deref-m-items.result.now in
-    let choice : Choice = c.loop-m.choice in
-    let ahead : SearchGoesOn c.args.depth p = c.in_default.ensures.open in
-    let listed : ms ≡ allowed_moves p = c.deref-m-items.ensures.value ∙ c.in_ok-moves.ensures in
-    let past : length ms ≤ c.loop-m.m-index = search rules in
-    let chosen : choice ≡ best_of (move_value d p) no_choice (allowed_moves p) =
-    c.loop-m.invariant.choice
-    ∙ ap (λ (l : List Move). best_of (move_value d p) no_choice l) (take_all c.loop-m.m-index ms past ∙ listed) in
-    let some_allowed : 0 < length (allowed_moves p) = has_moves p c.requires ahead.goes in
-    let two : IsTwoSets p = record {
-      variant = c.requires;
-      squares = c.has_two_sets.ensures.squares;
-      men = c.has_two_sets.ensures.men c.requires;
-    } in
-    let done : IsFound c.args.depth p choice =
-    found c.args.depth d p choice (omega (arith, ahead.left)) (omega (arith, c.ranges.depth.fits)) two ahead
-    some_allowed chosen in
-    done.first
+returns-clause-first c = (whole c).first
 
 pub returns-clause-none : goal.returns-clause-none
 returns-clause-none c =
-    let p : Position = c.args.p.now in
-    let d : ℕ = c.args.depth - 1 in
-    let ms : List Move = c.deref-m-items.result.now in
-    let choice : Choice = c.loop-m.choice in
-    let ahead : SearchGoesOn c.args.depth p = c.in_default.ensures.open in
-    let listed : ms ≡ allowed_moves p = c.deref-m-items.ensures.value ∙ c.in_ok-moves.ensures in
-    let past : length ms ≤ c.loop-m.m-index = search rules in
-    let chosen : choice ≡ best_of (move_value d p) no_choice (allowed_moves p) =
-    c.loop-m.invariant.choice
-    ∙ ap (λ (l : List Move). best_of (move_value d p) no_choice l) (take_all c.loop-m.m-index ms past ∙ listed) in
-    let some_allowed : 0 < length (allowed_moves p) = has_moves p c.requires ahead.goes in
-    let two : IsTwoSets p = record {
-      variant = c.requires;
-      squares = c.has_two_sets.ensures.squares;
-      men = c.has_two_sets.ensures.men c.requires;
-    } in
-    let done : IsFound c.args.depth p choice =
-    found c.args.depth d p choice (omega (arith, ahead.left)) (omega (arith, c.ranges.depth.fits)) two ahead
-    some_allowed chosen in (
-      λ none. absurd (done.some none),
+    let ahead : SearchGoesOn c.args.depth c.args.p.now = c.in_default.ensures.open in
+    let some_allowed : 0 < length (allowed_moves c.args.p.now) = has_moves c.args.p.now c.requires ahead.goes in (
+      λ none. absurd ((whole c).some none),
       λ h. absurd (elim h [
         | inl zero ↦ omega (arith, ahead.left, zero)
         | inr none ↦ omega (arith, some_allowed, ap (λ (l : List Move). length l) none)

@@ -1,5 +1,4 @@
-use Rattle.std.proofs.Common.{arith, rules, ◌≡◌, ℕ, ◌+◌, ◌-◌, ◌<◌, ℤ, pos, neg_ℤ, ◌<ℤ◌, ◌≤ℤ◌, Bool, true, false, List, length, take, sym, ap, subst, ◌∙◌}
-use Rattle.std.specs.Int.{int_min}
+use Rattle.std.proofs.Common.{arith, rules, ◌≡◌, ℕ, ◌+◌, ◌-◌, ◌<◌, ℤ, pos, neg_ℤ, ◌<ℤ◌, ◌≤ℤ◌, Bool, true, false, List, length, take, refl, sym, ap, subst, ◌∙◌}
 use Rattle.std.proofs.lemmas.Bool.Decides.{nat_tests}
 use Rattle.std.proofs.lemmas.Int.{ints, clamps, to_z-of_z}
 use Rattle.chess_model.specs.declared.moves.Move.{Move}
@@ -8,25 +7,19 @@ use Rattle.chess_model.specs.Allowed.{Allowed}
 use Rattle.chess_model.specs.AllMoves.{allowed_moves}
 use Rattle.variant_rules.specs.Undos.{IsUndoOf}
 use Rattle.house_bot.specs.Value.{value, move_value}
-use Rattle.house_bot.specs.Searching.{cut, IsWindow, SearchGoesOn, is_tried, raised, raised_by}
-use Rattle.house_bot.proofs.Cuts.{cut-neg, negated, negated_fits, IsBound-low, IsBound-high, IsBound-cut}
+use Rattle.house_bot.specs.Searching.{cut, SearchGoesOn, is_tried, raised_by}
+use Rattle.house_bot.proofs.Cuts.{negated_fits, negated_given, IsBound-given}
 use Rattle.house_bot.proofs.Moves.{allowed_at}
-use Rattle.house_bot.proofs.Raises.{raised_in, turn_reaches, turn_goes_on, turn_grows, greatest_none, first_pass_reaches, first_pass_from, second_pass_gives}
+use Rattle.house_bot.proofs.Raises.{raised_in, turn_from, turn_reaches, turn_goes_on, turn_grows, greatest_none, pass_gives, first_pass_reaches, first_pass_from, second_pass_gives}
 use Rattle.house_bot.proofs.search.+look_ahead.Goals as goal
 use mir.Syntax.{w32}
 use mir.Val.{SFits, to_z, of_z}
 
 pub deeper-overflow_sub-result : goal.deeper-overflow_sub-result
 deeper-overflow_sub-result t c =
-    let low : ℤ = c.args.low in
-    let high : ℤ = c.args.high in
-    let window : IsWindow low high = c.requires.window in
-    let x : ℤ = c.in_ok-worth.field-0 in
-    let v : ℤ = value c.args.depth c.make-undo.new.self in
-    let e : x ≡ cut (neg_ℤ high) (neg_ℤ low) v =
-    c.in_ok-worth.ensures.value
-    ∙ (λ i. cut (negated high (IsBound-high low high window) i) (negated low (IsBound-low low high window) i) v) in
-    negated_fits x (IsBound-cut low high v x window e)
+    negated_fits c.in_ok-worth.field-0
+    (IsBound-given c.args.low c.args.high (value c.args.depth c.make-undo.new.self) c.in_ok-worth.field-0
+    c.requires.window c.in_ok-worth.ensures.value)
 
 pub deeper-returns-clause-same : goal.deeper-returns-clause-same
 deeper-returns-clause-same t c =
@@ -35,17 +28,9 @@ deeper-returns-clause-same t c =
 
 pub deeper-returns-clause-value : goal.deeper-returns-clause-value
 deeper-returns-clause-value t c =
-    let low : ℤ = c.args.low in
-    let high : ℤ = c.args.high in
-    let window : IsWindow low high = c.requires.window in
-    let x : ℤ = c.in_ok-worth.field-0 in
-    let v : ℤ = value c.args.depth c.make-undo.new.self in
-    let e : x ≡ cut (neg_ℤ high) (neg_ℤ low) v =
-    c.in_ok-worth.ensures.value
-    ∙ (λ i. cut (negated high (IsBound-high low high window) i) (negated low (IsBound-low low high window) i) v) in
-    negated x (IsBound-cut low high v x window e)
-    ∙ cut-neg low high v x window.order e
-    ∙ ap (λ q. cut low high (neg_ℤ (value c.args.depth q))) c.make-undo.ensures.after
+    negated_given c.args.low c.args.high (value c.args.depth c.make-undo.new.self) c.in_ok-worth.field-0
+    c.requires.window c.in_ok-worth.ensures.value
+    ∙ ap (λ q. cut c.args.low c.args.high (neg_ℤ (value c.args.depth q))) c.make-undo.ensures.after
 
 pub raised-returns-clause-value : goal.raised-returns-clause-value
 raised-returns-clause-value t c =
@@ -84,60 +69,35 @@ raised_by-raised-requires t c =
 
 pub raised_by-returns-then-high-best-clause-value : goal.raised_by-returns-then-high-best-clause-value
 raised_by-returns-then-high-best-clause-value t c =
-    let p : Position = c.args.p.now in
-    let ms : List Move = c.args.moves.now in
-    let f : Move → ℤ = move_value c.args.depth p in
-    let tried : Move → Bool = is_tried c.args.takes p.men in
-    let i : ℕ = c.loop-m.m-index in
-    let m : Move = c.m-item.result in
-    let b : ℤ = to_z w32 c.loop-m.best-bits in
-    let r : ℤ = c.in_ok-best.best in
-    let less : i < length ms = search rules in
-    let high_is : to_z w32 (of_z w32 c.args.high) ≡ c.args.high = to_z-of_z w32 c.args.high c.ranges.high in
-    let low_is : to_z w32 (of_z w32 c.args.low) ≡ c.args.low = to_z-of_z w32 c.args.low c.ranges.low in
-    let so_far : b ≡ raised_by f tried c.args.low (take i ms) =
-    c.loop-m.invariant.best ∙ ap (λ z. raised_by f tried z (take i ms)) low_is in
-    let R : Position → Type 0 = λ q.
-    r
-    ≡ int_min (to_z w32 (of_z w32 c.args.high))
-    (raised (move_value c.args.depth q) (is_tried c.args.takes q.men) b m) in
-    let H : ℤ → Type 0 = λ z. r ≡ int_min z (raised f tried b m) in
-    let gives : r ≡ int_min c.args.high (raised f tried b m) =
-    subst H high_is (subst R c.loop-m.invariant.same c.in_ok-best.ensures.value) in
-    let more : c.args.high ≤ℤ r = omega (arith, ints, c.if-high-best.true) in
-    high_is ∙ turn_reaches f tried c.args.low c.args.high ms i b r m so_far c.m-item.is less gives more
+    let less : c.loop-m.m-index < length c.args.moves.now = search rules in
+    let turn =
+    turn_from c.args.depth c.args.takes c.args.p.now c.loop-m.p c.args.low c.args.high c.args.moves.now
+    c.loop-m.m-index (to_z w32 c.loop-m.best-bits) c.in_ok-best.best c.m-item.result c.ranges.low c.ranges.high
+    c.loop-m.invariant.same c.loop-m.invariant.best c.m-item.is less c.in_ok-best.ensures.value in
+    let more : c.args.high ≤ℤ c.in_ok-best.best = omega (arith, ints, c.if-high-best.true) in
+    to_z-of_z w32 c.args.high c.ranges.high ∙ turn_reaches turn more
 
 pub raised_by-loop-m-preserved : goal.raised_by-loop-m-preserved
 raised_by-loop-m-preserved t c =
-    let p : Position = c.args.p.now in
-    let ms : List Move = c.args.moves.now in
-    let f : Move → ℤ = move_value c.args.depth p in
-    let tried : Move → Bool = is_tried c.args.takes p.men in
+    let f : Move → ℤ = move_value c.args.depth c.args.p.now in
+    let tried : Move → Bool = is_tried c.args.takes c.args.p.now.men in
     let i : ℕ = c.loop-m.m-index in
-    let m : Move = c.m-item.result in
-    let b : ℤ = to_z w32 c.loop-m.best-bits in
     let r : ℤ = c.in_ok-best.best in
-    let less : i < length ms = search rules in
-    let high_is : to_z w32 (of_z w32 c.args.high) ≡ c.args.high = to_z-of_z w32 c.args.high c.ranges.high in
-    let low_is : to_z w32 (of_z w32 c.args.low) ≡ c.args.low = to_z-of_z w32 c.args.low c.ranges.low in
+    let less : i < length c.args.moves.now = search rules in
+    let turn =
+    turn_from c.args.depth c.args.takes c.args.p.now c.loop-m.p c.args.low c.args.high c.args.moves.now i
+    (to_z w32 c.loop-m.best-bits) r c.m-item.result c.ranges.low c.ranges.high c.loop-m.invariant.same
+    c.loop-m.invariant.best c.m-item.is less c.in_ok-best.ensures.value in
     let fits : SFits w32 r = search rules in
     let best_is : to_z w32 (of_z w32 r) ≡ r = to_z-of_z w32 r fits in
-    let so_far : b ≡ raised_by f tried c.args.low (take i ms) =
-    c.loop-m.invariant.best ∙ ap (λ z. raised_by f tried z (take i ms)) low_is in
-    let R : Position → Type 0 = λ q.
-    r
-    ≡ int_min (to_z w32 (of_z w32 c.args.high))
-    (raised (move_value c.args.depth q) (is_tried c.args.takes q.men) b m) in
-    let H : ℤ → Type 0 = λ z. r ≡ int_min z (raised f tried b m) in
-    let gives : r ≡ int_min c.args.high (raised f tried b m) =
-    subst H high_is (subst R c.loop-m.invariant.same c.in_ok-best.ensures.value) in
     let below : r <ℤ c.args.high = omega (arith, ints, c.if-high-best.false) in
-    let grown = turn_grows f tried c.args.high b r m gives below in
+    let grown = turn_grows turn below in
     let least = c.loop-m.invariant.least in
     record {
       same = c.raised.ensures.same ∙ c.loop-m.invariant.same;
-      best = best_is ∙ turn_goes_on f tried c.args.low c.args.high ms i b r m so_far c.m-item.is less gives below
-          ∙ ap (λ z. raised_by f tried z (take (i + 1) ms)) (sym low_is);
+      best = best_is ∙ turn_goes_on turn below
+          ∙ ap (λ z. raised_by f tried z (take (i + 1) c.args.moves.now))
+          (sym (to_z-of_z w32 c.args.low c.ranges.low));
       least = omega (arith, ints, best_is, grown, least);
       below = omega (arith, ints, best_is, below);
     }
@@ -163,51 +123,32 @@ pub search-returns-then-high-raised-clause-value : goal.search-returns-then-high
 search-returns-then-high-raised-clause-value t c =
     let p : Position = c.args.p.now in
     let d : ℕ = c.args.depth - 1 in
-    let f : Move → ℤ = move_value d p in
     let ms : List Move = allowed_moves p in
     let ahead : SearchGoesOn c.args.depth p = c.in_default.ensures.open in
-    let e = ahead.best d (omega (arith, ahead.left)) in
     let some : 0 < length c.in_ok-moves.moves.items =
     grind (arith, nat_tests, c.is_empty.ensures, c.if-is_empty.false, c.in_ok-moves.moves.ok.0) in
     let some_allowed : 0 < length ms = omega (arith, some, ap (λ (l : List Move). length l) c.in_ok-moves.ensures) in
-    let listed : c.deref.result.now ≡ ms = c.deref.ensures.value ∙ c.in_ok-moves.ensures in
     let r : ℤ = c.in_ok-raised.raised in
-    let high_is : to_z w32 (of_z w32 c.args.high) ≡ c.args.high = to_z-of_z w32 c.args.high c.ranges.high in
-    let low_is : to_z w32 (of_z w32 c.args.low) ≡ c.args.low = to_z-of_z w32 c.args.low c.ranges.low in
-    let L : List Move → Type 0 = λ l.
-    r
-    ≡ int_min (to_z w32 (of_z w32 c.args.high))
-    (raised_by f (is_tried true p.men) (to_z w32 (of_z w32 c.args.low)) l) in
-    let H : ℤ → Type 0 = λ z. r ≡ int_min z (raised_by f (is_tried true p.men) (to_z w32 (of_z w32 c.args.low)) ms) in
-    let W : ℤ → Type 0 = λ z. r ≡ int_min c.args.high (raised_by f (is_tried true p.men) z ms) in
-    let first : r ≡ int_min c.args.high (raised_by f (is_tried true p.men) c.args.low ms) =
-    subst W low_is (subst H high_is (subst L listed c.in_ok-raised.ensures.value)) in
+    let first =
+    pass_gives d true p p c.args.low c.args.high r c.deref.result.now ms c.ranges.low c.ranges.high refl
+    (c.deref.ensures.value ∙ c.in_ok-moves.ensures) c.in_ok-raised.ensures.value in
     let more : c.args.high ≤ℤ r = omega (arith, ints, c.if-high-raised.true) in
-    high_is ∙ first_pass_reaches f p.men c.args.low c.args.high r ms c.requires.order some_allowed first more
-    ∙ ap (λ z. cut c.args.low c.args.high z) (sym e)
+    to_z-of_z w32 c.args.high c.ranges.high
+    ∙ first_pass_reaches (move_value d p) p.men c.args.low c.args.high r ms c.requires.order some_allowed first more
+    ∙ ap (λ z. cut c.args.low c.args.high z) (sym (ahead.best d (omega (arith, ahead.left))))
 
 pub search-raised_by-requires-2 : goal.search-raised_by-requires-2
 search-raised_by-requires-2 t c =
     let p : Position = c.args.p.now in
     let d : ℕ = c.args.depth - 1 in
-    let f : Move → ℤ = move_value d p in
     let ms : List Move = allowed_moves p in
     let ahead : SearchGoesOn c.args.depth p = c.in_default.ensures.open in
     let left = ahead.left in
-    let listed : c.deref.result.now ≡ ms = c.deref.ensures.value ∙ c.in_ok-moves.ensures in
     let r : ℤ = c.in_ok-raised.raised in
-    let fits : SFits w32 r = search rules in
-    let high_is : to_z w32 (of_z w32 c.args.high) ≡ c.args.high = to_z-of_z w32 c.args.high c.ranges.high in
-    let low_is : to_z w32 (of_z w32 c.args.low) ≡ c.args.low = to_z-of_z w32 c.args.low c.ranges.low in
-    let L : List Move → Type 0 = λ l.
-    r
-    ≡ int_min (to_z w32 (of_z w32 c.args.high))
-    (raised_by f (is_tried true p.men) (to_z w32 (of_z w32 c.args.low)) l) in
-    let H : ℤ → Type 0 = λ z. r ≡ int_min z (raised_by f (is_tried true p.men) (to_z w32 (of_z w32 c.args.low)) ms) in
-    let W : ℤ → Type 0 = λ z. r ≡ int_min c.args.high (raised_by f (is_tried true p.men) z ms) in
-    let first : r ≡ int_min c.args.high (raised_by f (is_tried true p.men) c.args.low ms) =
-    subst W low_is (subst H high_is (subst L listed c.in_ok-raised.ensures.value)) in
-    let from = first_pass_from f p.men c.args.low c.args.high r ms c.requires.order first in (
+    let first =
+    pass_gives d true p p c.args.low c.args.high r c.deref.result.now ms c.ranges.low c.ranges.high refl
+    (c.deref.ensures.value ∙ c.in_ok-moves.ensures) c.in_ok-raised.ensures.value in
+    let from = first_pass_from (move_value d p) p.men c.args.low c.args.high r ms c.requires.order first in (
       search rules,
       (
         record {
@@ -224,42 +165,23 @@ pub search-returns-clause-value : goal.search-returns-clause-value
 search-returns-clause-value t c =
     let p : Position = c.args.p.now in
     let d : ℕ = c.args.depth - 1 in
-    let f : Move → ℤ = move_value d p in
     let ms : List Move = allowed_moves p in
     let ahead : SearchGoesOn c.args.depth p = c.in_default.ensures.open in
-    let e = ahead.best d (omega (arith, ahead.left)) in
     let some : 0 < length c.in_ok-moves.moves.items =
     grind (arith, nat_tests, c.is_empty.ensures, c.if-is_empty.false, c.in_ok-moves.moves.ok.0) in
     let some_allowed : 0 < length ms = omega (arith, some, ap (λ (l : List Move). length l) c.in_ok-moves.ensures) in
-    let listed : c.deref.result.now ≡ ms = c.deref.ensures.value ∙ c.in_ok-moves.ensures in
-    let listed_again : c.deref-2.result.now ≡ ms = c.deref-2.ensures.value ∙ c.in_ok-moves.ensures in
     let r : ℤ = c.in_ok-raised.raised in
     let x : ℤ = c.in_ok-whole.whole in
     let fits : SFits w32 r = search rules in
     let fits_whole : SFits w32 x = search rules in
-    let high_is : to_z w32 (of_z w32 c.args.high) ≡ c.args.high = to_z-of_z w32 c.args.high c.ranges.high in
-    let low_is : to_z w32 (of_z w32 c.args.low) ≡ c.args.low = to_z-of_z w32 c.args.low c.ranges.low in
-    let raised_is : to_z w32 (of_z w32 r) ≡ r = to_z-of_z w32 r fits in
-    let L : List Move → Type 0 = λ l.
-    r
-    ≡ int_min (to_z w32 (of_z w32 c.args.high))
-    (raised_by f (is_tried true p.men) (to_z w32 (of_z w32 c.args.low)) l) in
-    let H : ℤ → Type 0 = λ z. r ≡ int_min z (raised_by f (is_tried true p.men) (to_z w32 (of_z w32 c.args.low)) ms) in
-    let W : ℤ → Type 0 = λ z. r ≡ int_min c.args.high (raised_by f (is_tried true p.men) z ms) in
-    let first : r ≡ int_min c.args.high (raised_by f (is_tried true p.men) c.args.low ms) =
-    subst W low_is (subst H high_is (subst L listed c.in_ok-raised.ensures.value)) in
-    let A : Position → Type 0 = λ q.
-    x
-    ≡ int_min (to_z w32 (of_z w32 c.args.high))
-    (raised_by (move_value d q) (is_tried false q.men) (to_z w32 (of_z w32 r)) c.deref-2.result.now) in
-    let B : List Move → Type 0 = λ l.
-    x ≡ int_min (to_z w32 (of_z w32 c.args.high)) (raised_by f (is_tried false p.men) (to_z w32 (of_z w32 r)) l) in
-    let C : ℤ → Type 0 = λ z. x ≡ int_min z (raised_by f (is_tried false p.men) (to_z w32 (of_z w32 r)) ms) in
-    let D : ℤ → Type 0 = λ z. x ≡ int_min c.args.high (raised_by f (is_tried false p.men) z ms) in
-    let second : x ≡ int_min c.args.high (raised_by f (is_tried false p.men) r ms) =
-    subst D raised_is
-    (subst C high_is (subst B listed_again (subst A c.raised_by.ensures.same c.in_ok-whole.ensures.value))) in
+    let first =
+    pass_gives d true p p c.args.low c.args.high r c.deref.result.now ms c.ranges.low c.ranges.high refl
+    (c.deref.ensures.value ∙ c.in_ok-moves.ensures) c.in_ok-raised.ensures.value in
+    let second =
+    pass_gives d false p c.raised_by.new.p r c.args.high x c.deref-2.result.now ms fits c.ranges.high
+    c.raised_by.ensures.same (c.deref-2.ensures.value ∙ c.in_ok-moves.ensures) c.in_ok-whole.ensures.value in
     let below : r <ℤ c.args.high = omega (arith, ints, c.if-high-raised.false) in
     to_z-of_z w32 x fits_whole
-    ∙ second_pass_gives f p.men c.args.low c.args.high r x ms c.requires.order some_allowed first below second
-    ∙ ap (λ z. cut c.args.low c.args.high z) (sym e)
+    ∙ second_pass_gives (move_value d p) p.men c.args.low c.args.high r x ms c.requires.order some_allowed first below
+    second
+    ∙ ap (λ z. cut c.args.low c.args.high z) (sym (ahead.best d (omega (arith, ahead.left))))
