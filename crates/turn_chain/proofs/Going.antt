@@ -25,7 +25,7 @@ pub record Since {P A R : Type 0} (v w : View P A R) : Type 0 where
   pub same : fixed w ≡ fixed v
 
 module _ {P A R : Type 0} where
-  pub since_trans : (u v w : View P A R) → Since u v → Since v w → Since u w
+  since_trans : (u v w : View P A R) → Since u v → Since v w → Since u w
   since_trans u v w a b =
       record {
         begins = prefix_trans u.seen v.seen w.seen a.begins b.begins;
@@ -38,13 +38,24 @@ on_err (Ok x) P h = tt
 on_err (Err e) P h = h
 
 module _ {P A R : Type 0} (c : Core P A R) where
-  pub since_begun : (v w : View P A R) (a : A) → w ≡ begun c v a w.seen → Looks c v w.seen → Since v w
+  since_begun : (v w : View P A R) (a : A) → w ≡ begun c v a w.seen → Looks c v w.seen → Since v w
   since_begun v w a e looks = record { begins = looks.on; made = ap (λ (x : View P A R). x.made) e; same = ap fixed e }
 
-  pub since_taken : (v w : View P A R) (k : ℕ) (p : P) (tries : List ℕ) → w ≡ with_busy tries (taken c v k p w.seen)
+  since_taken : (v w : View P A R) (k : ℕ) (p : P) (tries : List ℕ) → w ≡ with_busy tries (taken c v k p w.seen)
       → Looks c v w.seen → Since v w
   since_taken v w k p tries e looks =
       record { begins = looks.on; made = ap (λ (x : View P A R). x.made) e; same = ap fixed e }
+
+  -- what it has become once the first part is out, and once the second is
+  module _ (v u w : View P A R) (a : A) (k : ℕ) (p : P) (tries : List ℕ) (e : u ≡ begun c v a u.seen)
+      (begins : Looks c v u.seen) (takes : w ≡ with_busy tries (taken c u k p w.seen)) (looks : Looks c u w.seen) where
+    pub since_first : Since v w
+    since_first = since_trans v u w (since_begun v u a e begins) (since_taken u w k p tries takes looks)
+
+    pub since_second : (x : View P A R) (s : ℕ) (q : P) (more : List ℕ) → x ≡ with_busy more (taken c w s q x.seen)
+        → Looks c w x.seen → Since v x
+    since_second x s q more takes_more looks_on =
+        since_trans v w x since_first (since_taken w x s q more takes_more looks_on)
 
   -- an act that was made after that
   pub ran_since : (v u w : View P A R) (a : A) (r : R) → Since v u → HasRun c u a r w → HasRun c v a r w
@@ -115,7 +126,7 @@ module _ {P A R : Type 0} (c : Core P A R) where
       (begins : Looks c v u.seen)
       (takes : w ≡ taken c u k p w.seen) (looks : Looks c u w.seen) (busy : x ≡ tried w s) (back : y ≡ given x k) where
     once : Since v w
-    once = since_trans v u w (since_begun v u a e begins) (since_taken u w k p u.busy takes looks)
+    once = since_first v u w a k p u.busy e begins takes looks
 
     pub idle_given : v.held ≡ [] → y.held ≡ []
     idle_given idle =

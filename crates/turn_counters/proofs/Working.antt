@@ -1,5 +1,6 @@
 -- One act, step by step.
 use Rattle.std.proofs.Common.{◌≡◌, ℕ, [], ◌∷◌, map, refl, ap, sym, subst, ◌∙◌, inl, inr, arith}
+use Rattle.std.specs.declared.option.Option.{Option}
 use Rattle.std.specs.declared.option.Option.TheVariants.{None, Some}
 use Rattle.turn_table.specs.declared.view.View.{View}
 use Rattle.turn_table.specs.Views.{In, Holds, AllOut, begun, taken, done, given, left_by, let_go}
@@ -9,8 +10,12 @@ use Rattle.turn_counters.specs.declared.bump.Bump.TheVariants.{First, Both}
 use Rattle.turn_counters.specs.Counters.{counters, more}
 use Rattle.turn_counters.specs.Worked.{MadeOne}
 
+-- a commit, as the table says it
+abbrev Commits : View ℕ Bump ℕ → View ℕ Bump ℕ → Type 0
+Commits v w = (a : Bump) (p : ℕ) (o : Option ℕ) → AllOut counters v a p o → Committed counters v a p o w
+
 -- an act on the first counter
-module _ (v0 v1 v2 : View ℕ Bump ℕ) (p : ℕ) (e1 : v1 ≡ begun counters v0 First v1.seen)
+module _ (v0 : View ℕ Bump ℕ) {v1 v2 : View ℕ Bump ℕ} (p : ℕ) (e1 : v1 ≡ begun counters v0 First v1.seen)
     (e2 : v2 ≡ with_busy v2.busy (taken counters v1 0 p v2.seen)) where
   abbrev alone : View ℕ Bump ℕ
   alone = with_busy v2.busy (taken counters (begun counters v0 First v1.seen) 0 p v2.seen)
@@ -27,15 +32,18 @@ module _ (v0 v1 v2 : View ℕ Bump ℕ) (p : ℕ) (e1 : v1 ≡ begun counters v0
         second = refl;
       })
 
-  module _ (v3 : View ℕ Bump ℕ) (told : Committed counters v2 First p None v3) where
+  module _ {v3 : View ℕ Bump ℕ} (commits : Commits v2 v3) where
+    told : Committed counters v2 First p None v3
+    told = commits First p None first_out
+
     is_done : v3 ≡ done counters alone First p None v3.seen
     is_done = told.view ∙ ap (λ v. done counters v First p None v3.seen) is_alone
 
     pub first_named : In (0, more p) v3.held
     first_named = subst (λ v. In (0, more p) v.held) (sym is_done) (inl refl)
 
-    pub first_made : (v4 : View ℕ Bump ℕ) → v4 ≡ given v3 0 → v0.held ≡ [] → MadeOne First v0 v4
-    first_made v4 e4 empty =
+    pub first_made : {v4 : View ℕ Bump ℕ} → v4 ≡ given v3 0 → v0.held ≡ [] → MadeOne First v0 v4
+    first_made {v4} e4 empty =
         let whole : v4 ≡ given (done counters alone First p None v3.seen) 0 = e4 ∙ ap (λ v. given v 0) is_done in
         subst (λ v. MadeOne First v0 v) (sym whole)
         (record {
@@ -50,7 +58,7 @@ module _ (v0 v1 v2 : View ℕ Bump ℕ) (p : ℕ) (e1 : v1 ≡ begun counters v0
         })
 
 -- an act on both counters
-module _ (v0 v1 v2 : View ℕ Bump ℕ) (p : ℕ) (e1 : v1 ≡ begun counters v0 Both v1.seen)
+module _ (v0 : View ℕ Bump ℕ) {v1 v2 : View ℕ Bump ℕ} (p : ℕ) (e1 : v1 ≡ begun counters v0 Both v1.seen)
     (e2 : v2 ≡ with_busy v2.busy (taken counters v1 0 p v2.seen)) where
   abbrev one_out : View ℕ Bump ℕ
   one_out = with_busy v2.busy (taken counters (begun counters v0 Both v1.seen) 0 p v2.seen)
@@ -68,7 +76,7 @@ module _ (v0 v1 v2 : View ℕ Bump ℕ) (p : ℕ) (e1 : v1 ≡ begun counters v0
   pub second_free : v0.held ≡ [] → Holds v2 1 → ⊥
   second_free empty h = second_free_here empty (subst (λ v. Holds v 1) is_one h)
 
-  module _ (v3 : View ℕ Bump ℕ) (q : ℕ) (e3 : v3 ≡ with_busy v3.busy (taken counters v2 1 q v3.seen)) where
+  module _ {v3 : View ℕ Bump ℕ} (q : ℕ) (e3 : v3 ≡ with_busy v3.busy (taken counters v2 1 q v3.seen)) where
     abbrev two_out : View ℕ Bump ℕ
     two_out = with_busy v3.busy (taken counters one_out 1 q v3.seen)
 
@@ -84,22 +92,25 @@ module _ (v0 v1 v2 : View ℕ Bump ℕ) (p : ℕ) (e1 : v1 ≡ begun counters v0
           second = (q, refl, inl refl);
         })
 
-    module _ (v4 : View ℕ Bump ℕ) (told : Committed counters v3 Both p (Some q) v4) where
+    module _ {v4 : View ℕ Bump ℕ} (commits : Commits v3 v4) where
+      told_both : Committed counters v3 Both p (Some q) v4
+      told_both = commits Both p (Some q) both_out
+
       is_made : v4 ≡ done counters two_out Both p (Some q) v4.seen
-      is_made = told.view ∙ ap (λ v. done counters v Both p (Some q) v4.seen) is_two
+      is_made = told_both.view ∙ ap (λ v. done counters v Both p (Some q) v4.seen) is_two
 
       pub both_first_named : In (0, more p) v4.held
       both_first_named = subst (λ v. In (0, more p) v.held) (sym is_made) (inr (inl refl))
 
-      module _ (v5 : View ℕ Bump ℕ) (e5 : v5 ≡ given v4 0) where
+      module _ {v5 : View ℕ Bump ℕ} (e5 : v5 ≡ given v4 0) where
         is_left : v5 ≡ given (done counters two_out Both p (Some q) v4.seen) 0
         is_left = e5 ∙ ap (λ v. given v 0) is_made
 
         pub both_second_named : In (1, more q) v5.held
         both_second_named = subst (λ v. In (1, more q) v.held) (sym is_left) (inl refl)
 
-        pub both_made : (v6 : View ℕ Bump ℕ) → v6 ≡ given v5 1 → v0.held ≡ [] → MadeOne Both v0 v6
-        both_made v6 e6 empty =
+        pub both_made : {v6 : View ℕ Bump ℕ} → v6 ≡ given v5 1 → v0.held ≡ [] → MadeOne Both v0 v6
+        both_made {v6} e6 empty =
             let whole : v6 ≡ given (given (done counters two_out Both p (Some q) v4.seen) 0) 1 =
             e6 ∙ ap (λ v. given v 1) is_left in
             subst (λ v. MadeOne Both v0 v) (sym whole)

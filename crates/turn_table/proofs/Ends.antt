@@ -6,16 +6,14 @@ use Rattle.std.specs.declared.option.Option.{Option}
 use Rattle.std.specs.declared.option.Option.TheVariants.{Some}
 use mathlib.Core.Option.{some, some-injective, some-ne-none}
 use lib.ListN.{get_elem?}
-use Rattle.atomic_table.specs.Table.{Final, Seen}
 use Rattle.histories.specs.Core.{Core, Lawful}
 use Rattle.histories.specs.History.{state, Legal}
 use Rattle.histories.proofs.Parts.{get_within}
 use Rattle.histories.proofs.Histories.{length_state}
 use Rattle.turn_table.specs.declared.view.View.{View}
-use Rattle.turn_table.specs.Rule.{Ruled}
-use Rattle.turn_table.specs.Passes.{AllThere, AllJoined}
+use Rattle.turn_table.specs.Passes.{AllThere}
 use Rattle.turn_table.proofs.Among.{at_length}
-use Rattle.turn_table.proofs.Passing.{Closes, closes, split_lt}
+use Rattle.turn_table.proofs.Passing.{Closes, split_lt}
 
 pub zero_words : (n k : ℕ) → get_or {A = ℕ} (replicate n 0) k 0 ≡ 0
 zero_words n k =
@@ -56,12 +54,8 @@ module _ {T : Type 0} where
       let es : ys ≡ xs = same_all ys xs (omega arith) (λ k p g. h (suc k) p g) in
       λ i. d i ∷ es i
 
-module _ {P A R : Type 0} (c : Core P A R) (law : Lawful c) (opening : List P) (id : ℕ) (v : View P A R)
-    (words : List ℕ) (slots : List (Option P)) (live : v.live ≡ true) (first : v.number ≡ 0) (empty : v.held ≡ [])
-    (all_joined : AllJoined v) (last : Final (Seen (Ruled c opening) id v) words slots) where
-  pub closed : Closes c law opening v slots
-  closed = closes c law opening id v words slots live first empty all_joined last
-
+module _ {P A R : Type 0} {c : Core P A R} {law : Lawful c} {opening : List P} {v : View P A R}
+    {slots : List (Option P)} (closed : Closes c law opening v slots) where
   long_state : length (state c opening v.seen) ≡ length slots
   long_state = length_state c opening v.seen ∙ sym closed.long
 

@@ -1,34 +1,24 @@
 use Rattle.std.proofs.Common.{sym, ap, ◌∙◌}
-use Rattle.turn_chain.proofs.Going.{since_trans, since_begun, since_taken, second_free, ok_since, err_since}
+use Rattle.turn_chain.proofs.Going.{since_first, since_second, second_free, ok_since, err_since}
 use Rattle.turn_chain.proofs.chain.run.Goals as goal
 
 pub returns-in_default-clause-ok : goal.returns-in_default-clause-ok
 returns-in_default-clause-ok g c =
-    let b = c.begin.ensures in
-    let t = c.take-value.ensures in
-    let u = c.begin.new.pass.view in
-    let w = c.take-value.new.pass.view in
-    let v = c.args.pass.now.view in
-    let a = c.args.act.now in
-    let core = g.S.Served.core in
     let once =
-    since_trans v u w (since_begun core v u a b.begun b.seen)
-    (since_taken core u w c.first_part-first.result c.take-value.result w.busy t.taken t.seen) in
-    ok_since core v w c.alone.new.pass.view a once c.alone.result c.alone.new.reply c.alone.ensures.ok
+    since_first g.S.Served.core c.args.pass.now.view c.begin.new.pass.view c.take-value.new.pass.view c.args.act.now
+    c.first_part-first.result c.take-value.result c.take-value.new.pass.view.busy c.begin.ensures.begun
+    c.begin.ensures.seen c.take-value.ensures.taken c.take-value.ensures.seen in
+    ok_since g.S.Served.core c.args.pass.now.view c.take-value.new.pass.view c.alone.new.pass.view c.args.act.now once
+    c.alone.result c.alone.new.reply c.alone.ensures.ok
 
 pub returns-in_default-clause-err : goal.returns-in_default-clause-err
 returns-in_default-clause-err g c =
-    let b = c.begin.ensures in
-    let t = c.take-value.ensures in
-    let u = c.begin.new.pass.view in
-    let w = c.take-value.new.pass.view in
-    let v = c.args.pass.now.view in
-    let a = c.args.act.now in
-    let core = g.S.Served.core in
     let once =
-    since_trans v u w (since_begun core v u a b.begun b.seen)
-    (since_taken core u w c.first_part-first.result c.take-value.result w.busy t.taken t.seen) in
-    err_since core v w c.alone.new.pass.view a once c.alone.result c.alone.ensures.err
+    since_first g.S.Served.core c.args.pass.now.view c.begin.new.pass.view c.take-value.new.pass.view c.args.act.now
+    c.first_part-first.result c.take-value.result c.take-value.new.pass.view.busy c.begin.ensures.begun
+    c.begin.ensures.seen c.take-value.ensures.taken c.take-value.ensures.seen in
+    err_since g.S.Served.core c.args.pass.now.view c.take-value.new.pass.view c.alone.new.pass.view c.args.act.now once
+    c.alone.result c.alone.ensures.err
 
 pub take-value-requires-2-clause-not_held : goal.take-value-requires-2-clause-not_held
 take-value-requires-2-clause-not_held g c κs within =
@@ -44,36 +34,22 @@ take-value-requires-2-clause-not_held g c κs within =
 
 pub returns-clause-ok : goal.returns-clause-ok
 returns-clause-ok g c =
-    let b = c.begin.ensures in
-    let t = c.take-value.ensures in
-    let u = c.begin.new.pass.view in
-    let w = c.take-value.new.pass.view in
-    let v = c.args.pass.now.view in
-    let a = c.args.act.now in
-    let core = g.S.Served.core in
-    let once =
-    since_trans v u w (since_begun core v u a b.begun b.seen)
-    (since_taken core u w c.first_part-first.result c.take-value.result w.busy t.taken t.seen) in
-    let x = c.take-value-2.new.pass.view in
-    let d = c.take-value-2.ensures in
     let twice =
-    since_trans v w x once (since_taken core w x c.in-Some.second c.take-value-2.result x.busy d.taken d.seen) in
-    ok_since core v x c.together.new.pass.view a twice c.together.result c.together.new.reply c.together.ensures.ok
+    since_second g.S.Served.core c.args.pass.now.view c.begin.new.pass.view c.take-value.new.pass.view c.args.act.now
+    c.first_part-first.result c.take-value.result c.take-value.new.pass.view.busy c.begin.ensures.begun
+    c.begin.ensures.seen c.take-value.ensures.taken c.take-value.ensures.seen c.take-value-2.new.pass.view
+    c.in-Some.second c.take-value-2.result c.take-value-2.new.pass.view.busy c.take-value-2.ensures.taken
+    c.take-value-2.ensures.seen in
+    ok_since g.S.Served.core c.args.pass.now.view c.take-value-2.new.pass.view c.together.new.pass.view c.args.act.now
+    twice c.together.result c.together.new.reply c.together.ensures.ok
 
 pub returns-clause-err : goal.returns-clause-err
 returns-clause-err g c =
-    let b = c.begin.ensures in
-    let t = c.take-value.ensures in
-    let u = c.begin.new.pass.view in
-    let w = c.take-value.new.pass.view in
-    let v = c.args.pass.now.view in
-    let a = c.args.act.now in
-    let core = g.S.Served.core in
-    let once =
-    since_trans v u w (since_begun core v u a b.begun b.seen)
-    (since_taken core u w c.first_part-first.result c.take-value.result w.busy t.taken t.seen) in
-    let x = c.take-value-2.new.pass.view in
-    let d = c.take-value-2.ensures in
     let twice =
-    since_trans v w x once (since_taken core w x c.in-Some.second c.take-value-2.result x.busy d.taken d.seen) in
-    err_since core v x c.together.new.pass.view a twice c.together.result c.together.ensures.err
+    since_second g.S.Served.core c.args.pass.now.view c.begin.new.pass.view c.take-value.new.pass.view c.args.act.now
+    c.first_part-first.result c.take-value.result c.take-value.new.pass.view.busy c.begin.ensures.begun
+    c.begin.ensures.seen c.take-value.ensures.taken c.take-value.ensures.seen c.take-value-2.new.pass.view
+    c.in-Some.second c.take-value-2.result c.take-value-2.new.pass.view.busy c.take-value-2.ensures.taken
+    c.take-value-2.ensures.seen in
+    err_since g.S.Served.core c.args.pass.now.view c.take-value-2.new.pass.view c.together.new.pass.view c.args.act.now
+    twice c.together.result c.together.ensures.err

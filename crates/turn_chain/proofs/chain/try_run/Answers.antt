@@ -1,20 +1,16 @@
 use Rattle.std.proofs.Common.{sym, ap, ◌∙◌}
 use Rattle.turn_chain.specs.Chain.{HasNotRun}
-use Rattle.turn_chain.proofs.Going.{since_trans, since_begun, since_taken, second_free, ran_since, unmade_since, on_err, same_busy, came_busy, idle_given, same_given, came_given}
+use Rattle.turn_chain.proofs.Going.{since_first, since_second, second_free, ran_since, unmade_since, on_err, same_busy, came_busy, idle_given, same_given, came_given}
 use Rattle.turn_chain.proofs.chain.try_run.Goals as goal
 
 pub returns-in_default-second-clause-ok : goal.returns-in_default-second-clause-ok
 returns-in_default-second-clause-ok g c =
-    let core = g.S.Served.core in
-    let v = c.args.pass.now.view in
-    let u = c.begin.new.pass.view in
-    let w = c.try_take.new.pass.view in
-    let b = c.begin.ensures in
-    let t = c.in-Some.ensures in
     let once =
-    since_trans v u w (since_begun core v u c.args.act b.begun b.seen)
-    (since_taken core u w c.first_part-first.result c.in-Some.value u.busy t.taken t.seen) in
-    ran_since core v w c.alone.new.pass.view c.args.act c.alone.new.reply once c.in_ok-alone.ensures.ok
+    since_first g.S.Served.core c.args.pass.now.view c.begin.new.pass.view c.try_take.new.pass.view c.args.act
+    c.first_part-first.result c.in-Some.value c.begin.new.pass.view.busy c.begin.ensures.begun c.begin.ensures.seen
+    c.in-Some.ensures.taken c.in-Some.ensures.seen in
+    ran_since g.S.Served.core c.args.pass.now.view c.try_take.new.pass.view c.alone.new.pass.view c.args.act
+    c.alone.new.reply once c.in_ok-alone.ensures.ok
 
 pub try_take-requires-2-clause-not_held : goal.try_take-requires-2-clause-not_held
 try_take-requires-2-clause-not_held g c κs within =
@@ -31,21 +27,14 @@ try_take-requires-2-clause-not_held g c κs within =
 
 pub returns-clause-ok : goal.returns-clause-ok
 returns-clause-ok g c =
-    let core = g.S.Served.core in
-    let v = c.args.pass.now.view in
-    let u = c.begin.new.pass.view in
-    let w = c.try_take.new.pass.view in
-    let b = c.begin.ensures in
-    let t = c.in-Some.ensures in
-    let once =
-    since_trans v u w (since_begun core v u c.args.act b.begun b.seen)
-    (since_taken core u w c.first_part-first.result c.in-Some.value u.busy t.taken t.seen) in
-    let x = c.try_take-2.new.pass.view in
-    let d = c.in-Some-try_take.ensures in
     let twice =
-    since_trans v w x once
-    (since_taken core w x c.in-Some-second.second c.in-Some-try_take.value w.busy d.taken d.seen) in
-    ran_since core v x c.together.new.pass.view c.args.act c.together.new.reply twice c.in_ok-together.ensures.ok
+    since_second g.S.Served.core c.args.pass.now.view c.begin.new.pass.view c.try_take.new.pass.view c.args.act
+    c.first_part-first.result c.in-Some.value c.begin.new.pass.view.busy c.begin.ensures.begun c.begin.ensures.seen
+    c.in-Some.ensures.taken c.in-Some.ensures.seen c.try_take-2.new.pass.view c.in-Some-second.second
+    c.in-Some-try_take.value c.try_take.new.pass.view.busy c.in-Some-try_take.ensures.taken
+    c.in-Some-try_take.ensures.seen in
+    ran_since g.S.Served.core c.args.pass.now.view c.try_take-2.new.pass.view c.together.new.pass.view c.args.act
+    c.together.new.reply twice c.in_ok-together.ensures.ok
 
 pub returns-in_default-clause-same : goal.returns-in_default-clause-same
 returns-in_default-clause-same g c =
@@ -60,17 +49,13 @@ returns-in_default-clause-ok g c =
 
 pub returns-in_err-alone-clause-err : goal.returns-in_err-alone-clause-err
 returns-in_err-alone-clause-err g c =
-    let core = g.S.Served.core in
-    let v = c.args.pass.now.view in
-    let u = c.begin.new.pass.view in
-    let w = c.try_take.new.pass.view in
-    let b = c.begin.ensures in
-    let t = c.in-Some.ensures in
     let once =
-    since_trans v u w (since_begun core v u c.args.act b.begun b.seen)
-    (since_taken core u w c.first_part-first.result c.in-Some.value u.busy t.taken t.seen) in
-    on_err c.from_residual.result (HasNotRun core v c.alone.new.pass.view)
-    (unmade_since core v w c.alone.new.pass.view once c.in_err-alone.ensures.err)
+    since_first g.S.Served.core c.args.pass.now.view c.begin.new.pass.view c.try_take.new.pass.view c.args.act
+    c.first_part-first.result c.in-Some.value c.begin.new.pass.view.busy c.begin.ensures.begun c.begin.ensures.seen
+    c.in-Some.ensures.taken c.in-Some.ensures.seen in
+    on_err c.from_residual.result (HasNotRun g.S.Served.core c.args.pass.now.view c.alone.new.pass.view)
+    (unmade_since g.S.Served.core c.args.pass.now.view c.try_take.new.pass.view c.alone.new.pass.view once
+    c.in_err-alone.ensures.err)
 
 pub returns-in_default-try_take-clause-idle : goal.returns-in_default-try_take-clause-idle
 returns-in_default-try_take-clause-idle g c =
@@ -105,19 +90,13 @@ returns-in_default-try_take-clause-ok g c =
 
 pub returns-in_err-together-clause-err : goal.returns-in_err-together-clause-err
 returns-in_err-together-clause-err g c =
-    let core = g.S.Served.core in
-    let v = c.args.pass.now.view in
-    let u = c.begin.new.pass.view in
-    let w = c.try_take.new.pass.view in
-    let x = c.try_take-2.new.pass.view in
-    let b = c.begin.ensures in
-    let t = c.in-Some.ensures in
-    let d = c.in-Some-try_take.ensures in
-    let once =
-    since_trans v u w (since_begun core v u c.args.act b.begun b.seen)
-    (since_taken core u w c.first_part-first.result c.in-Some.value u.busy t.taken t.seen) in
     let twice =
-    since_trans v w x once
-    (since_taken core w x c.in-Some-second.second c.in-Some-try_take.value w.busy d.taken d.seen) in
-    on_err c.from_residual-in_err-together.result (HasNotRun core v c.together.new.pass.view)
-    (unmade_since core v x c.together.new.pass.view twice c.in_err-together.ensures.err)
+    since_second g.S.Served.core c.args.pass.now.view c.begin.new.pass.view c.try_take.new.pass.view c.args.act
+    c.first_part-first.result c.in-Some.value c.begin.new.pass.view.busy c.begin.ensures.begun c.begin.ensures.seen
+    c.in-Some.ensures.taken c.in-Some.ensures.seen c.try_take-2.new.pass.view c.in-Some-second.second
+    c.in-Some-try_take.value c.try_take.new.pass.view.busy c.in-Some-try_take.ensures.taken
+    c.in-Some-try_take.ensures.seen in
+    on_err c.from_residual-in_err-together.result
+    (HasNotRun g.S.Served.core c.args.pass.now.view c.together.new.pass.view)
+    (unmade_since g.S.Served.core c.args.pass.now.view c.try_take-2.new.pass.view c.together.new.pass.view twice
+    c.in_err-together.ensures.err)
