@@ -22,12 +22,12 @@ pub record FoundPartBusy (old : PassState) (timed : Timed) (number : ℕ) (new :
   pub last : new.busy ≡ old.busy ++ number ∷ []
 
 -- an act that waited for nobody was answered, or it made no entry and comes back
-abbrev pub ActCameTo : PassState → Timed → ServerRan → PassState → Type 0
+abbrev pub ActCameTo : PassState → Timed → Ran → PassState → Type 0
 ActCameTo old timed (Done reply) new = IsAnswered (runs_of old) timed reply (runs_of new)
 ActCameTo old timed (Busy number act) new =
     Made (runs_of old) [] (runs_of new) × (act ≡ timed.act) × FoundPartBusy old timed number new
 
 -- what the chain of an act came to, with the reply where it was made, and without the moment of an act that comes back
-abbrev pub ran_of : Tried Timed → Reply → ServerRan
+abbrev pub ran_of : Tried Timed → Reply → Ran
 ran_of tried.Done reply = Done reply
 ran_of (tried.Busy number timed) reply = Busy number timed.act
