@@ -3,8 +3,8 @@
 use fics_words::{Fail, Refusal};
 use memory::{Duplicate, NoMemory};
 use observer_feed::{Backlog, Feed};
-use std::test::Fail as TestFail;
-use test_steps::assert_rows;
+use std::alloc::Global;
+use test_steps::first_wrong;
 
 /// What is told, by its number.
 #[derive(Drop)]
@@ -153,9 +153,17 @@ fn is_as_expected(feed: &mut Feed<Said>, step: &Step) -> bool {
     }
 }
 
+/// The place of the first step that answers otherwise, if one does.
+fn first_failing(feed: &mut Feed<Said>) -> Option<usize> {
+    first_wrong!(STEPS, |step| is_as_expected(feed, step))
+}
+
+fn first_failing_anew(alloc: Global) -> Option<usize> {
+    let mut feed = Feed::new(alloc);
+    first_failing(&mut feed)
+}
+
 #[test]
-fn viewers_are_given_each_item_once(rt: HostRuntime) -> Result<(), TestFail> {
-    let mut feed = Feed::new(rt.alloc());
-    assert_rows!(rt; STEPS, |step| is_as_expected(&mut feed, step));
-    Ok(())
+fn viewers_are_given_each_item_once(rt: HostRuntime) {
+    assert_eq!(rt; first_failing_anew(rt.alloc()), None);
 }

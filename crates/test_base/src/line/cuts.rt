@@ -1,7 +1,7 @@
 //! Inputs that are cut after every byte: a line of the greatest length, a longer one and the line behind them, and
 //! inputs that end in the middle of something.
 
-use crate::line::telling::{told, told_by_bytes};
+use crate::line::telling::{Feeding, is_told};
 use memory::NoMemory;
 use std::alloc::Global;
 use std::test::Fail;
@@ -79,14 +79,25 @@ const ROWS: &[Row] = &[
     },
 ];
 
-/// The bytes of the parts one after the other.
-fn bytes_of(alloc: Global, parts: &[Part]) -> Result<Vec<u8>, NoMemory> {
-    let mut bytes = Vec::new(alloc);
+/// Puts the bytes of the parts one after the other.
+fn put_parts(bytes: &mut Vec<u8>, parts: &[Part]) -> Result<(), NoMemory> {
     for part in parts {
-        let letters = vec![in alloc; b'x'; part.0]?;
-        bytes.extend_from_slice(letters.as_slice())?;
+        put_letters(bytes, part.0)?;
         bytes.extend_from_slice(part.1)?;
     }
+    Ok(())
+}
+
+fn put_letters(bytes: &mut Vec<u8>, count: usize) -> Result<(), NoMemory> {
+    for _letter in 0..count {
+        bytes.push(b'x')?;
+    }
+    Ok(())
+}
+
+fn bytes_of(alloc: Global, parts: &[Part]) -> Result<Vec<u8>, NoMemory> {
+    let mut bytes = Vec::new(alloc);
+    put_parts(&mut bytes, parts)?;
     Ok(bytes)
 }
 
@@ -94,19 +105,29 @@ fn bytes_of(alloc: Global, parts: &[Part]) -> Result<Vec<u8>, NoMemory> {
 /// byte.
 fn first_wrong_cut(alloc: Global, row: &Row) -> Result<Option<usize>, NoMemory> {
     let input = bytes_of(alloc, row.input)?;
+    first_wrong_cut_of(alloc, &input, row)
+}
+
+fn first_wrong_cut_of(alloc: Global, input: &[u8], row: &Row) -> Result<Option<usize>, NoMemory> {
     let lines = bytes_of(alloc, row.lines)?;
-    for cut in row.from..=input.len() {
-        if !is_told(alloc, input.as_slice(), cut, lines.as_slice())? {
+    first_wrong_from(alloc, input, row.from, &lines)
+}
+
+fn first_wrong_from(
+    alloc: Global,
+    input: &[u8],
+    from: usize,
+    lines: &[u8],
+) -> Result<Option<usize>, NoMemory> {
+    for cut in from..=input.len() {
+        if !is_told(alloc, input, Feeding::Cut(cut), lines)? {
             return Ok(Some(cut));
         }
     }
-    let given = told_by_bytes(alloc, input.as_slice())?;
-    Ok((given.as_slice() != lines.as_slice()).then_some(usize::MAX))
-}
-
-fn is_told(alloc: Global, input: &[u8], cut: usize, lines: &[u8]) -> Result<bool, NoMemory> {
-    let given = told(alloc, input, cut)?;
-    Ok(given.as_slice() == lines)
+    if !is_told(alloc, input, Feeding::ByteByByte, lines)? {
+        return Ok(Some(usize::MAX));
+    }
+    Ok(None)
 }
 
 #[test]

@@ -1,6 +1,6 @@
 //! Long lines, and blocks and lines that never end.
 
-use crate::line::telling::{drain, told};
+use crate::line::telling::{Feeding, feed, is_told, told};
 use line_reader::LineReader;
 use memory::NoMemory;
 use std::alloc::Global;
@@ -22,28 +22,33 @@ const ROWS: &[Row] = &[
     (1_033, b"\x80\nb\n", 1_030, b"L\nPb\n"),
 ];
 
-/// The lines of so many letters with a text behind them.
-fn lines_of(alloc: Global, count: usize, behind: &[u8], cut: usize) -> Result<Vec<u8>, NoMemory> {
+/// So many letters with a text behind them.
+fn long_text(alloc: Global, count: usize, behind: &[u8]) -> Result<Vec<u8>, NoMemory> {
     let mut text = vec![in alloc; b'a'; count]?;
     text.extend_from_slice(behind)?;
-    told(alloc, &text, cut)
+    Ok(text)
 }
 
 /// Whether so many letters with a text behind them have these lines.
-fn is_told(alloc: Global, row: &Row) -> Result<bool, NoMemory> {
-    let given = lines_of(alloc, row.0, row.1, row.2)?;
-    Ok(given.as_slice() == row.3)
+fn is_row_told(alloc: Global, row: &Row) -> Result<bool, NoMemory> {
+    let text = long_text(alloc, row.0, row.1)?;
+    is_told(alloc, &text, Feeding::Cut(row.2), row.3)
 }
 
 #[test]
 fn long_lines(rt: HostRuntime) -> Result<(), Fail> {
-    assert_rows!(rt; ROWS, |row| is_told(rt.alloc(), row)?);
+    assert_rows!(rt; ROWS, |row| is_row_told(rt.alloc(), row)?);
     Ok(())
 }
 
 /// Whether the longest line is read: a letter, its text, and the line behind it.
 fn is_longest_read(alloc: Global) -> Result<bool, NoMemory> {
-    let lines = lines_of(alloc, LINE_BYTES, b"\nb\n", 500)?;
+    let text = long_text(alloc, LINE_BYTES, b"\nb\n")?;
+    is_longest(alloc, &text)
+}
+
+fn is_longest(alloc: Global, text: &[u8]) -> Result<bool, NoMemory> {
+    let lines = told(alloc, text, Feeding::Cut(500))?;
     Ok(lines.len() == 1_028 && lines.as_slice().starts_with(b"Pa"))
 }
 
@@ -57,48 +62,60 @@ const LETTERS: &[u8] = &[b'a'; 1_024];
 
 const FEEDS: &[u8] = &[b'\n'; 1_024];
 
-/// Feeds a piece so often, and takes the lines that have come each time: three at most.
-fn feeds_over(
-    reader: &mut LineReader,
-    piece: &[u8],
+/// A piece that comes so often on a link, what stands before and behind, and the lines: a `|` tells where the piece ends.
+struct Endless {
+    front: &'static [u8],
+    piece: &'static [u8],
     turns: usize,
-    lines: &mut Vec<u8>,
-) -> Result<(), NoMemory> {
-    for _turn in 0..turns {
-        reader.feed(piece)?;
-        drain(reader, 3, lines)?;
-    }
-    Ok(())
+    end: &'static [u8],
+    lines: &'static [u8],
 }
 
-/// The lines of a link on which a piece comes so often behind a front, a `|`, and those that come behind the end.
-fn endless(
-    alloc: Global,
-    front: &[u8],
-    piece: &[u8],
-    turns: usize,
-    end: &[u8],
-) -> Result<Vec<u8>, NoMemory> {
-    let mut lines = Vec::new(alloc);
-    let mut reader = LineReader::new(alloc)?;
-    feeds_over(&mut reader, front, 1, &mut lines)?;
-    feeds_over(&mut reader, piece, turns, &mut lines)?;
+const LINE: Endless = Endless {
+    front: b"",
+    piece: LETTERS,
+    turns: 10_000,
+    end: b"\nb\n",
+    lines: b"|L\nPb\n",
+};
+
+const BLOCK: Endless = Endless {
+    front: b"a\xFF\xFA",
+    piece: FEEDS,
+    turns: 1_000,
+    end: b"\xFF\xFF\xF0\xFF\xF0b\n",
+    lines: b"|Pab\n",
+};
+
+/// Feeds what comes on the link, and takes the lines that have come each time: three at most.
+fn feed_link(reader: &mut LineReader, link: &Endless, lines: &mut Vec<u8>) -> Result<(), NoMemory> {
+    feed(reader, link.front, 3, lines)?;
+    for _turn in 0..link.turns {
+        feed(reader, link.piece, 3, lines)?;
+    }
     lines.push(b'|')?;
-    feeds_over(&mut reader, end, 1, &mut lines)?;
-    Ok(lines)
+    feed(reader, link.end, 3, lines)
+}
+
+fn put_lines(alloc: Global, link: &Endless, lines: &mut Vec<u8>) -> Result<(), NoMemory> {
+    let mut reader = LineReader::new(alloc)?;
+    feed_link(&mut reader, link, lines)
+}
+
+fn has_its_lines(alloc: Global, link: &Endless) -> Result<bool, NoMemory> {
+    let mut lines = Vec::new(alloc);
+    put_lines(alloc, link, &mut lines)?;
+    Ok(lines.as_slice() == link.lines)
 }
 
 #[test]
 fn endless_line(rt: HostRuntime) -> Result<(), Fail> {
-    let lines = endless(rt.alloc(), b"", LETTERS, 10_000, b"\nb\n")?;
-    assert_eq!(rt; lines.as_slice(), b"|L\nPb\n".as_slice());
+    assert!(rt; has_its_lines(rt.alloc(), &LINE)?);
     Ok(())
 }
 
 #[test]
 fn endless_block(rt: HostRuntime) -> Result<(), Fail> {
-    let end = b"\xFF\xFF\xF0\xFF\xF0b\n";
-    let lines = endless(rt.alloc(), b"a\xFF\xFA", FEEDS, 1_000, end)?;
-    assert_eq!(rt; lines.as_slice(), b"|Pab\n".as_slice());
+    assert!(rt; has_its_lines(rt.alloc(), &BLOCK)?);
     Ok(())
 }

@@ -1,6 +1,6 @@
 //! The same lines, however the bytes are cut.
 
-use crate::line::telling::{lines_by_bytes, told, whole_lines};
+use crate::line::telling::{Feeding, has_lines, is_told};
 use memory::NoMemory;
 use std::alloc::Global;
 use std::test::Fail;
@@ -40,12 +40,10 @@ const ROWS: &[Row] = &[
 
 /// Where the row, cut in two, has other lines, if there is such a place.
 fn first_wrong_cut(alloc: Global, row: &(&[u8], &[u8])) -> Result<Option<usize>, NoMemory> {
-    Ok(least_wrong!(0..=row.0.len(), |cut| is_told(alloc, row.0, cut, row.1)?))
-}
-
-fn is_told(alloc: Global, bytes: &[u8], cut: usize, lines: &[u8]) -> Result<bool, NoMemory> {
-    let given = told(alloc, bytes, cut)?;
-    Ok(given.as_slice() == lines)
+    Ok(least_wrong!(
+        0..=row.0.len(),
+        |cut| is_told(alloc, row.0, Feeding::Cut(cut), row.1)?
+    ))
 }
 
 #[test]
@@ -72,34 +70,33 @@ const SESSION: &[(&[u8], &[u8])] = &[
     (b"\xFF\xF9quit\n", b"Pquit\n"),
 ];
 
-/// The bytes, or the lines, of the parts that end within the first `end` bytes.
-fn parts(alloc: Global, lines: bool, end: usize) -> Result<Vec<u8>, NoMemory> {
-    let mut given = Vec::new(alloc);
+/// Puts the bytes, or the lines, of the parts that end within the first `end` bytes.
+fn put_parts(given: &mut Vec<u8>, lines: bool, end: usize) -> Result<(), NoMemory> {
     let mut left = end;
     for (bytes, line) in SESSION {
         if bytes.len() > left {
-            return Ok(given);
+            return Ok(());
         }
         left -= bytes.len();
         given.extend_from_slice(if lines { line } else { bytes })?;
     }
+    Ok(())
+}
+
+fn parts(alloc: Global, lines: bool, end: usize) -> Result<Vec<u8>, NoMemory> {
+    let mut given = Vec::new(alloc);
+    put_parts(&mut given, lines, end)?;
     Ok(given)
 }
 
 /// Whether the lines of this text are those, fed in two pieces, however it is cut, and byte by byte.
 fn are_lines(alloc: Global, text: &[u8], lines: &[u8]) -> Result<bool, NoMemory> {
     for cut in 0..=text.len() {
-        if !are_lines_cut(alloc, text, cut, lines)? {
+        if !has_lines(alloc, text, Feeding::Cut(cut), lines)? {
             return Ok(false);
         }
     }
-    let given = lines_by_bytes(alloc, text)?;
-    Ok(given.as_slice() == lines)
-}
-
-fn are_lines_cut(alloc: Global, text: &[u8], cut: usize, lines: &[u8]) -> Result<bool, NoMemory> {
-    let given = whole_lines(alloc, text, cut)?;
-    Ok(given.as_slice() == lines)
+    has_lines(alloc, text, Feeding::ByteByByte, lines)
 }
 
 /// Whether the first `end` bytes of a text give the lines of the parts that end in them.

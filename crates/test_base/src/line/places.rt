@@ -1,6 +1,6 @@
 //! Each byte at each place of a line.
 
-use crate::line::telling::told;
+use crate::line::telling::{Feeding, told};
 use memory::NoMemory;
 use std::alloc::Global;
 use std::test::Fail;
@@ -68,7 +68,7 @@ fn is_read(alloc: Global, place: usize, byte: u8) -> Result<bool, NoMemory> {
     if let Some(letter) = text.get_mut(place) {
         *letter = byte;
     }
-    let lines = told(alloc, &text, place)?;
+    let lines = told(alloc, &text, Feeding::Cut(place))?;
     Ok(are_right(&lines, place, byte))
 }
 

@@ -5,64 +5,70 @@ use line_reader::{Incoming, LineReader};
 use memory::NoMemory;
 use std::alloc::Global;
 
-/// The lines of `text`, which is fed in two pieces, and then the rest behind a `>`.
-pub fn told(alloc: Global, text: &[u8], cut: usize) -> Result<Vec<u8>, NoMemory> {
+/// How a text is fed.
+#[derive(Clone, Copy)]
+pub enum Feeding {
+    /// In two pieces, the second from a place on.
+    Cut(usize),
+    ByteByByte,
+}
+
+/// The lines of a text, and then the rest behind a `>`.
+pub fn told(alloc: Global, text: &[u8], feeding: Feeding) -> Result<Vec<u8>, NoMemory> {
     let mut told = Vec::new(alloc);
-    let mut reader = LineReader::new(alloc)?;
-    tell_all(&mut reader, text, cut, &mut told)?;
+    tell_text(alloc, text, feeding, true, &mut told)?;
     Ok(told)
+}
+
+/// Whether a text is told so.
+pub fn is_told(
+    alloc: Global,
+    text: &[u8],
+    feeding: Feeding,
+    lines: &[u8],
+) -> Result<bool, NoMemory> {
+    let told = told(alloc, text, feeding)?;
+    Ok(told.as_slice() == lines)
+}
+
+/// Whether the whole lines of a text are told so.
+pub fn has_lines(
+    alloc: Global,
+    text: &[u8],
+    feeding: Feeding,
+    lines: &[u8],
+) -> Result<bool, NoMemory> {
+    let mut told = Vec::new(alloc);
+    tell_text(alloc, text, feeding, false, &mut told)?;
+    Ok(told.as_slice() == lines)
+}
+
+fn tell_text(
+    alloc: Global,
+    text: &[u8],
+    feeding: Feeding,
+    with_rest: bool,
+    told: &mut Vec<u8>,
+) -> Result<(), NoMemory> {
+    let mut reader = LineReader::new(alloc)?;
+    tell_all(&mut reader, text, feeding, with_rest, told)
 }
 
 fn tell_all(
     reader: &mut LineReader,
     text: &[u8],
-    cut: usize,
+    feeding: Feeding,
+    with_rest: bool,
     told: &mut Vec<u8>,
 ) -> Result<(), NoMemory> {
-    feed_cut(reader, text, cut, told)?;
-    match reader.rest()? {
-        Some(rest) => tell_rest(&rest, told),
-        None => Ok(()),
+    match feeding {
+        Feeding::Cut(cut) => feed_cut(reader, text, cut, told)?,
+        Feeding::ByteByByte => feed_bytes(reader, text, told)?,
     }
-}
-
-fn tell_rest(rest: &Incoming, told: &mut Vec<u8>) -> Result<(), NoMemory> {
-    told.push(b'>')?;
-    tell(rest, told)
-}
-
-/// The lines of `text`, which is fed byte by byte, and then the rest behind a `>`.
-pub fn told_by_bytes(alloc: Global, text: &[u8]) -> Result<Vec<u8>, NoMemory> {
-    let mut told = Vec::new(alloc);
-    let mut reader = LineReader::new(alloc)?;
-    for byte in text {
-        reader.feed(&[*byte])?;
-        drain(&mut reader, 2, &mut told)?;
+    if with_rest {
+        tell_rest(reader, told)?;
     }
-    match reader.rest()? {
-        Some(rest) => tell_rest(&rest, &mut told)?,
-        None => {}
-    }
-    Ok(told)
-}
-
-/// The whole lines of `text`, which is fed in two pieces.
-pub fn whole_lines(alloc: Global, text: &[u8], cut: usize) -> Result<Vec<u8>, NoMemory> {
-    let mut told = Vec::new(alloc);
-    let mut reader = LineReader::new(alloc)?;
-    feed_cut(&mut reader, text, cut, &mut told)?;
-    Ok(told)
-}
-
-/// The whole lines of `text`, which is fed byte by byte.
-pub fn lines_by_bytes(alloc: Global, text: &[u8]) -> Result<Vec<u8>, NoMemory> {
-    let mut told = Vec::new(alloc);
-    let mut reader = LineReader::new(alloc)?;
-    for byte in text {
-        reader.feed(&[*byte])?;
-        drain(&mut reader, 2, &mut told)?;
-    }
-    Ok(told)
+    Ok(())
 }
 
 fn feed_cut(
@@ -72,21 +78,52 @@ fn feed_cut(
     told: &mut Vec<u8>,
 ) -> Result<(), NoMemory> {
     let (front, back) = text.split_at(cut.min(text.len()));
-    reader.feed(front)?;
-    drain(reader, front.len(), told)?;
-    reader.feed(back)?;
-    drain(reader, text.len(), told)
+    feed(reader, front, front.len(), told)?;
+    feed(reader, back, text.len(), told)
 }
 
-/// Takes the lines that have come: at most `most`, and `None` behind them.
-pub fn drain(reader: &mut LineReader, most: usize, told: &mut Vec<u8>) -> Result<(), NoMemory> {
-    for _turn in 0..most {
-        let Some(incoming) = reader.next()? else {
-            return Ok(());
-        };
-        tell(&incoming, told)?;
+fn feed_bytes(reader: &mut LineReader, text: &[u8], told: &mut Vec<u8>) -> Result<(), NoMemory> {
+    for byte in text {
+        feed(reader, &[*byte], 2, told)?;
     }
     Ok(())
+}
+
+/// Feeds a piece, and takes the lines that have come: at most `most`, and `None` behind them.
+pub fn feed(
+    reader: &mut LineReader,
+    piece: &[u8],
+    most: usize,
+    told: &mut Vec<u8>,
+) -> Result<(), NoMemory> {
+    reader.feed(piece)?;
+    for _turn in 0..most {
+        if !tell_next(reader, told)? {
+            return Ok(());
+        }
+    }
+    Ok(())
+}
+
+/// Tells the next line, and says whether there is one.
+fn tell_next(reader: &mut LineReader, told: &mut Vec<u8>) -> Result<bool, NoMemory> {
+    let next = reader.next()?;
+    tell_found(&next, b"", told)
+}
+
+fn tell_rest(reader: &LineReader, told: &mut Vec<u8>) -> Result<bool, NoMemory> {
+    let rest = reader.rest()?;
+    tell_found(&rest, b">", told)
+}
+
+/// Tells a line behind a mark, where there is one.
+fn tell_found(found: &Option<Incoming>, mark: &[u8], told: &mut Vec<u8>) -> Result<bool, NoMemory> {
+    let Some(incoming) = found else {
+        return Ok(false);
+    };
+    told.extend_from_slice(mark)?;
+    tell(incoming, told)?;
+    Ok(true)
 }
 
 fn tell(incoming: &Incoming, told: &mut Vec<u8>) -> Result<(), NoMemory> {

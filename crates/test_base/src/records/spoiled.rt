@@ -118,10 +118,23 @@ fn is_whole(alloc: Global, text: &[u8]) -> Result<bool, NoMemory> {
             return Ok(false);
         }
     }
+    if !is_same(alloc, text)? {
+        return Ok(false);
+    }
+    is_nothing_lengthened(alloc, text)
+}
+
+fn is_nothing_lengthened(alloc: Global, text: &[u8]) -> Result<bool, NoMemory> {
     let mut longer = Vec::new(alloc);
-    longer.extend_from_slice(text)?;
-    longer.push(0)?;
-    Ok(is_same(alloc, text)? && is_nothing(alloc, &longer)?)
+    put_lengthened(&mut longer, text)?;
+    is_nothing(alloc, &longer)
+}
+
+/// Puts the text with a byte behind it.
+fn put_lengthened(bytes: &mut Vec<u8>, text: &[u8]) -> Result<(), NoMemory> {
+    bytes.extend_from_slice(text)?;
+    bytes.push(0)?;
+    Ok(())
 }
 
 #[test]
@@ -132,18 +145,30 @@ fn cut_and_lengthened(rt: HostRuntime) -> Result<(), Fail> {
 
 /// The text with the byte at a place turned by a mask.
 fn turned(alloc: Global, text: &[u8], place: usize, mask: u8) -> Result<Vec<u8>, NoMemory> {
-    let mut bytes = Vec::new(alloc);
-    for (at, byte) in text.iter().enumerate() {
-        bytes.push(if at == place { *byte ^ mask } else { *byte })?;
+    let mut bytes = Vec::from_slice(alloc, text)?;
+    if let Some(byte) = bytes.get_mut(place) {
+        *byte ^= mask;
     }
     Ok(bytes)
+}
+
+/// The texts of which each byte is turned.
+const TURNED: &[&[u8]] = &[CHESS, PAIR, FISCHER];
+
+/// Whether the text, with the byte at a place turned by a mask, is no record or one that is written so.
+fn is_spelled(alloc: Global, text: &[u8], place: usize, mask: u8) -> Result<bool, NoMemory> {
+    let bytes = turned(alloc, text, place, mask)?;
+    Ok(!is_other(reading(alloc, &bytes)?))
+}
+
+fn is_other(outcome: Outcome) -> bool {
+    matches!(outcome, Outcome::Other)
 }
 
 /// Whether the text, with the byte at a place turned in any way, is no record or one that is written so.
 fn is_spelled_at(alloc: Global, text: &[u8], place: usize) -> Result<bool, NoMemory> {
     for mask in 1..=255 {
-        let bytes = turned(alloc, text, place, mask)?;
-        if reading(alloc, &bytes)? == Outcome::Other {
+        if !is_spelled(alloc, text, place, mask)? {
             return Ok(false);
         }
     }
@@ -157,27 +182,18 @@ fn first_misread(alloc: Global, text: &[u8]) -> Result<Option<usize>, NoMemory> 
 
 #[test]
 fn turned_bytes(rt: HostRuntime) -> Result<(), Fail> {
-    assert_eq!(rt; first_misread(rt.alloc(), CHESS)?, None);
-    assert_eq!(rt; first_misread(rt.alloc(), PAIR)?, None);
-    assert_eq!(rt; first_misread(rt.alloc(), FISCHER)?, None);
+    assert_rows!(rt; TURNED, |text| first_misread(rt.alloc(), text)?.is_none());
     Ok(())
 }
 
-/// A beginning with a count and so many texts behind it.
-fn repeated(
-    alloc: Global,
-    head: &[u8],
-    count: u16,
-    text: &[u8],
-    times: u16,
-) -> Result<Vec<u8>, NoMemory> {
-    let mut bytes = Vec::new(alloc);
-    bytes.extend_from_slice(head)?;
-    bytes.extend_from_slice(&count.to_be_bytes())?;
-    for _time in 0..times {
-        bytes.extend_from_slice(text)?;
+/// Puts a beginning with a count and so many texts behind it.
+fn put_counted(bytes: &mut Vec<u8>, row: &Count) -> Result<(), NoMemory> {
+    bytes.extend_from_slice(row.0)?;
+    bytes.extend_from_slice(&row.1.to_be_bytes())?;
+    for _time in 0..row.3 {
+        bytes.extend_from_slice(row.2)?;
     }
-    Ok(bytes)
+    Ok(())
 }
 
 const TWO: &[u8] = b"\x01\x47\x00\x00\x00\x00\x00\x03Ann\x03Ben";
@@ -211,7 +227,8 @@ const HALVES: &[u8] = b"\x01\x18\xe0\x00\x02\x18\xe0\x00";
 
 /// Whether the text of a row is read as the row says.
 fn is_counted(alloc: Global, row: &Count) -> Result<bool, NoMemory> {
-    let text = repeated(alloc, row.0, row.1, row.2, row.3)?;
+    let mut text = Vec::new(alloc);
+    put_counted(&mut text, row)?;
     is_read_so(alloc, &text, row.4)
 }
 

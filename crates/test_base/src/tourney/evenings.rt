@@ -2,7 +2,6 @@
 
 use fics_words::{Fail, Handle, HandleKey, Refusal};
 use std::alloc::Global;
-use std::test::Fail as TestFail;
 use test_steps::first_wrong;
 use tourney_desk::{Score, ScoreRow, Tourney};
 
@@ -142,13 +141,34 @@ fn are_rows(told: &[ScoreRow], rows: &[(u8, u8, u8)]) -> bool {
     if told.len() != rows.len() {
         return false;
     }
-    told.iter().zip(rows).all(|(row, wanted)| row.player == wanted.0
-        && row.games == wanted.1
-        && row.halves == wanted.2)
+    for (row, wanted) in told.iter().zip(rows) {
+        if !is_row(row, *wanted) {
+            return false;
+        }
+    }
+    true
 }
 
-fn is_refused<T: Drop>(told: Result<T, Fail>, cause: Refusal) -> bool {
-    match told {
+fn is_row(row: &ScoreRow, wanted: (u8, u8, u8)) -> bool {
+    row.player == wanted.0 && row.games == wanted.1 && row.halves == wanted.2
+}
+
+fn refuses_start(tourney: &mut Tourney, cause: Refusal) -> bool {
+    match started(tourney) {
+        Ok(_) => false,
+        Err(fail) => cause_of(fail) == Some(cause),
+    }
+}
+
+fn refuses_pairs(tourney: &Tourney, round: u8, cause: Refusal) -> bool {
+    match paired(tourney, round) {
+        Ok(_) => false,
+        Err(fail) => cause_of(fail) == Some(cause),
+    }
+}
+
+fn refuses_table(tourney: &Tourney, cause: Refusal) -> bool {
+    match tabled(tourney) {
         Ok(_) => false,
         Err(fail) => cause_of(fail) == Some(cause),
     }
@@ -172,37 +192,38 @@ fn is_as_expected(tourney: &mut Tourney, step: &Step) -> bool {
     match step {
         Step::Join(name, answer) => joined(tourney, name) == *answer,
         Step::Start(rounds) => are_rounds(started(tourney), *rounds),
-        Step::NoStart(cause) => is_refused(started(tourney), *cause),
+        Step::NoStart(cause) => refuses_start(tourney, *cause),
         Step::Pairs(round, pairs) => are_pairs(paired(tourney, *round), pairs),
-        Step::NoPairs(round, cause) => is_refused(paired(tourney, *round), *cause),
+        Step::NoPairs(round, cause) => refuses_pairs(tourney, *round, *cause),
         Step::Report(white, black, score, answer) => {
             reported(tourney, white, black, *score) == *answer
         }
         Step::Table(rows) => is_table(tabled(tourney), rows),
-        Step::NoTable(cause) => is_refused(tabled(tourney), *cause),
+        Step::NoTable(cause) => refuses_table(tourney, *cause),
     }
 }
 
 /// The place of the first step that answers otherwise, if one does.
-fn first_failing(alloc: Global, steps: &[Step]) -> Option<usize> {
+fn first_failing(tourney: &mut Tourney, steps: &[Step]) -> Option<usize> {
+    first_wrong!(steps, |step| is_as_expected(tourney, step))
+}
+
+fn first_failing_anew(alloc: Global, steps: &[Step]) -> Option<usize> {
     let mut tourney = Tourney::new(alloc);
-    first_wrong!(steps, |step| is_as_expected(&mut tourney, step))
+    first_failing(&mut tourney, steps)
 }
 
 #[test]
-fn three_play(rt: HostRuntime) -> Result<(), TestFail> {
-    assert_eq!(rt; first_failing(rt.alloc(), THREE), None);
-    Ok(())
+fn three_play(rt: HostRuntime) {
+    assert_eq!(rt; first_failing_anew(rt.alloc(), THREE), None);
 }
 
 #[test]
-fn four_play(rt: HostRuntime) -> Result<(), TestFail> {
-    assert_eq!(rt; first_failing(rt.alloc(), FOUR), None);
-    Ok(())
+fn four_play(rt: HostRuntime) {
+    assert_eq!(rt; first_failing_anew(rt.alloc(), FOUR), None);
 }
 
 #[test]
-fn two_play(rt: HostRuntime) -> Result<(), TestFail> {
-    assert_eq!(rt; first_failing(rt.alloc(), TWO), None);
-    Ok(())
+fn two_play(rt: HostRuntime) {
+    assert_eq!(rt; first_failing_anew(rt.alloc(), TWO), None);
 }

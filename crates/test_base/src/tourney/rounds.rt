@@ -2,7 +2,7 @@
 
 use fics_words::{Fail, Handle, Refusal};
 use std::alloc::Global;
-use std::test::Fail as TestFail;
+use test_steps::first_wrong;
 use tourney_desk::Tourney;
 
 /// A player of three letters for each number below 676 joins; false where it is refused.
@@ -41,45 +41,84 @@ fn first_pair(tourney: &Tourney, round: u8) -> Option<(usize, (u8, u8))> {
     Some((pairs.len(), *first))
 }
 
+/// A round, how many pairs it has, and the first of them.
+type Round = (u8, Option<(usize, (u8, u8))>);
+
+/// Those who come, those who are let in, and some of the 63 rounds that they play.
+struct Evening {
+    come: u8,
+    joined: u8,
+    rounds: &'static [Round],
+}
+
 /// What 63 players play: they are odd, so one is free in each of 63 rounds. In the first round player 0 is free, since
 /// 0 and 0 leave nothing, and 1 meets 62; in the second 0 meets 1.
-#[test]
-fn sixty_three_play(rt: HostRuntime) -> Result<(), TestFail> {
-    let mut tourney = Tourney::new(rt.alloc());
-    assert_eq!(rt; count_of_joined(&mut tourney, 63), 63);
-    assert_eq!(rt; rounds(&mut tourney).ok(), Some(63));
-    assert_eq!(rt; first_pair(&tourney, 1), Some((31, (1, 62))));
-    assert_eq!(rt; first_pair(&tourney, 2), Some((31, (0, 1))));
-    assert_eq!(rt; first_pair(&tourney, 63), Some((31, (62, 0))));
-    assert_eq!(rt; first_pair(&tourney, 64), None);
-    Ok(())
-}
+const ODD: Evening = Evening {
+    come: 63,
+    joined: 63,
+    rounds: &[
+        (1, Some((31, (1, 62)))),
+        (2, Some((31, (0, 1)))),
+        (63, Some((31, (62, 0)))),
+        (64, None),
+    ],
+};
 
 /// What 64 players play: nobody is free, and the 65th isn't let in.
-#[test]
-fn sixty_four_play(rt: HostRuntime) -> Result<(), TestFail> {
-    let mut tourney = Tourney::new(rt.alloc());
-    assert_eq!(rt; count_of_joined(&mut tourney, 70), 64);
-    assert_eq!(rt; rounds(&mut tourney).ok(), Some(63));
-    assert_eq!(rt; first_pair(&tourney, 1), Some((32, (0, 63))));
-    assert_eq!(rt; first_pair(&tourney, 2), Some((32, (0, 1))));
-    assert_eq!(rt; first_pair(&tourney, 63), Some((32, (62, 0))));
-    Ok(())
+const EVEN: Evening = Evening {
+    come: 70,
+    joined: 64,
+    rounds: &[
+        (1, Some((32, (0, 63)))),
+        (2, Some((32, (0, 1)))),
+        (63, Some((32, (62, 0)))),
+    ],
+};
+
+fn first_wrong_round(tourney: &Tourney, rounds: &[Round]) -> Option<usize> {
+    first_wrong!(rounds, |(round, pair)| first_pair(tourney, *round) == *pair)
 }
 
-/// The refusal of one player more than there can be.
-fn refusal_of_one_more(alloc: Global) -> Option<Refusal> {
+fn is_played(tourney: &mut Tourney, evening: &Evening) -> bool {
+    count_of_joined(tourney, evening.come) == evening.joined
+        && matches!(rounds(tourney), Ok(63))
+        && first_wrong_round(tourney, evening.rounds).is_none()
+}
+
+fn is_played_anew(alloc: Global, evening: &Evening) -> bool {
     let mut tourney = Tourney::new(alloc);
-    let _joined = count_of_joined(&mut tourney, 64);
-    let name = Handle::read(b"Zoe")?;
-    match tourney.join(name) {
-        Err(Fail::Refused(cause)) => Some(cause),
-        _ => None,
+    is_played(&mut tourney, evening)
+}
+
+#[test]
+fn sixty_three_play(rt: HostRuntime) {
+    assert!(rt; is_played_anew(rt.alloc(), &ODD));
+}
+
+#[test]
+fn sixty_four_play(rt: HostRuntime) {
+    assert!(rt; is_played_anew(rt.alloc(), &EVEN));
+}
+
+/// Whether one player more than there can be is refused.
+fn refuses_one_more(tourney: &mut Tourney) -> bool {
+    let _joined = count_of_joined(tourney, 64);
+    match Handle::read(b"Zoe") {
+        Some(name) => is_full(tourney.join(name)),
+        None => false,
     }
 }
 
+fn is_full(answer: Result<(), Fail>) -> bool {
+    matches!(answer, Err(Fail::Refused(Refusal::TourneyFull)))
+}
+
+fn refuses_one_more_anew(alloc: Global) -> bool {
+    let mut tourney = Tourney::new(alloc);
+    refuses_one_more(&mut tourney)
+}
+
 #[test]
-fn sixty_five_are_too_many(rt: HostRuntime) -> Result<(), TestFail> {
-    assert_eq!(rt; refusal_of_one_more(rt.alloc()), Some(Refusal::TourneyFull));
-    Ok(())
+fn sixty_five_are_too_many(rt: HostRuntime) {
+    assert!(rt; refuses_one_more_anew(rt.alloc()));
 }
