@@ -87,7 +87,7 @@ fn examine_opened<S: Source, K: Sink>(
     sink: &mut K,
 ) -> Outcome
     ensures calm { OnKeeperFault result ⊥ }
-    ensures ends { ExaminesOpened exam_opened (S.left source.old) (S.left source.new) (K.written sink.old)
+    ensures ends { ExaminesOpened opened (S.left source.old) (S.left source.new) (K.written sink.old)
         (K.written sink.new) result }
     ensures unread { EndsBeforeInput result → source.new ≡ source.old }
     ensures read_cause { OnReadFault result (Rose (S.faults source.old) (S.faults source.new)) }
