@@ -54,24 +54,3 @@ def first() -> Iterator[None]:
         for task, priority in before.items():
             with contextlib.suppress(ProcessLookupError):
                 os.setpriority(os.PRIO_PROCESS, task, priority)
-
-
-def schedule(policy: int) -> None:
-    """Has this process and all that it has started scheduled by a policy, where the system lets it."""
-    priority = os.sched_param(os.sched_get_priority_min(policy))
-    for task in tasks_of(os.getpid()):
-        with contextlib.suppress(PermissionError, ProcessLookupError):
-            os.sched_setscheduler(task, policy, priority)
-
-
-@contextlib.contextmanager
-def at_once() -> Iterator[None]:
-    """As `first`, and whoever has something to do does it at once, where the system lets it: what goes through many
-    threads of few processes, as a half-move does through a browser's, would wait its turn at each of them. Not for what
-    keeps processors busy."""
-    with first():
-        schedule(os.SCHED_RR)
-        try:
-            yield
-        finally:
-            schedule(os.SCHED_OTHER)

@@ -17,7 +17,7 @@ import pytest
 from .browser import Evening, Window
 from .evenings import KNIGHTS, is_board, seat
 from .plain import PlainTab
-from .priority import at_once
+from .priority import first
 from .test_delay import AT_MOST
 
 pytestmark = [pytest.mark.browser, pytest.mark.slow]
@@ -98,7 +98,7 @@ def test_one_pair(evening: Evening, loop: asyncio.AbstractEventLoop) -> None:
     ann, ben = evening.game()
     for it in (ann, ben):
         it.script(NOTES_CLICKS)
-    with at_once():
+    with first():
         plain = PlainPair(loop, evening.server.port)
         dice = random.Random(1)
         windows, links = [], []
