@@ -8,7 +8,7 @@ use Rattle.std.proofs.lemmas.Map.Views.{any-filter_same}
 use Rattle.std.proofs.lemmas.Slice.Eq.{bytes_eq-Decides}
 use Rattle.channel_feed.specs.declared.channels.Membership.{Membership}
 use Rattle.channel_feed.specs.Channels.{is_in, is_row}
-use Rattle.channel_feed.specs.NameLists.{is_on}
+use Rattle.channel_feed.specs.NameLists.{is_listed}
 use Rattle.channel_feed.specs.Laws.{Joins, Leaves, LeavesAll, NamesComeAndGo}
 use Rattle.std.specs.Cmp.{first_so, second_so}
 
@@ -63,10 +63,10 @@ leaves_all rows who = record {
 pub names_come_and_go : (names : List (List ℕ)) (key : List ℕ) → NamesComeAndGo names key
 names_come_and_go names key = record {
   added = list_any-append (λ other. bytes_eq other key) names (key ∷ [])
-      ∙ or_right (is_on names key) (bytes_eq key key || false)
+      ∙ or_right (is_listed names key) (bytes_eq key key || false)
       (or_left (bytes_eq key key) false (nat_list_eq_equiv.refl key));
   added_alone = λ other differs. list_any-append (λ name. bytes_eq name other) names (key ∷ [])
-      ∙ or_none (is_on names other) (bytes_eq key other) differs;
+      ∙ or_none (is_listed names other) (bytes_eq key other) differs;
   removed = any-filter_same (λ name. bytes_eq name key) (λ name. not (bytes_eq name key)) false
       (λ name h. not_from_true (bytes_eq name key) h) names;
   removed_alone = λ other differs. any-filter_same (λ name. bytes_eq name other) (λ name. not (bytes_eq name key)) true

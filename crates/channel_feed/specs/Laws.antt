@@ -2,7 +2,7 @@
 use Rattle.std.specs.Prelude.{◌≡◌, ◌≢◌, ℕ, ◌==◌, true, false, ◌&&◌, bytes_eq, List}
 use Rattle.channel_feed.specs.declared.channels.Membership.{Membership}
 use Rattle.channel_feed.specs.Channels.{is_in, joining, without_one, without_player}
-use Rattle.channel_feed.specs.NameLists.{adding, is_on, without_name}
+use Rattle.channel_feed.specs.NameLists.{adding, is_listed, without_name}
 
 -- a player who joins a channel is in it, and in no other channel than before; nobody else is moved
 pub record Joins (rows : List Membership) (who channel : ℕ) : Type 0 where
@@ -24,8 +24,8 @@ pub record LeavesAll (rows : List Membership) (who : ℕ) : Type 0 where
 
 -- a name that is added is on the list, and one that is removed isn't; every other is as before
 pub record NamesComeAndGo (names : List (List ℕ)) (key : List ℕ) : Type 0 where
-  pub added : is_on (adding names key).after key ≡ true
+  pub added : is_listed (adding names key).after key ≡ true
   pub added_alone : (other : List ℕ) → bytes_eq key other ≡ false
-      → is_on (adding names key).after other ≡ is_on names other
-  pub removed : is_on (without_name key names) key ≡ false
-  pub removed_alone : (other : List ℕ) → other ≢ key → is_on (without_name key names) other ≡ is_on names other
+      → is_listed (adding names key).after other ≡ is_listed names other
+  pub removed : is_listed (without_name key names) key ≡ false
+  pub removed_alone : (other : List ℕ) → other ≢ key → is_listed (without_name key names) other ≡ is_listed names other

@@ -38,7 +38,7 @@ impl Model for NameList {
 impl NameList {
     ghost use Rattle.std.specs.Prelude.{◌≡◌, []};
     ghost use Rattle.fics_words.specs.Effect.{Takes, answer_of, state_of};
-    ghost use Rattle.channel_feed.specs.NameLists.{adding, is_on, removing};
+    ghost use Rattle.channel_feed.specs.NameLists.{adding, is_listed, removing};
 
     /// No names; takes no memory.
     pub fn new(alloc: Global) -> NameList
@@ -51,7 +51,7 @@ impl NameList {
 
     /// Whether the handle of this key is on the list.
     pub fn has(&self, key: HandleKey) -> bool
-        ensures { result ≡ is_on self.now key }
+        ensures { result ≡ is_listed self.now key }
     {
         self.names.as_slice().contains(&key)
     }

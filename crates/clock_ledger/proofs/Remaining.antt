@@ -4,16 +4,17 @@ use Rattle.std.proofs.lemmas.Int.{ints}
 use Rattle.std.proofs.lemmas.List.Sums.{sum_by-append}
 use Rattle.clock_ledger.specs.declared.charges.Charge.{Charge}
 use Rattle.clock_ledger.specs.Charges.{amount}
-use Rattle.clock_ledger.specs.Clock.{Ledger, timed, given, spent, remaining, charged}
+use Rattle.clock_ledger.specs.Clock.{Ledger, timed, given, time_spent, remaining, charged}
 
-pub remaining_is : (l : Ledger) (g s : ℕ) → timed l ≡ true → g ≡ given l → s ≡ spent l → pos g -ℤ pos s ≡ remaining l
+pub remaining_is : (l : Ledger) (g s : ℕ) → timed l ≡ true → g ≡ given l → s ≡ time_spent l
+    → pos g -ℤ pos s ≡ remaining l
 remaining_is l g s on to_give to_take =
     ap (λ n. pos n -ℤ pos s) to_give
     ∙ ap (λ n. pos (given l) -ℤ pos n) to_take
-    ∙ ap (λ b. if b then (pos (given l) -ℤ pos (spent l)) else pos 0) (sym on)
+    ∙ ap (λ b. if b then (pos (given l) -ℤ pos (time_spent l)) else pos 0) (sym on)
 
-spent-charged : (l : Ledger) (c : Charge) → spent l + amount c ≡ spent (charged l c)
-spent-charged l c = omega (arith, sum_by-append amount l.charges (c ∷ []))
+time_spent-charged : (l : Ledger) (c : Charge) → time_spent l + amount c ≡ time_spent (charged l c)
+time_spent-charged l c = omega (arith, sum_by-append amount l.charges (c ∷ []))
 
 given-charged : (l : Ledger) (c : Charge) → given l + l.increment * 1000 ≡ given (charged l c)
 given-charged l c =
@@ -27,9 +28,9 @@ pub remaining-charged : (l : Ledger) (c : Charge) → IsTrue (timed l)
     → remaining (charged l c) +ℤ pos (amount c) ≡ remaining l +ℤ pos (l.increment * 1000)
 remaining-charged l c is_timed =
     let on : timed l ≡ true = search rules in
-    let before = remaining_is l (given l) (spent l) on refl refl in
+    let before = remaining_is l (given l) (time_spent l) on refl refl in
     let after =
-    remaining_is (charged l c) (given l + l.increment * 1000) (spent l + amount c) on (given-charged l c)
-    (spent-charged l c)
+    remaining_is (charged l c) (given l + l.increment * 1000) (time_spent l + amount c) on (given-charged l c)
+    (time_spent-charged l c)
     in
-    shifted (given l) (spent l) (l.increment * 1000) (amount c) _ _ before after
+    shifted (given l) (time_spent l) (l.increment * 1000) (amount c) _ _ before after

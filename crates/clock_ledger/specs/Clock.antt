@@ -29,12 +29,12 @@ abbrev pub given : Ledger → ℕ
 given l = start_of l.minutes l.increment + l.increment * 1000 * length l.charges
 
 -- the milliseconds that the charges amount to
-abbrev pub spent : Ledger → ℕ
-spent l = sum_by amount l.charges
+abbrev pub time_spent : Ledger → ℕ
+time_spent l = sum_by amount l.charges
 
 -- the milliseconds that remain: what was given less what was spent, and 0 without clocks
 abbrev pub remaining : Ledger → ℤ
-remaining l = (if timed l then (pos (given l) -ℤ pos (spent l)) else pos 0)
+remaining l = (if timed l then (pos (given l) -ℤ pos (time_spent l)) else pos 0)
 
 -- the ledger with one charge more
 abbrev pub charged : Ledger → Charge → Ledger

@@ -37,8 +37,7 @@ fn put_line(
     requires { IsSome winner ↔ IsTrue (is_decisive why) }
     ensures { OnOk result (out.new.items ≡ out.old.items ++ (end_text view.now why winner true ++ codes "\n\r")) }
 {
-    let line = end_line(*out.allocator(), view, why, winner, true)?;
-    put_ended(line.bytes(), out)
+    put_ended(end_line(view, why, winner, true).bytes(), out)
 }
 
 /// Appends a line and what ends it.

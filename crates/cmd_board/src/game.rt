@@ -115,8 +115,7 @@ fn write_line(view: &BoardView, out: &mut Vec<u8>) -> Result<(), NoMemory>
         relation: 0,
         flip: false,
     };
-    let line = line12(*out.allocator(), view, observer)?;
-    put_ended(line.bytes(), out)
+    put_ended(line12(view, observer).bytes(), out)
 }
 
 /// What the line of the board shows.

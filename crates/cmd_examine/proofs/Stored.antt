@@ -14,7 +14,7 @@ use Rattle.game_records.specs.declared.records.Record.TheVariants as a
 use Rattle.game_records.specs.declared.stored_game.StoredGame.{StoredGame}
 use Rattle.game_records.proofs.KeysBack.{one_game}
 use Rattle.lobby_shelf.specs.declared.shelved.Shelved.{Shelved}
-use Rattle.lobby_shelf.specs.Numbers.{RiseAbove, game_in, has_number, stored_game}
+use Rattle.lobby_shelf.specs.Numbers.{RiseAbove, row_game, has_number, stored_game}
 use Rattle.lobby_shelf.specs.Wanted.{account_record, either_record, game_record, is_game_at, wanted}
 use Rattle.lobby_load.specs.BadRows.{IsGoodStore}
 use Rattle.lobby_load.specs.Loaded.{AreSpelled, HasLoaded}
@@ -61,7 +61,7 @@ found_has : (P : StoredGame → Type 0) (games : List Shelved) (number : ℕ) (g
 found_has P [] number game all e = absurd cc
 found_has P (row ∷ games) number game all e =
     elim (has_number number row)
-    as (λ t. game_in (cond t (Some row) (find (has_number number) games)) ≡ Some game → P game) [
+    as (λ t. row_game (cond t (Some row) (find (has_number number) games)) ≡ Some game → P game) [
       | true ↦ λ is.
           let same : row.game ≡ game = cc in subst P same (All-head (λ (x : Shelved). P x.game) row games all)
       | false ↦ λ is. found_has P games number game (All-tail (λ (x : Shelved). P x.game) row games all) is
@@ -72,13 +72,13 @@ pub found_replays : (lobby : LobbyState) (number : ℕ) (game : StoredGame) → 
     → stored_game lobby.shelf.games number ≡ Some game → Replays game
 found_replays lobby number game formed e = found_has Replays lobby.shelf.games number game formed.shelf.sound.replay e
 
-record_of : (found : Option Shelved) (game : StoredGame) → game_in found ≡ Some game
+record_of : (found : Option Shelved) (game : StoredGame) → row_game found ≡ Some game
     → game_record found ≡ Some (spelling (a.Game game))
 record_of None game e = absurd cc
 record_of (Some row) game e =
     let same : row.game ≡ game = cc in ap (λ (g : StoredGame). Some (spelling (a.Game g))) same
 
-no_record : (found : Option Shelved) → game_in found ≡ None → game_record found ≡ None
+no_record : (found : Option Shelved) → row_game found ≡ None → game_record found ≡ None
 no_record None e = refl
 no_record (Some row) e = absurd cc
 

@@ -3,7 +3,7 @@
 use Rattle.std.specs.Prelude.{ℕ, if◌then◌else◌, bytes_eq, codes, decimal, List, Option, Some, option_map}
 use Rattle.std.specs.List.{after_first, before_first, find, range_with_len}
 use Rattle.move_reader.specs.Reading as word
-use Rattle.cmd_lines.specs.Words.{is_blank}
+use Rattle.fics_words.specs.Blank.{is_blank}
 use Rattle.cmd_examine.specs.declared.line.ExamLine.{ExamLine}
 use Rattle.cmd_examine.specs.declared.line.ExamLine.TheVariants.{Forward, Back, Revert, Play}
 

@@ -1,10 +1,7 @@
--- The blank between two words, and the line of a refusal.
-use Rattle.std.specs.Prelude.{ℕ, ◌==◌, Bool, List, ◌++◌, codes}
+-- The line of a refusal.
+use Rattle.std.specs.Prelude.{ℕ, List, ◌++◌, codes}
 use Rattle.fics_words.specs.Refusal.{refusal_words}
 use Rattle.fics_words.specs.declared.refusal.Refusal.{Refusal}
-
-abbrev pub is_blank : ℕ → Bool
-is_blank byte = byte == 32
 
 -- the line of a refusal
 abbrev pub refusal_text : Refusal → List ℕ

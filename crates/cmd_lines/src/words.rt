@@ -2,7 +2,8 @@
 
 ghost use Rattle.std.specs.Prelude.{◌≡◌, ◌<◌, ◌++◌, IfSome, OnOk, length};
 ghost use Rattle.std.specs.List.{after_first, before_first, position};
-ghost use Rattle.cmd_lines.specs.Words.{is_blank, refusal_text};
+ghost use Rattle.fics_words.specs.Blank.{is_blank};
+ghost use Rattle.cmd_lines.specs.Words.{refusal_text};
 
 use fics_words::{Refusal, write_refusal};
 use memory::NoMemory;

@@ -5,7 +5,7 @@ use Rattle.std.specs.List.{after_first, before_first, find, range_with_len}
 use Rattle.fics_words.specs.HandleTest.{handle_of}
 use Rattle.tourney_desk.specs.declared.score.Score.{Score}
 use Rattle.tourney_desk.specs.declared.score.Score.TheVariants as score
-use Rattle.cmd_lines.specs.Words.{is_blank}
+use Rattle.fics_words.specs.Blank.{is_blank}
 use Rattle.cmd_tourney.specs.declared.line.TourneyLine.{TourneyLine}
 use Rattle.cmd_tourney.specs.declared.line.TourneyLine.TheVariants as line
 

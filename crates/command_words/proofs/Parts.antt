@@ -5,7 +5,8 @@ use Rattle.std.specs.List.{prefix_len, position_or_len, slice_split, filter, ont
 use Rattle.std.proofs.lemmas.Bool.{eqb-true}
 use Rattle.std.proofs.lemmas.Bool.Decides.{nat_tests}
 use Rattle.std.proofs.lemmas.List.Sums.{prefix_len-le-length}
-use Rattle.command_words.specs.Blanks.{is_blank, behind_blanks, word_length, first_word, rest_behind_word, is_word, Words, words_of}
+use Rattle.fics_words.specs.Blank.{is_blank}
+use Rattle.command_words.specs.Blanks.{behind_blanks, word_length, first_word, rest_behind_word, is_word, Words, words_of}
 use Rattle.std.proofs.Math.Bool.{not-not}
 
 -- how far a first place is, or the whole length

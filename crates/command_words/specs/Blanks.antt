@@ -1,9 +1,7 @@
--- Words of a line: what stands between its blanks. A blank is the space alone.
-use Rattle.std.specs.Prelude.{◌≡◌, ℕ, zero, suc, ◌-◌, ◌==◌, not, Bool, true, false, unwrap_or, position, List, [], ◌∷◌, length, take, drop, reverse, codes, refl}
+-- Words of a line: what stands between its blanks.
+use Rattle.std.specs.Prelude.{◌≡◌, ℕ, zero, suc, ◌-◌, not, Bool, true, false, unwrap_or, position, List, [], ◌∷◌, length, take, drop, reverse, codes, refl}
 use Rattle.std.specs.List.{filter, slice_split}
-
-abbrev pub is_blank : ℕ → Bool
-is_blank b = b == 32
+use Rattle.fics_words.specs.Blank.{is_blank}
 
 -- how many blanks the text begins with
 abbrev pub blanks_of : List ℕ → ℕ

@@ -52,10 +52,6 @@ abbrev pub command_asked : Result Takes Refusal → List ℕ → Result Command 
 command_asked (Ok found) rest = arguments_of found rest
 command_asked (Err cause) rest = Err cause
 
--- the move word that a text is
-unfoldable pub move_in : List ℕ → Option MoveWord
-move_in text = reading text
-
 -- a move, where the text is one; else the command of its first word, of which the case of letters doesn't count
 abbrev pub move_or : Option MoveWord → List ℕ → Result Command Refusal
 move_or (Some word) text = Ok (command.Move word)
@@ -64,7 +60,7 @@ move_or None text = command_asked (takes_named_by (map to_ascii_lowercase (first
 -- what a line asks for after its alias, without blanks at its ends
 abbrev pub command_of : List ℕ → Result Command Refusal
 command_of [] = Ok command.Nothing
-command_of (b ∷ text) = move_or (move_in (b ∷ text)) (b ∷ text)
+command_of (b ∷ text) = move_or (reading (b ∷ text)) (b ∷ text)
 
 -- the line after its alias, which may have become too long
 abbrev pub command_made : List ℕ → Result Command Refusal
@@ -86,26 +82,20 @@ example_empty : command_in [] (codes "   ") ≡ Ok command.Nothing
 example_empty = refl
 
 example_move : command_in [] (codes " e2e4 ") ≡ Ok (command.Move (Coordinate 12 28 None))
-unfolding move_in
 example_move = refl
 
 example_alias : command_in with_x (codes "x  Bob") ≡ Ok (command.MaybeByName Accept (Some (codes "Bob")))
-unfolding move_in
 example_alias = refl
 
 -- an alias's name is compared exactly
 example_other_case : command_in with_x (codes "X Bob") ≡ Err Unknown
-unfolding move_in
 example_other_case = refl
 
 example_capitals : command_in [] (codes "QUIT") ≡ Ok (command.Bare Quit)
-unfolding move_in
 example_capitals = refl
 
 example_password : command_in [] (codes "register a b ") ≡ Ok (command.WithText Register (codes "a b"))
-unfolding move_in
 example_password = refl
 
 example_too_much : command_in [] (codes "quit now") ≡ Err BadArguments
-unfolding move_in
 example_too_much = refl

@@ -2,11 +2,11 @@
 use Rattle.std.specs.Prelude.{◌≡◌, ℕ, bytes_eq, find, if◌then◌else◌, Bool, true, false, List, [], ◌∷◌, Option, Some, None, Result, Ok, Err, codes, refl}
 use Rattle.fics_words.specs.declared.refusal.Refusal.{Refusal}
 use Rattle.fics_words.specs.declared.refusal.Refusal.TheVariants.{BadArguments}
+use Rattle.fics_words.specs.declared.variable.Variable.TheVariants.{Open, Shout, Seek}
 use Rattle.command_words.specs.declared.command.Command.{Command}
 use Rattle.command_words.specs.declared.command.Command.TheVariants.{Set}
 use Rattle.command_words.specs.declared.variables.Values.{Values}
 use Rattle.command_words.specs.declared.variables.Values.TheVariants.{OnOff}
-use Rattle.command_words.specs.declared.variables.Variable.TheVariants.{Open, Shout, Seek}
 use Rattle.command_words.specs.declared.variables.VariableRow.{VariableRow}
 use Rattle.command_words.specs.Blanks.{Words, words_of}
 use Rattle.command_words.specs.Naming.{is_name}

@@ -1,7 +1,8 @@
 //! Words of a line, between its blanks.
 
 ghost use Rattle.std.specs.Prelude.{◌≡◌, ◌≤◌, ◌<◌, IfSome, IfNone, ◌∷◌, [], not, length, position, reverse};
-ghost use Rattle.command_words.specs.Blanks.{is_blank, blanks_of, behind_blanks, before_blanks, trimmed, word_length, first_word, rest_behind_word, word_numbered, words_of};
+ghost use Rattle.fics_words.specs.Blank.{is_blank};
+ghost use Rattle.command_words.specs.Blanks.{blanks_of, behind_blanks, before_blanks, trimmed, word_length, first_word, rest_behind_word, word_numbered, words_of};
 
 /// The text without blanks at its ends.
 pub(crate) fn trimmed(text: &[u8]) -> &[u8]

@@ -2,9 +2,8 @@
 
 use crate::rows::{Bare, ByName, ByNumber, MaybeByName, OnChannel, WithText};
 use crate::style::Style;
-use crate::variables::Variable;
 use chess_model::{MoveWord, Terms};
-use fics_words::{Handle, Line};
+use fics_words::{Handle, Line, Variable};
 
 /// What a line asks for, once it is read: which command, with what stood behind its word.
 #[derive(Drop)]

@@ -27,4 +27,4 @@ pub use laws::{terms_are_read_as_spelled, the_table_has_the_commands};
 pub use reading::read_command;
 pub use rows::{Bare, ByName, ByNumber, CommandRow, MaybeByName, OnChannel, ROWS, WithText};
 pub use style::Style;
-pub use variables::{VARIABLES, Values, Variable, VariableRow};
+pub use variables::{VARIABLES, Values, VariableRow};

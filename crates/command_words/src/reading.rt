@@ -5,7 +5,7 @@ ghost use Rattle.std.specs.Char.{to_ascii_lowercase};
 ghost use Rattle.fics_words.specs.Effect.{Gives};
 ghost use Rattle.command_words.specs.Aliases.{expanded};
 ghost use Rattle.command_words.specs.Blanks.{rest_behind_word};
-ghost use Rattle.command_words.specs.Commands.{command_in, command_after, command_made, command_of, move_in, move_or, command_asked, arguments_of};
+ghost use Rattle.command_words.specs.Commands.{command_in, command_after, command_made, command_of, move_or, command_asked, arguments_of};
 
 use crate::aliases::{Alias, Aliases};
 use crate::blanks::{first_word, rest_of, trimmed};
@@ -66,16 +66,8 @@ fn read_text(alloc: Global, text: &[u8]) -> Result<Command, Fail>
 {
     match text {
         [] => Ok(Command::Nothing),
-        [_, ..] => move_or(alloc, move_in(text), text),
+        [_, ..] => move_or(alloc, read_word(text), text),
     }
-}
-
-/// The move word that the text is.
-#[tactic(auto, unfolding(crate::specs::Commands::move_in))]
-fn move_in(text: &[u8]) -> Option<MoveWord>
-    ensures { result ≡ move_in text.now }
-{
-    read_word(text)
 }
 
 /// The move, where the text is one; else the command of its first word.

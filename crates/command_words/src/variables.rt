@@ -1,13 +1,7 @@
 //! The table of the variables that `set` sets, a row each, and what they take. What each says stands above the row of
 //! `set` in the table of commands.
 
-/// The variables that are on or off, by FICS's names.
-#[derive(Clone, Copy)]
-pub enum Variable {
-    Open,
-    Shout,
-    Seek,
-}
+use fics_words::Variable;
 
 /// Which variable it is, by the values that it takes.
 #[derive(Clone, Copy)]

@@ -130,7 +130,7 @@ goes_cut t b c s cut less =
     (before ∙ split) in
     let sound = sound_cut t b c s cut in
     let all =
-    All-head (λ (x : Board). replays.half_moves (halves_of (c ∷ [])) ≡ x.all) c [] (all_of t (c ∷ []) sound) in
+    All-head (λ (x : Board). replays.without_charges (halves_of (c ∷ [])) ≡ x.all) c [] (all_of t (c ∷ []) sound) in
     let there : position_on t.variant (halves_of (c ∷ [])) c.number ≡ position_of c =
     position_is t (halves_of (c ∷ [])) c (cut.terms ∙ terms) all in
     let here : position_on t.variant (take cut.left (map (half_on 1) b.list)) 1

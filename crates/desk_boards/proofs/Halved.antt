@@ -6,7 +6,7 @@ use Rattle.chess_model.specs.declared.moves.Move.{Move}
 use Rattle.chess_model.specs.MoveList.{HalfMove, moves_of, on}
 use Rattle.game_board.specs.declared.played.Played.{Played}
 use Rattle.game_records.specs.declared.stored_game.Half.{Half}
-use Rattle.game_records.specs.Replays.{half_moves}
+use Rattle.game_records.specs.Replays.{without_charges}
 use Rattle.desk_boards.specs.Halves.{first_charge, half_of, halves_from, list_on, played_of}
 use Rattle.game_board.proofs.OwnMoves.{chosen}
 
@@ -21,13 +21,13 @@ unchosen true x y e = cc
 unchosen false x y e = refl
 
 -- the half-moves are those of the list
-pub half_moves-from : (one two : List Played) (T : List HalfMove) → half_moves (halves_from one two T) ≡ T
-half_moves-from one two [] = refl
-half_moves-from one two (h ∷ T) =
-    by_choice (λ halves. half_moves halves ≡ h ∷ T) (nat_eq h.board 1)
+pub without_charges-from : (one two : List Played) (T : List HalfMove) → without_charges (halves_from one two T) ≡ T
+without_charges-from one two [] = refl
+without_charges-from one two (h ∷ T) =
+    by_choice (λ halves. without_charges halves ≡ h ∷ T) (nat_eq h.board 1)
     (half_of h one ∷ halves_from (drop 1 one) two T) (half_of h two ∷ halves_from one (drop 1 two) T)
-    (λ own. ap (λ (U : List HalfMove). h ∷ U) (half_moves-from (drop 1 one) two T))
-    (λ other. ap (λ (U : List HalfMove). h ∷ U) (half_moves-from one (drop 1 two) T))
+    (λ own. ap (λ (U : List HalfMove). h ∷ U) (without_charges-from (drop 1 one) two T))
+    (λ other. ap (λ (U : List HalfMove). h ∷ U) (without_charges-from one (drop 1 two) T))
 
 -- a half-move of a board begins the moves of that board, and one of another board isn't among them
 moves_of-own : (b : ℕ) (h : HalfMove) (T : List HalfMove) → nat_eq h.board b ≡ true

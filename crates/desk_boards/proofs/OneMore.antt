@@ -25,7 +25,7 @@ use Rattle.game_records.specs.declared.stored_game.Half.{Half}
 use Rattle.game_records.specs.Bounds as bounds
 use Rattle.game_records.specs.Bounds.{IsCharge, IsHalf}
 use Rattle.game_records.specs.Codes.{HasCode, MayBecome}
-use Rattle.game_records.specs.Replays.{AreTimed, CanBePlayed, GoesOn, MayCome, MayFollow, OtherGoesOn, half_moves, made_on, position_on}
+use Rattle.game_records.specs.Replays.{AreTimed, CanBePlayed, GoesOn, MayCome, MayFollow, OtherGoesOn, without_charges, made_on, position_on}
 use Rattle.game_records.proofs.Played.{by_steps}
 use Rattle.fics_words.specs.Boards.{other_number, board_place}
 use Rattle.desk_boards.specs.Boards.{board_numbers}
@@ -126,12 +126,12 @@ may_follow t own new p at made number terms here count more =
 -- ---- it may come after the half-moves of all boards
 
 -- the position of a board is that of the half-moves on its number
-pub position_is : (t : Terms) (halves : List Half) (b : Board) → b.terms ≡ t → half_moves halves ≡ b.all
+pub position_is : (t : Terms) (halves : List Half) (b : Board) → b.terms ≡ t → without_charges halves ≡ b.all
     → position_on t.variant halves b.number ≡ position_of b
 unfolding position_of
 position_is t halves b terms all = λ i. position_after (sym terms i).variant (all i) b.number
 
-pub made_is : (halves : List Half) (b : Board) → IsTrueScore b → half_moves halves ≡ b.all
+pub made_is : (halves : List Half) (b : Board) → IsTrueScore b → without_charges halves ≡ b.all
     → made_on halves b.number ≡ length b.list
 made_is halves b score all =
     ap (λ (T : List HalfMove). length (moves_of b.number T)) all ∙ ap length score.own ∙ length-map b.list (λ p. p.what)
@@ -144,7 +144,7 @@ other_none Bughouse halves n single = absurd (single refl)
 
 -- the other board of a pair, where it is at no end
 other_of_two : (t : Terms) (halves : List Half) (n : ℕ) (c : Board) → t.variant ≡ Bughouse → 3 - n ≡ c.number
-    → c.terms ≡ t → half_moves halves ≡ c.all → GoesOn (position_of c) →
+    → c.terms ≡ t → without_charges halves ≡ c.all → GoesOn (position_of c) →
     OtherGoesOn t.variant halves n
 other_of_two t halves n c pair number terms all goes =
     let there : position_on t.variant halves c.number ≡ position_of c = position_is t halves c terms all in
@@ -165,7 +165,7 @@ other_goes t (b ∷ c ∷ []) First own s there goes =
     let same : b.number ≡ own.number = ap (λ (x : Board). x.number) (same_Some b own there) in
     other_of_two t (halves_of (b ∷ c ∷ [])) own.number c two.0 (omega (arith, two.1, two.2, same))
     (All-head (λ (x : Board). x.terms ≡ t) c [] (All-tail (λ (x : Board). x.terms ≡ t) b (c ∷ []) s.terms))
-    (All-at (λ (x : Board). half_moves (halves_of (b ∷ c ∷ [])) ≡ x.all) (b ∷ c ∷ []) 1 c (all_of t (b ∷ c ∷ []) s)
+    (All-at (λ (x : Board). without_charges (halves_of (b ∷ c ∷ [])) ≡ x.all) (b ∷ c ∷ []) 1 c (all_of t (b ∷ c ∷ []) s)
     refl)
     (goes c refl)
 other_goes t (b ∷ c ∷ []) Second own s there goes =
@@ -173,7 +173,7 @@ other_goes t (b ∷ c ∷ []) Second own s there goes =
     let same : c.number ≡ own.number = ap (λ (x : Board). x.number) (same_Some c own there) in
     other_of_two t (halves_of (b ∷ c ∷ [])) own.number b two.0 (omega (arith, two.1, two.2, same))
     (All-head (λ (x : Board). x.terms ≡ t) b (c ∷ []) s.terms)
-    (All-at (λ (x : Board). half_moves (halves_of (b ∷ c ∷ [])) ≡ x.all) (b ∷ c ∷ []) 0 b (all_of t (b ∷ c ∷ []) s)
+    (All-at (λ (x : Board). without_charges (halves_of (b ∷ c ∷ [])) ≡ x.all) (b ∷ c ∷ []) 0 b (all_of t (b ∷ c ∷ []) s)
     refl)
     (goes b refl)
 other_goes t (b ∷ c ∷ d ∷ more) board own s there goes = absurd (never_three t.variant b c d more s.numbers)
@@ -203,8 +203,8 @@ may_grow t boards board own new p s there more goes =
     let k : ℕ = board_place board in
     let halves : List Half = halves_of boards in
     let terms : own.terms ≡ t = All-at (λ (x : Board). x.terms ≡ t) boards k own s.terms there in
-    let all : half_moves halves ≡ own.all =
-    All-at (λ (x : Board). half_moves halves ≡ x.all) boards k own (all_of t boards s) there in
+    let all : without_charges halves ≡ own.all =
+    All-at (λ (x : Board). without_charges halves ≡ x.all) boards k own (all_of t boards s) there in
     let range = number_in t.variant k own.number (number_at t.variant boards k own s.numbers there) in
     let score : IsTrueScore own = All-at IsTrueScore boards k own s.scores there in
     let comes : MayCome t halves (half_on own.number p) = record {

@@ -27,7 +27,7 @@ use Rattle.game_board.proofs.Takes.{takes_played-parts}
 use Rattle.game_records.specs.declared.stored_game.Half.{Half}
 use Rattle.game_records.specs.Bounds as bounds
 use Rattle.game_records.specs.Bounds.{IsCharge, IsHalf}
-use Rattle.game_records.specs.Replays.{AreTimed, CanBePlayed, GoesOn, MayCome, OtherGoesOn, half_moves, made_on, position_on}
+use Rattle.game_records.specs.Replays.{AreTimed, CanBePlayed, GoesOn, MayCome, OtherGoesOn, without_charges, made_on, position_on}
 use Rattle.fics_words.specs.Boards.{board_number, numbered_board, other_number, board_place}
 use Rattle.desk_boards.specs.Boards.{board_numbers, changed_at, new_boards}
 use Rattle.fics_words.specs.declared.board_number.BoardNumber.{BoardNumber}
@@ -233,7 +233,7 @@ charge_stands false true false long clocks h i j = refl
 charge_stands false false moved long clocks h i j = refl
 
 own_may : (t : Terms) (own : Board) (before : List Half) (h : Half) → IsTrueScore own → own.played ≡ length own.list
-    → own.terms ≡ t → half_moves before ≡ own.all → own.number ≡ h.board →
+    → own.terms ≡ t → without_charges before ≡ own.all → own.number ≡ h.board →
     MayCome t before h → takes_played own (played_of h) ≡ true
 unfolding takes_played
 own_may t own before h score played terms all number comes =
@@ -256,7 +256,7 @@ own_may t own before h score played terms all number comes =
     (AreTimed t) charged timed (has_moved-mover own.list))
 
 other_pair : (t : Terms) (before : List Half) (n : ℕ) (c : Board) → t.variant ≡ Bughouse → 3 - n ≡ c.number
-    → c.terms ≡ t → half_moves before ≡ c.all →
+    → c.terms ≡ t → without_charges before ≡ c.all →
     OtherGoesOn t.variant before n → goes_on c ≡ true
 other_pair t before n c pair number terms all goes =
     let there : position_on t.variant before c.number ≡ position_of c = position_is t before c terms all in
@@ -276,9 +276,9 @@ may_take t moment (b ∷ []) before h at half comes =
     let one = number_of_one t.variant b s.numbers in
     let number : h.board ≡ 1 =
     let first = half.first in let last = half.last in let boards = one.2 in omega (arith, first, last, boards) in
-    let P : Board → Type 0 = λ x. half_moves (halves_of (b ∷ [])) ≡ x.all in
-    let all : half_moves before ≡ b.all =
-    ap half_moves (sym at.known.made) ∙ All-at P (b ∷ []) 0 b (all_of t (b ∷ []) s) refl in
+    let P : Board → Type 0 = λ x. without_charges (halves_of (b ∷ [])) ≡ x.all in
+    let all : without_charges before ≡ b.all =
+    ap without_charges (sym at.known.made) ∙ All-at P (b ∷ []) 0 b (all_of t (b ∷ []) s) refl in
     let fresh = All-at (IsFreshlyPut moment) (b ∷ []) 0 b at.fresh refl in
     let own =
     own_may t b before h (All-at IsTrueScore (b ∷ []) 0 b s.scores refl) fresh.played
@@ -288,11 +288,11 @@ may_take t moment (b ∷ c ∷ []) before h at half comes =
     let s = at.known.sound in
     let two = numbers_of_two t.variant b c s.numbers in
     let many : bounds.boards t.variant ≡ 2 = ap bounds.boards two.0 in
-    let P : Board → Type 0 = λ x. half_moves (halves_of (b ∷ c ∷ [])) ≡ x.all in
-    let all_b : half_moves before ≡ b.all =
-    ap half_moves (sym at.known.made) ∙ All-at P (b ∷ c ∷ []) 0 b (all_of t (b ∷ c ∷ []) s) refl in
-    let all_c : half_moves before ≡ c.all =
-    ap half_moves (sym at.known.made) ∙ All-at P (b ∷ c ∷ []) 1 c (all_of t (b ∷ c ∷ []) s) refl in
+    let P : Board → Type 0 = λ x. without_charges (halves_of (b ∷ c ∷ [])) ≡ x.all in
+    let all_b : without_charges before ≡ b.all =
+    ap without_charges (sym at.known.made) ∙ All-at P (b ∷ c ∷ []) 0 b (all_of t (b ∷ c ∷ []) s) refl in
+    let all_c : without_charges before ≡ c.all =
+    ap without_charges (sym at.known.made) ∙ All-at P (b ∷ c ∷ []) 1 c (all_of t (b ∷ c ∷ []) s) refl in
     let terms_b = All-at (λ (x : Board). x.terms ≡ t) (b ∷ c ∷ []) 0 b s.terms refl in
     let terms_c = All-at (λ (x : Board). x.terms ≡ t) (b ∷ c ∷ []) 1 c s.terms refl in
     elim (of_two h.board half.first (let last = half.last in omega (arith, last, many))) [

@@ -6,7 +6,7 @@ use Rattle.chess_model.specs.declared.variant.Terms.{Terms}
 use Rattle.game_board.specs.Board.{Board}
 use Rattle.game_records.specs.declared.stored_game.Half.{Half}
 use Rattle.game_records.specs.Bounds.{IsHalf}
-use Rattle.game_records.specs.Replays.{half_moves}
+use Rattle.game_records.specs.Replays.{without_charges}
 use Rattle.desk_boards.specs.Halves.{halves_of, list_on}
 use Rattle.desk_boards.specs.Laws.{AreOf, IsFreshlyPut}
 use Rattle.desk_boards.specs.Replaying.{replayed, resumed_at}
@@ -54,9 +54,9 @@ same_at t moment new old of s k c b here there =
     ∙ (λ i. list_on (numbers i) (of.made i))
     ∙ All-at (λ (x : Board). list_on x.number (halves_of old) ≡ x.list) old k b (each_of t old s) there in
     let all : c.all ≡ b.all =
-    sym (All-at (λ (x : Board). half_moves (halves_of new) ≡ x.all) new k c (all_of t new of.sound) here)
-    ∙ ap half_moves of.made
-    ∙ All-at (λ (x : Board). half_moves (halves_of old) ≡ x.all) old k b (all_of t old s) there in
+    sym (All-at (λ (x : Board). without_charges (halves_of new) ≡ x.all) new k c (all_of t new of.sound) here)
+    ∙ ap without_charges of.made
+    ∙ All-at (λ (x : Board). without_charges (halves_of old) ≡ x.all) old k b (all_of t old s) there in
     let fresh = All-at (IsFreshlyPut moment) new k c of.fresh here in
     let played : c.played ≡ length b.list = fresh.played ∙ ap length list in
     let resumed : c.resumed ≡ length b.list = fresh.resumed ∙ ap length list in

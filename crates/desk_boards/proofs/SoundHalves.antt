@@ -13,12 +13,12 @@ use Rattle.game_board.specs.Board.{Board, half_move}
 use Rattle.game_board.specs.Scoresheet.{IsTrueScore}
 use Rattle.game_records.specs.declared.stored_game.Half.{Half}
 use Rattle.game_records.specs.Bounds as bounds
-use Rattle.game_records.specs.Bounds.{AreHalves, IsHalf, count_on}
-use Rattle.game_records.specs.Replays.{half_moves}
+use Rattle.game_records.specs.Bounds.{AreHalves, IsHalf, count_on_board}
+use Rattle.game_records.specs.Replays.{without_charges}
 use Rattle.desk_boards.specs.Boards.{board_numbers}
 use Rattle.desk_boards.specs.Halves.{half_of, halves_from, halves_of, list_on, played_of}
 use Rattle.desk_boards.specs.Sound.{AreSoundBoards}
-use Rattle.desk_boards.proofs.Halved.{AreOnTwo, by_choice, half_moves-from, list_on-else, list_on-one, list_on-own, list_on-two, not_second, second}
+use Rattle.desk_boards.proofs.Halved.{AreOnTwo, by_choice, without_charges-from, list_on-else, list_on-one, list_on-own, list_on-two, not_second, second}
 use Rattle.desk_boards.proofs.Pairs.{numbers_of_two, never_three}
 
 -- the number of the one board of a game, which is none of a pair
@@ -57,16 +57,16 @@ pub own_at : (n : ℕ) (b : Board) → IsTrueScore b → b.number ≡ n → move
 own_at n b score number = ap (λ (k : ℕ). moves_of k b.all) (sym number) ∙ score.own
 
 pub all_of : (t : Terms) (boards : List Board) → AreSoundBoards t boards
-    → All (λ b. half_moves (halves_of boards) ≡ b.all) boards
-all_of t [] s = All-nil (λ (b : Board). half_moves (halves_of []) ≡ b.all)
+    → All (λ b. without_charges (halves_of boards) ≡ b.all) boards
+all_of t [] s = All-nil (λ (b : Board). without_charges (halves_of []) ≡ b.all)
 all_of t (b ∷ []) s =
-    let P : Board → Type 0 = λ x. half_moves (halves_of (b ∷ [])) ≡ x.all in
-    All-cons P b [] (half_moves-from b.list [] b.all) (All-nil P)
+    let P : Board → Type 0 = λ x. without_charges (halves_of (b ∷ [])) ≡ x.all in
+    All-cons P b [] (without_charges-from b.list [] b.all) (All-nil P)
 all_of t (b ∷ c ∷ []) s =
-    let P : Board → Type 0 = λ x. half_moves (halves_of (b ∷ c ∷ [])) ≡ x.all in
+    let P : Board → Type 0 = λ x. without_charges (halves_of (b ∷ c ∷ [])) ≡ x.all in
     let same : c.all ≡ b.all = All-head (λ (T : List HalfMove). T ≡ b.all) c.all [] s.together in
-    All-cons P b (c ∷ []) (half_moves-from b.list c.list b.all)
-    (All-cons P c [] (half_moves-from b.list c.list b.all ∙ sym same) (All-nil P))
+    All-cons P b (c ∷ []) (without_charges-from b.list c.list b.all)
+    (All-cons P c [] (without_charges-from b.list c.list b.all ∙ sym same) (All-nil P))
 all_of t (b ∷ c ∷ d ∷ more) s = absurd (never_three t.variant b c d more s.numbers)
 
 pub each_of : (t : Terms) (boards : List Board) → AreSoundBoards t boards
@@ -99,8 +99,8 @@ abbrev half_move_of : Half → HalfMove
 half_move_of h = record { board = h.board; what = h.what }
 
 -- counts of half-moves
-pub count_on-list : (n : ℕ) (halves : List Half) → count_on n halves ≡ length (list_on n halves)
-count_on-list n halves =
+pub count_on_board-list : (n : ℕ) (halves : List Half) → count_on_board n halves ≡ length (list_on n halves)
+count_on_board-list n halves =
     sym (length-filter (λ (h : Half). nat_eq h.board n) halves)
     ∙ sym (length-map (filter (λ (h : Half). nat_eq h.board n) halves) played_of)
 
@@ -140,7 +140,7 @@ bounds_of t (b ∷ []) s =
     let halves = halves_from b.list [] b.all in
     let alone = ap length (score.alone (λ e. one.0 (sym (ap (λ (x : Terms). x.variant) terms) ∙ e))) in
     let listed = length-map b.list (half_move b.number) in
-    let whole = ap length (half_moves-from b.list [] b.all) in
+    let whole = ap length (without_charges-from b.list [] b.all) in
     let taken = length-map halves half_move_of in
     let all : length halves ≤ 1200 = omega (arith, alone, listed, whole, taken, short) in
     let first = count_by-le-length (λ (h : Half). nat_eq h.board 1) halves in
@@ -169,8 +169,8 @@ bounds_of t (b ∷ c ∷ []) s =
     (ap (moves_of 2) (sym same) ∙ own_at 2 c (All-head IsTrueScore c [] scores) two.2)) in
     let sum = on_each t.variant halves s.halves in
     let boards : bounds.boards t.variant ≡ 2 = ap bounds.boards two.0 in
-    let first = count_on-list 1 halves in
-    let second = count_on-list 2 halves in
+    let first = count_on_board-list 1 halves in
+    let second = count_on_board-list 2 halves in
     record {
       each = s.halves;
       few = omega (arith, sum, one_is, two_is, short_one, short_two, boards);

@@ -1,15 +1,11 @@
 -- A stored game replays exactly where its half-moves are played again.
-use Rattle.std.proofs.Common.{ℕ, Result, Ok, Err}
-use Rattle.std.specs.Prelude.{◌↔◌, IsSome, IfOk}
+use Rattle.std.proofs.Common.{ℕ}
+use Rattle.std.specs.Prelude.{◌↔◌, IsSome}
 use Rattle.game_records.specs.declared.stored_game.StoredGame.{StoredGame}
 use Rattle.game_records.specs.Bounds.{IsGame}
 use Rattle.game_records.specs.Replays.{AreFour, Replays}
 use Rattle.desk_boards.specs.Replaying.{replayed}
 use Rattle.desk_boards.proofs.Replayed.{replayed_exactly}
-
-pub if_ok : {X E : Type 0} (P Q : X → Type 0) (r : Result X E) → ((x : X) → P x → Q x) → IfOk r P → IfOk r Q
-if_ok P Q (Ok x) step h = step x h
-if_ok P Q (Err e) step h = tt
 
 pub replays_where : (g : StoredGame) (moment : ℕ) → IsGame g → AreFour g.terms.variant g.names
     → IsSome (replayed g.terms g.halves moment) ↔ Replays g

@@ -9,7 +9,7 @@ use Rattle.clock_ledger.specs.Span.{IsStamp}
 use Rattle.game_board.specs.Board.{Board, position_of}
 use Rattle.game_records.specs.declared.stored_game.Half.{Half}
 use Rattle.game_records.specs.Bounds.{AreHalves, IsHalf}
-use Rattle.game_records.specs.Replays.{CanBePlayed, GoesOn, half_moves}
+use Rattle.game_records.specs.Replays.{CanBePlayed, GoesOn, without_charges}
 use Rattle.fics_words.specs.Boards.{board_place}
 use Rattle.desk_boards.specs.Boards.{boards_acked, boards_after, latest, new_boards, word_at}
 use Rattle.fics_words.specs.declared.board_number.BoardNumber.{BoardNumber}
@@ -22,7 +22,7 @@ use Rattle.desk_boards.specs.TakenBack.{boards_taken_back}
 -- it keeps the bounds of records
 pub record HalvesAreTheBoards : Type 0 where
   pub all : (t : Terms) (boards : List Board) → AreSoundBoards t boards →
-      All (λ b. half_moves (halves_of boards) ≡ b.all) boards
+      All (λ b. without_charges (halves_of boards) ≡ b.all) boards
   pub each : (t : Terms) (boards : List Board) → AreSoundBoards t boards →
       All (λ b. list_on b.number (halves_of boards) ≡ b.list) boards
   pub bounds : (t : Terms) (boards : List Board) → AreSoundBoards t boards → AreHalves t.variant (halves_of boards)

@@ -18,13 +18,13 @@ pub record DoorTale : Type 0 where
   pub last : Answered
 
 -- what an answer of a door, whose links tell this, does to what it tells
-abbrev pub Gives : {L : Type 0} → (L → Option Tale) → Came L → DoorTale → DoorTale → Type 0
-Gives tells (Link link) old new =
+abbrev pub DoorGives : {L : Type 0} → (L → Option Tale) → Came L → DoorTale → DoorTale → Type 0
+DoorGives tells (Link link) old new =
     (old.left ≡ tells link ∷ new.left)
     × (new ≡ record old { left = new.left; came = old.came ++ tells link ∷ []; last = answered.Link })
-Gives tells Quiet old new = new ≡ record old { quiets = old.quiets + 1; last = answered.Quiet }
-Gives tells Closed old new = (old.left ≡ []) × (new ≡ record old { last = answered.Closed })
-Gives tells Failed old new = new ≡ record old { last = answered.Failed }
+DoorGives tells Quiet old new = new ≡ record old { quiets = old.quiets + 1; last = answered.Quiet }
+DoorGives tells Closed old new = (old.left ≡ []) × (new ≡ record old { last = answered.Closed })
+DoorGives tells Failed old new = new ≡ record old { last = answered.Failed }
 
 -- the fact holds of a link that came
 abbrev pub IfCame : {L : Type 0} → Came L → (L → Type 0) → Type 0

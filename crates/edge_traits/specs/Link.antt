@@ -39,8 +39,8 @@ IsFresh tale =
     × (tale.at_read ≡ record { taken = 0; written = 0; ended = false })
 
 -- a link that tells isn't closed
-abbrev pub IsOpen : Option Tale → Type 0
-IsOpen link = IfSome link (λ tale. tale.closed ≡ false)
+abbrev pub LinkIsOpen : Option Tale → Type 0
+LinkIsOpen link = IfSome link (λ tale. tale.closed ≡ false)
 
 -- what an answer gives, of which the bytes are the beginning of the buffer
 abbrev pub signs_of : Heard → List ℕ → List Sign

@@ -34,7 +34,7 @@ pub trait Doorway {
     ghost use Rattle.std.specs.declared.option.Option.{Option};
     ghost use Rattle.edge_traits.specs.Faults.{Rose};
     ghost use Rattle.edge_traits.specs.WhereTold.{WhereTold};
-    ghost use Rattle.edge_traits.specs.Door.{DoorTale, Gives, IfCame, IsNew, IsOut, TakesBack, OnDoorFailed};
+    ghost use Rattle.edge_traits.specs.Door.{DoorTale, DoorGives, IfCame, IsNew, IsOut, TakesBack, OnDoorFailed};
 
     /// A connection that this door gives.
     type Link: Link + Send + Drop;
@@ -46,7 +46,7 @@ pub trait Doorway {
     /// The next connection, which is fresh. A door that tells is closed only where it has no link left; it fails only
     /// where the count of faults rose.
     fn next(&mut self) -> Came<Self::Link>
-        ensures gives { WhereTold (tale self.old) (tale self.new) (Gives Self.Link.tale result) }
+        ensures gives { WhereTold (tale self.old) (tale self.new) (DoorGives Self.Link.tale result) }
         ensures fresh { IfCame result (λ link. IsNew (Self.Link.faults link) (Self.Link.tale link)) }
         ensures cause { OnDoorFailed result (Rose (faults self.old) (faults self.new)) }
         ensures counted { faults self.old ≤ faults self.new };

@@ -24,7 +24,7 @@ pub trait Link {
     ghost use Rattle.edge_traits.specs.Faults.{Rose};
     ghost use Rattle.edge_traits.specs.Sink.{OnWriteFailed};
     ghost use Rattle.edge_traits.specs.WhereTold.{WhereTold};
-    ghost use Rattle.edge_traits.specs.Link.{Tale, IsOpen, Reads, Writes, Closes, IfHeard, OnHearFailed};
+    ghost use Rattle.edge_traits.specs.Link.{Tale, LinkIsOpen, Reads, Writes, Closes, IfHeard, OnHearFailed};
 
     ghost tale: { Self → Option Tale };
 
@@ -34,7 +34,7 @@ pub trait Link {
     /// of faults rose.
     fn read(&mut self, buf: &mut [u8]) -> Heard
         requires room { 0 < length buf.old }
-        requires open { IsOpen (tale self.old) }
+        requires open { LinkIsOpen (tale self.old) }
         ensures count { IfHeard result (λ n. (0 < n) × (n ≤ length buf.new)) }
         ensures read { WhereTold (tale self.old) (tale self.new) (Reads result buf.new) }
         ensures cause { OnHearFailed result (Rose (faults self.old) (faults self.new)) }
@@ -42,7 +42,7 @@ pub trait Link {
 
     /// Writes the bytes to a link that isn't closed; fails only where the count of faults rose.
     fn write(&mut self, bytes: &[u8]) -> Sent
-        requires open { IsOpen (tale self.old) }
+        requires open { LinkIsOpen (tale self.old) }
         ensures wrote { WhereTold (tale self.old) (tale self.new) (Writes result bytes.now) }
         ensures cause { OnWriteFailed result (Rose (faults self.old) (faults self.new)) }
         ensures counted { faults self.old ≤ faults self.new };

@@ -12,7 +12,7 @@ use Rattle.game_board.specs.Put.{with_put}
 use Rattle.game_board.specs.Rewind.{rewound}
 use Rattle.game_records.specs.declared.stored_game.Half.{Half}
 use Rattle.game_records.specs.Bounds as bounds
-use Rattle.game_records.specs.Replays.{half_moves, made_on}
+use Rattle.game_records.specs.Replays.{without_charges, made_on}
 use Rattle.fics_words.specs.Boards.{board_number, board_place}
 use Rattle.desk_boards.specs.Boards.{board_numbers}
 use Rattle.fics_words.specs.declared.board_number.BoardNumber.{BoardNumber}
@@ -59,8 +59,8 @@ made_is n (g ∷ halves) =
     elim (nat_eq g.board n)
     as (λ b.
     length (map (λ h. h.what)
-    (if b then record { board = g.board; what = g.what } ∷ filter (λ h. nat_eq h.board n) (half_moves halves)
-    else filter (λ h. nat_eq h.board n) (half_moves halves)))
+    (if b then record { board = g.board; what = g.what } ∷ filter (λ h. nat_eq h.board n) (without_charges halves)
+    else filter (λ h. nat_eq h.board n) (without_charges halves)))
     ≡ length
     (map played_of (if b then g ∷ filter (λ h. nat_eq h.board n) halves else filter (λ h. nat_eq h.board n) halves))) [
       | true ↦ ap suc (made_is n halves)
@@ -84,9 +84,9 @@ board_more t halves h n own =
     let list = list_on-more n halves h (let same = own in grind (arith, nat_tests, same)) in
     let many : length (list_on n (halves ++ h ∷ [])) ≡ length (list_on n halves) + 1 =
     ap length list ∙ length_push (list_on n halves) (played_of h) in
-    let all : half_moves (halves ++ h ∷ []) ≡ half_moves halves ++ record { board = n; what = h.what } ∷ [] =
+    let all : without_charges (halves ++ h ∷ []) ≡ without_charges halves ++ record { board = n; what = h.what } ∷ [] =
     map-append (λ g. record { board = g.board; what = g.what }) halves (h ∷ [])
-    ∙ (λ i. half_moves halves ++ record { board = own i; what = h.what } ∷ []) in
+    ∙ (λ i. without_charges halves ++ record { board = own i; what = h.what } ∷ []) in
     λ i.
     record {
       number = n;
@@ -104,10 +104,10 @@ pub board_told : (t : Terms) (halves : List Half) (h : Half) (n : ℕ) → nat_e
     → other_board n ≡ h.board → learnt (board_after t halves n) h.what ≡ board_after t (halves ++ h ∷ []) n
 board_told t halves h n other number =
     let list = list_on-same n halves h other in
-    let all : half_moves (halves ++ h ∷ [])
-    ≡ half_moves halves ++ record { board = other_board n; what = h.what } ∷ [] =
+    let all : without_charges (halves ++ h ∷ [])
+    ≡ without_charges halves ++ record { board = other_board n; what = h.what } ∷ [] =
     map-append (λ g. record { board = g.board; what = g.what }) halves (h ∷ [])
-    ∙ (λ i. half_moves halves ++ record { board = sym number i; what = h.what } ∷ []) in
+    ∙ (λ i. without_charges halves ++ record { board = sym number i; what = h.what } ∷ []) in
     λ i.
     record {
       number = n;

@@ -4,7 +4,7 @@ use Rattle.chess_model.specs.declared.variant.Terms.{Terms}
 use Rattle.game_board.specs.Board.{Board}
 use Rattle.game_records.specs.declared.stored_game.Half.{Half}
 use Rattle.game_records.specs.declared.stored_game.StoredGame.{StoredGame}
-use Rattle.game_records.specs.Replays.{half_moves}
+use Rattle.game_records.specs.Replays.{without_charges}
 use Rattle.fics_words.specs.Boards.{board_number}
 use Rattle.desk_boards.specs.Boards.{board_numbers}
 use Rattle.fics_words.specs.declared.board_number.BoardNumber.{BoardNumber}
@@ -39,7 +39,7 @@ board_after t halves number = record {
   kept = None;
   played = length (list_on number halves);
   resumed = length (list_on number halves);
-  all = half_moves halves;
+  all = without_charges halves;
 }
 
 -- all boards of the game after these half-moves

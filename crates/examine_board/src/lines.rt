@@ -27,7 +27,7 @@ impl Exam {
     {
         let mut lines = LineList::new(alloc);
         let view = self.view(self.shown_board());
-        lines.push(line12(alloc, &view, EXAMINER)?)?;
+        lines.push(line12(&view, EXAMINER).finish(alloc)?)?;
         self.put_hands(alloc, &mut lines)?;
         Ok(lines)
     }
@@ -110,5 +110,5 @@ fn hands_line(alloc: Global, board: &GameBoard) -> Result<Line, NoMemory>
     let white = position.hand(Colour::White);
     let black = position.hand(Colour::Black);
     let game = u16::from(board.number().number());
-    line_b1(alloc, game, &white, &black, None)
+    line_b1(game, &white, &black, None).finish(alloc)
 }

@@ -5,11 +5,11 @@
 use cmd_job::{Job, JobFail, read_job};
 use cmd_lines::{End, status};
 use cmd_run::run;
-use edge_traits::{Keeper, OpenGate};
-use file_keeper::{SqliteKeeper, StoreReader};
+use edge_traits::OpenGate;
+use file_keeper::{AnyKeeper, SqliteKeeper, StoreReader};
 use real_edges::{NoStore, StdSink, StdSource, TcpDoor, WallClock};
 use serve_call::serve;
-use std::alloc::{AllocError, Global};
+use std::alloc::AllocError;
 use std::io::ErrorKind;
 use std::net::{Net, TcpListener, TcpStream};
 use std::process::ExitCode;
@@ -36,22 +36,32 @@ fn main(rt: HostRuntime) -> ExitCode {
             ExitCode::from(serve_with(&rt, rt, words, door, store))
         }
         Ok(Job::Check { store } | Job::Pgn { store } | Job::Examine { store, .. }) => {
-            run_over(&rt, words, &mut StoreReader::new(rt, store))
+            run_over(&rt, words, AnyKeeper::Read(StoreReader::new(rt, store)))
         }
         Err(JobFail::Memory) => ExitCode::from(status(End::Memory)),
-        Ok(_) | Err(JobFail::Usage) => run_over(&rt, words, &mut NoStore::new(rt.alloc())),
+        Ok(_) | Err(JobFail::Usage) => {
+            run_over(&rt, words, AnyKeeper::Nothing(NoStore::new(rt.alloc())))
+        }
+    }
+}
+
+/// The keeper of a server over the store at the path; without a path nothing is kept.
+fn keeper_of(host: HostRuntime, store: Option<String>) -> AnyKeeper {
+    match store {
+        Some(path) => AnyKeeper::Held(SqliteKeeper::new(host, path)),
+        None => AnyKeeper::Nothing(NoStore::new(host.alloc())),
     }
 }
 
 /// Runs a command over the standard streams.
-fn run_over<P: Keeper>(rt: &HostRuntime, words: &[String], keeper: &mut P) -> ExitCode {
+fn run_over(rt: &HostRuntime, words: &[String], mut keeper: AnyKeeper) -> ExitCode {
     let mut source = StdSource::new(rt.reader());
     let mut sink = StdSink::new(io::writer(rt));
-    ExitCode::from(run(rt.alloc(), words, &mut source, &mut sink, keeper))
+    ExitCode::from(run(rt.alloc(), words, &mut source, &mut sink, &mut keeper))
 }
 
-/// Serves at a door on TCP over the store at the path, which is let go once all is served; without a path nothing is
-/// kept. Threads are started by `rt` alone, which is `host` as `main` has it.
+/// Serves at a door on TCP over the store at the path, which is let go once all is served. Threads are started by `rt`
+/// alone, which is `host` as `main` has it.
 fn serve_with<T>(
     rt: &T,
     host: HostRuntime,
@@ -62,35 +72,37 @@ fn serve_with<T>(
 where
     T: Net<Listener = TcpListener, Stream = TcpStream> + Clock + Threads + Wait + Sync,
 {
-    let mut sink = StdSink::new(io::writer(&host));
-    let Some(path) = store else {
-        let mut keeper = NoStore::new(host.alloc());
-        return serve_at(rt, host.alloc(), words, door, &mut keeper, &mut sink);
-    };
-    let mut keeper = SqliteKeeper::new(host, path);
-    let status = serve_at(rt, host.alloc(), words, door, &mut keeper, &mut sink);
+    let mut keeper = keeper_of(host, store);
+    let status = serve_at(rt, host, words, door, &mut keeper);
     // Where this fails, the file and the log beside it hold the records together, and the next server reads both.
     let _closed = keeper.close();
     status
 }
 
 /// Serves at a door on TCP, by the system's clock, and closes the hall once all is served.
-fn serve_at<T, P, W>(
+fn serve_at<T>(
     rt: &T,
-    alloc: Global,
+    host: HostRuntime,
     words: &[String],
     mut door: TcpDoor<'_, T>,
-    keeper: &mut P,
-    sink: &mut StdSink<W>,
+    keeper: &mut AnyKeeper,
 ) -> u8
 where
     T: Net<Listener = TcpListener, Stream = TcpStream> + Clock + Threads + Wait + Sync,
-    P: Keeper,
-    W: io::Write,
 {
     let clock = WallClock::new(rt);
     let gate = OpenGate::new();
-    let (status, served) = serve(rt, alloc, words, &mut door, &clock, keeper, sink, &gate);
+    let mut sink = StdSink::new(io::writer(&host));
+    let (status, served) = serve(
+        rt,
+        host.alloc(),
+        words,
+        &mut door,
+        &clock,
+        keeper,
+        &mut sink,
+        &gate,
+    );
     if let Some((hall, pass)) = served {
         let _parts = hall.close(pass);
     }

@@ -1,3 +1,4 @@
+pub mod Blank
 pub mod Boards
 pub mod Desks
 pub mod Effect

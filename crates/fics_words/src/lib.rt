@@ -1,5 +1,5 @@
 //! The words that every part of the server shares: refusals with their numbers and names, failures, handles
-//! of players, lines of text, decimals, numbers of boards and desks, accounts and players.
+//! of players, lines of text, decimals, numbers of boards and desks, accounts, players and their variables.
 //!
 //! The contract: a reader gives a value exactly where its grammar has one, and the value stands for the very
 //! bytes that were read; a refusal has one number and one name; a call that takes memory answers its error
@@ -17,6 +17,7 @@ mod number;
 mod player;
 mod refusal;
 mod seats;
+mod variable;
 
 pub use account::{Account, Digest};
 pub use board_number::BoardNumber;
@@ -29,3 +30,4 @@ pub use number::{read_number, write_number};
 pub use player::Player;
 pub use refusal::{Refusal, write_refusal};
 pub use seats::{Opponents, Seats};
+pub use variable::Variable;

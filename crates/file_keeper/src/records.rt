@@ -36,6 +36,19 @@ pub fn fail_of(error: Error) -> KeeperFail {
     }
 }
 
+/// The connection, once it has its clock and its table; it is let go where that fails.
+pub fn with_table<S: Alter + Drop>(
+    rt: &HostRuntime,
+    conn: Connection<S>,
+) -> Result<Connection<S>, KeeperFail> {
+    let mut conn = conn;
+    conn.set_clock(rt);
+    match make_table(&mut conn) {
+        Ok(()) => Ok(conn),
+        Err(fail) => Err(fail),
+    }
+}
+
 /// Makes the table where the database has none. A view or an index of that name is found at the first record.
 fn make_table<S: Alter>(conn: &mut Connection<S>) -> Result<(), KeeperFail> {
     match conn.execute(TABLE, &[]) {
@@ -49,8 +62,6 @@ fn make_table<S: Alter>(conn: &mut Connection<S>) -> Result<(), KeeperFail> {
 /// the store stands on to tie.
 #[derive(Clone, Copy)]
 pub enum Asked<'a> {
-    /// Makes the table where it is missing.
-    Table,
     /// Puts the record under the key, in place of the one that is there.
     Put { key: &'a [u8], bytes: &'a [u8] },
     /// Takes away the record under the key, if there is one.
@@ -68,7 +79,6 @@ pub fn carry_out<S: Alter>(
     ensures ascending { IfOk result (λ pairs. IsAscending pairs.items) }
 {
     match asked {
-        Asked::Table => no_pairs(alloc, make_table(conn)),
         Asked::Put { key, bytes } => no_pairs(alloc, put_record(conn, key, bytes)),
         Asked::Remove { key } => no_pairs(alloc, remove_record(conn, key)),
         Asked::Load => all_pairs(alloc, conn),

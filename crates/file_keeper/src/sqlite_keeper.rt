@@ -5,12 +5,14 @@ ghost use Rattle.edge_traits.specs.Faults.{Rose};
 ghost use Rattle.edge_traits.specs.Keeper.{OnKeepFailed};
 ghost use Rattle.edge_traits.specs.Pairs.{IsAscending};
 
-use crate::records::{Asked, carry_out, fail_of, kept, loaded};
+use crate::records::{Asked, kept, loaded};
+use crate::store::{Store, ask, close_store, let_go, open_store};
+use crate::store_file::StoreFile;
 use edge_traits::{CallLog, Keeper, KeeperFail, Kept, Pair, Request};
-use sqlite::{Connection, File, FileStore};
-use std::alloc::Global;
-
-type Store = Connection<FileStore<File>>;
+use sqlite::{Files, Unknown};
+use sqlite_std_file::OpenError;
+use std::hash::{BuildHasher, RandomState};
+use std::io::ErrorKind;
 
 /// A keeper over the file at a path, and its log beside it, named as the file with `-wal` behind it.
 ///
@@ -19,13 +21,26 @@ type Store = Connection<FileStore<File>>;
 /// memory, the file is let go, and the next call opens it anew. A change that is answered Failed is in doubt: the file
 /// is found as before, or as the change makes it.
 /// The file is refused where another holds it, where it isn't a database, and where a record or a key is no BLOB.
-#[derive(Drop)]
 pub struct SqliteKeeper {
     rt: HostRuntime,
     path: String,
     store: Option<Store>,
     faults: u64,
     calls: CallLog,
+}
+
+// One call for who drops a keeper: a derived destructor is proved again in each crate above, with all of SQLite's.
+impl Drop for SqliteKeeper {
+    fn drop(self) {
+        let SqliteKeeper {
+            rt: _,
+            path: _,
+            store,
+            faults: _,
+            calls: _,
+        } = self;
+        let_go(store);
+    }
 }
 
 impl SqliteKeeper {
@@ -50,7 +65,7 @@ impl SqliteKeeper {
         ensures counted { self.old.faults ≤ self.new.faults }
         ensures calls { self.new.calls ≡ self.old.calls }
     {
-        let outcome = close_store(&mut self.store);
+        let outcome = close_if_open(&mut self.store);
         kept(&mut self.faults, outcome)
     }
 }
@@ -102,13 +117,6 @@ fn asked_of(
     outcome
 }
 
-/// Asks a store. It alone has the proofs of a store to tie.
-fn ask(alloc: Global, conn: &mut Store, asked: Asked<'_>) -> Result<Vec<Pair>, KeeperFail>
-    ensures ascending { IfOk result (λ pairs. IsAscending pairs.items) }
-{
-    carry_out(alloc, conn, asked)
-}
-
 /// Whether what was asked went well.
 fn done(outcome: Result<Vec<Pair>, KeeperFail>) -> Result<(), KeeperFail> {
     match outcome {
@@ -125,14 +133,40 @@ fn taken_or_opened(
 ) -> Result<Store, KeeperFail> {
     match store.take() {
         Some(conn) => Ok(conn),
-        None => open_store(rt, path),
+        None => open_held(rt, path),
     }
 }
 
-fn open_store(rt: &HostRuntime, path: &str) -> Result<Store, KeeperFail> {
-    match Connection::open(rt, path) {
-        Ok(conn) => with_table(rt.alloc(), conn),
-        Err(error) => Err(fail_of(error)),
+/// Opens the file at the path and its log, and holds them.
+fn open_held(rt: &HostRuntime, path: &str) -> Result<Store, KeeperFail> {
+    let files = held_files(rt, path)?;
+    let seed = drawn_seed(rt)?;
+    open_store(rt, files, seed)
+}
+
+/// The file and its log, which are made where they are missing. What they held isn't known, and of a write that was
+/// torn each byte is taken to be the old or the new one. A path that names no file to SQLite is refused.
+fn held_files(rt: &HostRuntime, path: &str) -> Result<Files<StoreFile>, KeeperFail> {
+    if path == ":memory:" || path.starts_with("file:") {
+        return Err(KeeperFail::Failed);
+    }
+    match sqlite_std_file::open(rt, path, Unknown) {
+        Ok(Files { log, db }) => Ok(Files {
+            log: StoreFile::Held(log),
+            db: StoreFile::Held(db),
+        }),
+        Err(OpenError::OutOfMemory) => Err(KeeperFail::Memory),
+        Err(OpenError::Io(error)) if error.kind() == ErrorKind::OutOfMemory => {
+            Err(KeeperFail::Memory)
+        }
+        Err(_) => Err(KeeperFail::Failed),
+    }
+}
+
+fn drawn_seed(rt: &HostRuntime) -> Result<u64, KeeperFail> {
+    match RandomState::new(rt) {
+        Ok(drawn) => Ok(drawn.hash_one(&0u8)),
+        Err(_) => Err(KeeperFail::Failed),
     }
 }
 
@@ -145,31 +179,9 @@ fn keep_open(store: &mut Option<Store>, conn: Store, went_well: bool) {
     }
 }
 
-/// Closes a store without a word. It alone has the destructor of a connection to prove.
-fn let_go(_store: Option<Store>) {}
-
-fn close_store(store: &mut Option<Store>) -> Result<(), KeeperFail> {
+fn close_if_open(store: &mut Option<Store>) -> Result<(), KeeperFail> {
     match store.take() {
-        Some(conn) => close_conn(conn),
+        Some(conn) => close_store(conn),
         None => Ok(()),
-    }
-}
-
-fn close_conn(conn: Store) -> Result<(), KeeperFail> {
-    match conn.close() {
-        Ok(()) => Ok(()),
-        Err(error) => Err(fail_of(error)),
-    }
-}
-
-/// The store, once it has its table.
-fn with_table(alloc: Global, conn: Store) -> Result<Store, KeeperFail> {
-    let mut conn = conn;
-    match ask(alloc, &mut conn, Asked::Table) {
-        Ok(_) => Ok(conn),
-        Err(fail) => {
-            let_go(Some(conn));
-            Err(fail)
-        }
     }
 }

@@ -6,14 +6,13 @@ ghost use Rattle.edge_traits.specs.Faults.{Rose};
 ghost use Rattle.edge_traits.specs.Pairs.{IsAscending};
 
 use crate::copied::Copied;
-use crate::records::{Asked, carry_out, fail_of, loaded};
+use crate::records::{Asked, loaded};
+use crate::store::{ask, let_go, open_store};
+use crate::store_file::StoreFile;
 use edge_traits::{CallLog, Keeper, KeeperFail, Kept, Pair, Request};
-use sqlite::{Connection, FileStore, Files, Options};
-use std::alloc::Global;
+use sqlite::Files;
 use std::fs;
 use std::io::{self, ErrorKind};
-
-type CopiedStore = Connection<FileStore<Copied>>;
 
 /// How often the file and its log are read, while another writes them, before the load fails.
 const MOST_READS: u32 = 100;
@@ -101,30 +100,16 @@ fn load_copy(rt: &HostRuntime, path: &str) -> Result<Vec<Pair>, KeeperFail>
     ensures ascending { IfOk result (λ pairs. IsAscending pairs.items) }
 {
     let files = copied_files(rt, path)?;
-    let mut conn = open_copy(rt.alloc(), files)?;
+    let mut conn = open_store(rt, files, SEED)?;
     let outcome = ask(rt.alloc(), &mut conn, Asked::Load);
-    let_go(conn);
+    let_go(Some(conn));
     outcome
-}
-
-/// Lets the copies go. It alone has the destructor of their connection to prove.
-fn let_go(_conn: CopiedStore) {}
-
-/// Opens the copies; the table is made in them where it is missing.
-fn open_copy(alloc: Global, files: Files<Copied>) -> Result<CopiedStore, KeeperFail> {
-    if !files.may_be_used() {
-        return Err(KeeperFail::Failed);
-    }
-    match Connection::open_files(alloc, files, Options::new(SEED)) {
-        Ok(conn) => with_table(alloc, conn),
-        Err((error, _left)) => Err(fail_of(error)),
-    }
 }
 
 /// The file and its log as they stood at one moment. The log is read before the file and after it: where both readings
 /// are the same, nothing was written to the log in between, and what was copied from it into the file stands in it
 /// still.
-fn copied_files(rt: &HostRuntime, path: &str) -> Result<Files<Copied>, KeeperFail> {
+fn copied_files(rt: &HostRuntime, path: &str) -> Result<Files<StoreFile>, KeeperFail> {
     let place = StoreFiles::of(rt, path)?;
     if has_journal(rt, &place.journal)? {
         return Err(KeeperFail::Failed);
@@ -135,8 +120,8 @@ fn copied_files(rt: &HostRuntime, path: &str) -> Result<Files<Copied>, KeeperFai
         let after = read_beside(rt, &place.log)?;
         if before == after {
             return Ok(Files {
-                log: Copied::of(after),
-                db: Copied::of(db),
+                log: StoreFile::Copy(Copied::of(after)),
+                db: StoreFile::Copy(Copied::of(db)),
             });
         }
     }
@@ -196,24 +181,5 @@ fn io_fail(error: &io::Error) -> KeeperFail {
         KeeperFail::Memory
     } else {
         KeeperFail::Failed
-    }
-}
-
-/// Asks the copies. It alone has the proofs of a store to tie.
-fn ask(alloc: Global, conn: &mut CopiedStore, asked: Asked<'_>) -> Result<Vec<Pair>, KeeperFail>
-    ensures ascending { IfOk result (λ pairs. IsAscending pairs.items) }
-{
-    carry_out(alloc, conn, asked)
-}
-
-/// The copies, once they have their table.
-fn with_table(alloc: Global, conn: CopiedStore) -> Result<CopiedStore, KeeperFail> {
-    let mut conn = conn;
-    match ask(alloc, &mut conn, Asked::Table) {
-        Ok(_) => Ok(conn),
-        Err(fail) => {
-            let_go(conn);
-            Err(fail)
-        }
     }
 }

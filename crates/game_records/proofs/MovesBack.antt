@@ -8,9 +8,9 @@ use Rattle.chess_model.specs.declared.moves.Move.{Move}
 use Rattle.chess_model.specs.declared.moves.Move.TheVariants.{Plain, Castle, Drop}
 use Rattle.game_records.specs.Codes.{MayBecome, MayBeDropped, HasCode, promotion_code, kind_code, move_code}
 use Rattle.game_records.specs.Bounds.{AreSquares}
-use Rattle.game_records.specs.Reading.{promotion_of, kind_of, move_of}
+use Rattle.game_records.specs.Reading.{promotion_numbered, kind_of, move_of}
 
-promotion-read : (promo : Option Kind) → MayBecome promo → promotion_of (promotion_code promo) ≡ promo
+promotion-read : (promo : Option Kind) → MayBecome promo → promotion_numbered (promotion_code promo) ≡ promo
 promotion-read None h = refl
 promotion-read (Some Pawn) h = absurd h
 promotion-read (Some Knight) h = refl
@@ -52,7 +52,7 @@ not_below a b h = grind (arith, nat_tests)
 
 -- the half-moves of a code, by what it isn't below
 abbrev plain_of : ℕ → Move
-plain_of n = Plain (n / 512 % 64) (n / 8 % 64) (promotion_of (n % 8))
+plain_of n = Plain (n / 512 % 64) (n / 8 % 64) (promotion_numbered (n % 8))
 
 abbrev castle_of : ℕ → Move
 castle_of n = Castle (nat_eq n 0x8001)
@@ -90,8 +90,8 @@ move-read (Plain a b promo) h c =
     let first = h.0 in
     let second = h.1 in
     low_code n (omega arith)
-    ∙ plain-same (n / 512 % 64) (n / 8 % 64) a b (promotion_of (n % 8)) promo (omega arith) (omega arith)
-    (ap promotion_of (let e : n % 8 ≡ promotion_code promo = omega arith in e) ∙ promotion-read promo c)
+    ∙ plain-same (n / 512 % 64) (n / 8 % 64) a b (promotion_numbered (n % 8)) promo (omega arith) (omega arith)
+    (ap promotion_numbered (let e : n % 8 ≡ promotion_code promo = omega arith in e) ∙ promotion-read promo c)
 move-read (Castle false) h c = castle_short
 move-read (Castle true) h c = castle_long
 move-read (Drop kind to) h c =

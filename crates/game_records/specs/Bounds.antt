@@ -48,15 +48,15 @@ pub record IsHalf (v : Variant) (h : Half) : Type 0 where
   pub charge : IsCharge h.charge
 
 -- the half-moves of a board
-abbrev pub count_on : ℕ → List Half → ℕ
-count_on board halves = count_by (λ h. nat_eq h.board board) halves
+abbrev pub count_on_board : ℕ → List Half → ℕ
+count_on_board board halves = count_by (λ h. nat_eq h.board board) halves
 
 -- at most 1,200 half-moves on each board
 pub record AreHalves (v : Variant) (halves : List Half) : Type 0 where
   pub each : AllByRecursion (IsHalf v) halves
   pub few : length halves ≤ most_halves * boards v
-  pub first : count_on 1 halves ≤ most_halves
-  pub second : count_on 2 halves ≤ most_halves
+  pub first : count_on_board 1 halves ≤ most_halves
+  pub second : count_on_board 2 halves ≤ most_halves
 
 pub record IsGame (g : StoredGame) : Type 0 where
   pub terms : AreStoredTerms g.terms

@@ -43,8 +43,8 @@ behind_names zero bytes = bytes
 behind_names (suc n) bytes = behind_names n (behind_name bytes)
 
 -- what a pawn becomes, by its number
-abbrev pub promotion_of : ℕ → Option Kind
-promotion_of n =
+abbrev pub promotion_numbered : ℕ → Option Kind
+promotion_numbered n =
     if nat_eq n 1 then Some Knight else (if nat_eq n 2 then Some Bishop else (if nat_eq n 3 then Some Rook
     else (if nat_eq n 4 then Some Queen else None)))
 
@@ -57,7 +57,7 @@ kind_of n =
 -- the half-move of a code
 unfoldable pub move_of : ℕ → Move
 move_of code =
-    if nat_lt code 0x8000 then Plain (code / 512 % 64) (code / 8 % 64) (promotion_of (code % 8))
+    if nat_lt code 0x8000 then Plain (code / 512 % 64) (code / 8 % 64) (promotion_numbered (code % 8))
     else (if nat_lt code 0x8100 then Castle (nat_eq code 0x8001)
     else Drop (kind_of ((code - 0x8100) / 64)) ((code - 0x8100) % 64))
 

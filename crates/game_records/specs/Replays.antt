@@ -15,16 +15,16 @@ use Rattle.game_records.specs.declared.stored_game.StoredGame.{StoredGame}
 use Rattle.game_records.specs.Bounds.{IsGame}
 
 -- the half-moves without their charges
-abbrev pub half_moves : List Half → List HalfMove
-half_moves halves = map (λ h. record { board = h.board; what = h.what }) halves
+abbrev pub without_charges : List Half → List HalfMove
+without_charges halves = map (λ h. record { board = h.board; what = h.what }) halves
 
 -- the position of a board after these half-moves
 abbrev pub position_on : Variant → List Half → ℕ → Position
-position_on v halves board = position_after v (half_moves halves) board
+position_on v halves board = position_after v (without_charges halves) board
 
 -- how many half-moves a board has seen
 abbrev pub made_on : List Half → ℕ → ℕ
-made_on halves board = length (moves_of board (half_moves halves))
+made_on halves board = length (moves_of board (without_charges halves))
 
 -- the game goes on in this position: it is neither mate nor stalemate
 abbrev pub GoesOn : Position → Type 0

@@ -2,7 +2,7 @@
 ghost use Rattle.std.specs.Prelude.{◌≡◌, ◌≤◌, ◌↔◌, IsTrue};
 ghost use Rattle.std.specs.List.{AllByRecursion};
 ghost use Rattle.chess_model.specs.VariantWord.{IsNumbered};
-ghost use Rattle.game_records.specs.Bounds.{AreHalves, AreStoredTerms, IsGame, IsHalf, boards, count_on, seats};
+ghost use Rattle.game_records.specs.Bounds.{AreHalves, AreStoredTerms, IsGame, IsHalf, boards, count_on_board, seats};
 
 use crate::charges::is_charge;
 use crate::codes::has_code;
@@ -74,7 +74,7 @@ fn are_halves(variant: Variant, halves: &[PackedHalf]) -> bool
 
 /// How many of the half-moves are of the board.
 fn count_on(board: u8, halves: &[PackedHalf]) -> usize
-    ensures { result ≡ count_on board halves.now }
+    ensures { result ≡ count_on_board board halves.now }
 {
     halves.iter().filter(|half| half.board() == board).count()
 }

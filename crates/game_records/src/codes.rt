@@ -1,7 +1,7 @@
 //! The codes of half-moves.
 ghost use Rattle.std.specs.Prelude.{◌≡◌, ◌<◌, ◌↔◌, ◌%◌, IsTrue};
 ghost use Rattle.game_records.specs.Codes.{HasCode, MayBecome, MayBeDropped, promotion_code, kind_code, move_code};
-ghost use Rattle.game_records.specs.Reading.{move_of, promotion_of, kind_of};
+ghost use Rattle.game_records.specs.Reading.{move_of, promotion_numbered, kind_of};
 
 use chess_model::{Kind, Move, Square};
 
@@ -123,7 +123,7 @@ fn kind_code(kind: Kind) -> u16
 }
 
 fn promotion_of(number: u16) -> Option<Kind>
-    ensures { result ≡ promotion_of number }
+    ensures { result ≡ promotion_numbered number }
 {
     match number {
         1 => Some(Kind::Knight),

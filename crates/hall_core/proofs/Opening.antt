@@ -1,6 +1,5 @@
 -- The parts with which a hall opens.
-use Rattle.std.proofs.Common.{◌≡◌, ℕ, ◌+◌, List, [], ◌∷◌, ◌++◌, refl, ap, sym, subst, ◌∙◌}
-use Rattle.std.proofs.lemmas.List.{map-append}
+use Rattle.std.proofs.Common.{◌≡◌, ℕ, ◌+◌, List, [], ◌∷◌, ◌++◌, map, refl, ap, sym, subst, ◌∙◌}
 use Rattle.linked_desk.specs.Desk.{DeskState}
 use Rattle.lobby_state.specs.Desks.{desks as desk_count}
 use Rattle.lobby_state.specs.Lobby.{LobbyState}
@@ -25,11 +24,9 @@ pub parts_push : (lobby : LobbyState) (slot : ℕ) (parts new : List Part) (desk
     → parts ≡ parts_with lobby (vacant_from 1 slot) → desk ≡ vacant (slot + 1) → new ≡ parts ++ ADesk desk ∷ []
     → new ≡ parts_with lobby (vacant_from 1 (slot + 1))
 parts_push lobby slot parts new desk e d n =
-    let more : vacant_from 1 slot ++ desk ∷ [] ≡ vacant_from 1 (slot + 1) =
-    vacant_push slot (vacant_from 1 slot) (vacant_from 1 slot ++ desk ∷ []) desk refl d refl in
+    let desks : List Part = map ADesk (vacant_from 1 slot) in
     n ∙ ap (λ ps. ps ++ ADesk desk ∷ []) e
-    ∙ ap (λ ps. TheLobby lobby ∷ ps) (sym (map-append ADesk (vacant_from 1 slot) (desk ∷ [])))
-    ∙ ap (parts_with lobby) more
+    ∙ ap (λ ps. TheLobby lobby ∷ ps) (vacant_push slot desks (desks ++ ADesk desk ∷ []) desk refl d refl)
 
 pub is_opened : (lobby : LobbyState) → parts_with lobby (vacant_from 1 desk_count) ≡ opened_server lobby
 unfolding opened_server

@@ -3,7 +3,7 @@
 use crate::boxed_part::BoxedPart;
 use histories::Served;
 use memory::NoMemory;
-use one_server::{self, Part, Reply, Timed};
+use one_server::{self, Reply, Timed};
 use std::alloc::Global;
 use turn_chain::Steps;
 
@@ -35,10 +35,7 @@ impl Steps for HallRules {
     }
 
     fn second_part(one: &BoxedPart, session: u32, act: &Timed) -> Option<u8> {
-        match &*one.part {
-            Part::Lobby(lobby) => one_server::second_part(lobby, session, &act.act),
-            Part::Desk(_) => None,
-        }
+        one_server::second_part(&*one.part, session, &act.act)
     }
 
     fn alone(

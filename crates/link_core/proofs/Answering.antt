@@ -1,5 +1,5 @@
 -- All that came over a link is answered, where nothing failed and memory was enough.
-use Rattle.std.proofs.Common.{◌≡◌, ℕ, ◌+◌, ◌^◌, ◌<◌, ◌≤◌, inl, inr, Bool, true, false, List, [], ◌++◌, length, map, refl, sym, ap, subst, ◌∙◌, arith, append_assoc, append-nil, length-append, option_to_list}
+use Rattle.std.proofs.Common.{◌≡◌, ℕ, ◌^◌, ◌<◌, ◌≤◌, inl, inr, Bool, true, false, List, [], ◌++◌, length, map, refl, sym, ap, subst, ◌∙◌, arith, append_assoc, append-nil, length-append, option_to_list}
 use Rattle.edge_traits.specs.Link.{Sign, Tale}
 use Rattle.histories.specs.History.{IsPrefix}
 use Rattle.histories.proofs.Histories.{prefix_trans}

@@ -1,5 +1,5 @@
 -- The session leaves, and the link is closed.
-use Rattle.std.proofs.Common.{◌≡◌, ◌⊎◌, ℕ, Bool, true, false, if◌then◌else◌, List, [], ◌∷◌, ◌++◌, refl, sym, ap, subst, ◌∙◌, append_assoc, append-nil, inl, inr, Err}
+use Rattle.std.proofs.Common.{◌≡◌, ℕ, Bool, true, false, if◌then◌else◌, List, [], ◌∷◌, ◌++◌, refl, sym, ap, subst, ◌∙◌, append_assoc, append-nil, inl, inr, Err}
 use Rattle.std.specs.declared.option.Option.{Option}
 use Rattle.edge_traits.specs.Faults.{Rose}
 use Rattle.edge_traits.specs.Link.{Closes, Handed, Sign, Tale}
@@ -19,10 +19,10 @@ use Rattle.one_server.proofs.Made.{made_then}
 use Rattle.link_core.specs.declared.link_end.LinkEnd.{LinkEnd}
 use Rattle.link_core.specs.declared.link_end.LinkEnd.TheVariants as end
 use Rattle.link_core.specs.Arrivals.{inputs_of}
-use Rattle.link_core.specs.ServedWhole.{Dialogue, AnswersFirst, HasEnded, HasClosed, LastRead, LeavesWhole, NotRead, ServedWhole, TakesFrom, WroteAnswers}
+use Rattle.link_core.specs.ServedWhole.{Dialogue, AnswersFirst, HasEnded, HasClosed, LeavesWhole, ServedWhole, TakesFrom, WroteAnswers}
 use Rattle.link_core.specs.ServedInPart.{LeavesInPart, LeavesShort, QuitsShort, ServedInPart, WasServed}
 use Rattle.link_core.specs.Serving.{ServesLink}
-use Rattle.link_core.specs.Steps.{Behind, EndsReading, OnFault, Stand, Stops}
+use Rattle.link_core.specs.Steps.{Behind, EndsReading, OnFault, Stand, Stops, WasRead}
 use Rattle.link_core.specs.Talk.{IsShown}
 use Rattle.link_core.proofs.Tales.{where_then}
 use Rattle.link_core.proofs.Talking.{prefix_further}
@@ -73,8 +73,8 @@ ended end.Memory talk before after e c = tt
 module _ (shows : ℕ → Bool) (start now : Stand) (new : RunnerState) (link : Option Tale)
     (closes : WhereTold now.link link Closes) (faults faults' : ℕ) where
   read_closed : (session : ℕ) (taken : List Sign) (e : Bool) (made left : Log) (written : List ℕ)
-      → NotRead taken e start.link now.link ⊎ LastRead shows session taken made written start.link now.link
-      → NotRead taken e start.link link ⊎ LastRead shows session taken (made ++ left) written start.link link
+      → WasRead shows session taken e made written start.link now.link
+      → WasRead shows session taken e (made ++ left) written start.link link
   read_closed session taken e made left written (inl n) = inl (record {
     nothing = n.nothing;
     no_end = n.no_end;
@@ -137,9 +137,7 @@ module _ (shows : ℕ → Bool) (start now : Stand) (new : RunnerState) (link : 
   has_read : (end : LinkEnd) (s : Stops shows end start now) (left : Log)
       → AnswersFirst shows start.state.number (all_said end s left) (s.made ++ (s.begun ++ left)) start.link link
   has_read end s left =
-      subst (λ (l : Log).
-      NotRead s.taken s.is_ended start.link link
-      ⊎ LastRead shows start.state.number s.taken l s.written start.link link)
+      subst (λ (l : Log). WasRead shows start.state.number s.taken s.is_ended l s.written start.link link)
       (made_all end s left)
       (read_closed start.state.number s.taken s.is_ended (s.made ++ s.begun) left s.written s.read)
 
@@ -276,28 +274,32 @@ module _ (shows : ℕ → Bool) (start now : Stand) (new : RunnerState) (link : 
       whole end.Spent s l.entries cause
       (left_whole s.begun l.entries s.memory after moment shown s.behind (number_here end.Spent s) l.follows)
 
-  pub serves_left : (e : LinkEnd) (moment : ℕ) (after : MemoryState) → Stops shows e start now → IsShown shows moment
-      → OnFault (Err e) (Rose faults faults') → Left (departing now.memory) moment now.state new after
+-- the call that served the link, behind the end of its reading
+module _ {shows : ℕ → Bool} {e : LinkEnd} {start now : Stand} (s : Stops shows e start now) (moment : ℕ)
+    (shown : IsShown shows moment) (new : RunnerState) (link : Option Tale) (closes : WhereTold now.link link Closes)
+    (faults faults' : ℕ) (cause : OnFault (Err e) (Rose faults faults')) where
+  pub serves_left : {after : MemoryState} → Left (departing now.memory) moment now.state new after
       → ServesLink shows e start.state (record {
         tale = start.link;
         faults = faults;
       }) new (record { tale = link; faults = faults' })
-  serves_left e moment after s shown cause l = record {
+  serves_left {after = after} l = record {
     entries = s.made ++ (s.begun ++ l.entries);
-    grew = has_grown e s l.entries l.grew;
-    served = left_so e s moment after shown cause l;
+    grew = has_grown shows start now new link closes faults faults' e s l.entries l.grew;
+    served = left_so shows start now new link closes faults faults' e s moment after shown cause l;
   }
 
   -- an act of leaving ran out of memory
-  pub serves_short : (e : LinkEnd) (moment : ℕ) → Stops shows e start now → IsShown shows moment
-      → OnFault (Err e) (Rose faults faults') → LeftInPart (departing now.memory) moment now.state new
+  pub serves_short : LeftInPart (departing now.memory) moment now.state new
       → ServesLink shows end.Memory start.state (record {
         tale = start.link;
         faults = faults;
       }) new (record { tale = link; faults = faults' })
-  serves_short e moment s shown cause l = record {
+  serves_short l = record {
     entries = s.made ++ (s.begun ++ l.entries);
-    grew = has_grown e s l.entries l.grew;
+    grew = has_grown shows start now new link closes faults faults' e s l.entries l.grew;
     served =
-        part e s l.entries cause (parts_short e s l.entries moment shown (passes_here e s moment l.entries l.passes));
+        part shows start now new link closes faults faults' e s l.entries cause
+        (parts_short shows start now new link closes faults faults' e s l.entries moment shown
+        (passes_here shows start now new link closes faults faults' e s moment l.entries l.passes));
   }

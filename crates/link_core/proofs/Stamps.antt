@@ -15,7 +15,7 @@ use Rattle.line_reader.specs.Reading.{is_stamped, plain_reading, incoming_of, re
 use Rattle.session_core.specs.Inputs.{HasStamp}
 use Rattle.stamp_codec.specs.Message.{Message, Text, Ack as Received, is_message, is_printable, is_text}
 use Rattle.stamp_codec.specs.Opening.{candidate, opened}
-use Rattle.stamp_codec.specs.Spelling.{spelling}
+use Rattle.stamp_codec.specs.Spelling.{stamped_line}
 
 either_fits : (t : Bool) (one other : Incoming) → HasStamp one → HasStamp other → HasStamp (if t then one else other)
 either_fits true one other p q = p
@@ -24,20 +24,20 @@ either_fits false one other p q = q
 below : (stamp : ℕ) → nat_lt stamp stamp_cycle ≡ true → IsStamp stamp
 below stamp e = grind (arith, nat_tests)
 
-spelled_fits : (t : Bool) (line : List ℕ) (m : Message) → (is_message m && bytes_eq (spelling m) line) ≡ t
+spelled_fits : (t : Bool) (line : List ℕ) (m : Message) → (is_message m && bytes_eq (stamped_line m) line) ≡ t
     → HasStamp (said (if t then Some m else None))
 spelled_fits false line m e = tt
 spelled_fits true line (Text text stamp) e =
-    let message = and_parts (is_message (Text text stamp)) (bytes_eq (spelling (Text text stamp)) line) e in
+    let message = and_parts (is_message (Text text stamp)) (bytes_eq (stamped_line (Text text stamp)) line) e in
     below stamp (and_parts (is_text text) (nat_lt stamp stamp_cycle) message.0).1
 spelled_fits true line (Received stamp) e =
-    below stamp (and_parts (is_message (Received stamp)) (bytes_eq (spelling (Received stamp)) line) e).0
+    below stamp (and_parts (is_message (Received stamp)) (bytes_eq (stamped_line (Received stamp)) line) e).0
 
 reading_fits : (line : List ℕ) → HasStamp (incoming_of line)
 reading_fits line =
     either_fits (is_stamped line) (stamped_reading line) (plain_reading line)
     (either_fits (nat_lt 1033 (length line)) TooLong (said (opened line)) tt
-    (spelled_fits (is_message (candidate line) && bytes_eq (spelling (candidate line)) line) line (candidate line)
+    (spelled_fits (is_message (candidate line) && bytes_eq (stamped_line (candidate line)) line) line (candidate line)
     refl))
     (either_fits (nat_lt 1023 (length line)) TooLong (if list_all is_printable line then Plain line else BadByte) tt
     (either_fits (list_all is_printable line) (Plain line) BadByte tt tt))

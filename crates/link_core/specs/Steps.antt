@@ -1,7 +1,8 @@
 -- How far a link was served: on the way, and where the reading has ended.
-use Rattle.std.specs.Prelude.{◌≡◌, ◌⊎◌, ℕ, ◌≤◌, Bool, true, false, ◌||◌, List, [], ◌∷◌, ◌++◌, length, map, Result, Ok, Err}
+use Rattle.std.specs.Prelude.{◌≡◌, ◌⊎◌, ℕ, ◌≤◌, Bool, true, false, ◌||◌, List, [], ◌∷◌, ◌++◌, length, map, OnOk, Result, Ok, Err}
 use Rattle.std.specs.declared.option.Option.{Option}
-use Rattle.edge_traits.specs.Link.{Sign, Tale}
+use Rattle.edge_traits.specs.Faults.{Rose}
+use Rattle.edge_traits.specs.Link.{LinkIsOpen, Sign, Tale}
 use Rattle.edge_traits.specs.WhereTold.{WhereTold}
 use Rattle.histories.specs.History.{IsPrefix}
 use Rattle.edge_traits.specs.Source.{most_reads}
@@ -44,49 +45,54 @@ OnFault (Err ReadFault) fact = fact
 OnFault (Err WriteFault) fact = fact
 OnFault _ fact = Unit {0}
 
+-- what a step leaves of its link: where it goes on, the link isn't closed; where a fault ended it, the link's count of
+-- faults rose; and that count never falls
+pub record LeavesLink (result : Result (Unit {0}) LinkEnd) (link_now : Option Tale) (before now : ℕ) : Type 0 where
+  pub unclosed : OnOk result (LinkIsOpen link_now)
+  pub cause : OnFault result (Rose before now)
+  pub counted : before ≤ now
+
+-- where a session that serves a link has come to
+pub record Stand : Type 0 where
+  pub state : RunnerState
+  pub memory : MemoryState
+  pub link : Option Tale
+
+abbrev pub stand_of : RunnerState → MemoryState → Option Tale → Stand
+stand_of state memory link = record { state = state; memory = memory; link = link }
+
 -- the session answered an input, and what it wrote is this
-pub record InputAnswered (shows : ℕ → Bool) (input : Input) (old : RunnerState) (before : MemoryState)
-    (new : RunnerState)
-    (after : MemoryState) (piece : List ℕ) : Type 0 where
+pub record InputAnswered (shows : ℕ → Bool) (input : Input) (old new : Stand) (piece : List ℕ) : Type 0 where
   pub made : Log
-  pub grew : Made old made new
-  pub answers : Answers shows old.number input before made piece after
+  pub grew : Made old.state made new.state
+  pub answers : Answers shows old.state.number input old.memory made piece new.memory
 
 -- and that was written
-pub record AnsweredWhole (shows : ℕ → Bool) (input : Input) (old : RunnerState) (before : MemoryState)
-    (link : Option Tale) (new : RunnerState) (after : MemoryState) (link_now : Option Tale) : Type 0 where
+pub record AnsweredWhole (shows : ℕ → Bool) (input : Input) (old new : Stand) : Type 0 where
   pub piece : List ℕ
-  pub answered : InputAnswered shows input old before new after piece
-  pub wrote : Written piece link link_now
+  pub answered : InputAnswered shows input old new piece
+  pub wrote : Written piece old.link new.link
 
 -- or a prefix of it was
-pub record AnsweredPart (shows : ℕ → Bool) (input : Input) (old : RunnerState) (before : MemoryState)
-    (link : Option Tale) (new : RunnerState) (after : MemoryState) (link_now : Option Tale) : Type 0 where
+pub record AnsweredPart (shows : ℕ → Bool) (input : Input) (old new : Stand) : Type 0 where
   pub piece : List ℕ
-  pub answered : InputAnswered shows input old before new after piece
-  pub wrote : WrittenPart piece link link_now
+  pub answered : InputAnswered shows input old new piece
+  pub wrote : WrittenPart piece old.link new.link
 
 -- the session ran out of memory
-pub record BrokeThere (shows : ℕ → Bool) (input : Input) (old : RunnerState) (before : MemoryState)
-    (link : Option Tale) (new : RunnerState) (after : MemoryState) (link_now : Option Tale) : Type 0 where
+pub record BrokeThere (shows : ℕ → Bool) (input : Input) (old new : Stand) : Type 0 where
   pub moment : ℕ
   pub shown : IsShown shows moment
-  pub broke : Broke (input_course input before) moment old before new after
-  pub same : link_now ≡ link
+  pub broke : Broke (input_course input old.memory) moment old.state old.memory new.state new.memory
+  pub same : new.link ≡ old.link
 
 -- an input came
-abbrev pub AfterAnswer : (ℕ → Bool) → Input → RunnerState → MemoryState → Option Tale → RunnerState → MemoryState
-    → Option Tale → Result (Unit {0}) LinkEnd → Type 0
-AfterAnswer shows input old before link new after link_now (Ok u) =
-    AnsweredWhole shows input old before link new after link_now
-AfterAnswer shows input old before link new after link_now (Err Quit) =
-    AnsweredWhole shows input old before link new after link_now × (is_gone after ≡ true)
-AfterAnswer shows input old before link new after link_now (Err WriteFault) =
-    AnsweredPart shows input old before link new after link_now
-AfterAnswer shows input old before link new after link_now (Err Memory) =
-    AnsweredPart shows input old before link new after link_now
-    ⊎ BrokeThere shows input old before link new after link_now
-AfterAnswer shows input old before link new after link_now (Err _) = ⊥
+abbrev pub AfterAnswer : (ℕ → Bool) → Input → Stand → Stand → Result (Unit {0}) LinkEnd → Type 0
+AfterAnswer shows input old new (Ok u) = AnsweredWhole shows input old new
+AfterAnswer shows input old new (Err Quit) = AnsweredWhole shows input old new × (is_gone new.memory ≡ true)
+AfterAnswer shows input old new (Err WriteFault) = AnsweredPart shows input old new
+AfterAnswer shows input old new (Err Memory) = AnsweredPart shows input old new ⊎ BrokeThere shows input old new
+AfterAnswer shows input old new (Err _) = ⊥
 
 -- what a link tells on the way: it has left what came behind what was taken, and it isn't closed
 pub record TellsOpen (taken : List Sign) (is_ended : Bool) (written : List ℕ) (old new : Tale) : Type 0 where
@@ -97,11 +103,10 @@ pub record TellsOpen (taken : List Sign) (is_ended : Bool) (written : List ℕ) 
   pub written_is : new.written ≡ old.written ++ written
   pub closed_is : new.closed ≡ old.closed
 
--- where a session that serves a link has come to
-pub record Stand : Type 0 where
-  pub state : RunnerState
-  pub memory : MemoryState
-  pub link : Option Tale
+-- the link wasn't read, or all that had come was answered as its last read began
+abbrev pub WasRead : (ℕ → Bool) → ℕ → List Sign → Bool → Log → List ℕ → Option Tale → Option Tale → Type 0
+WasRead shows session taken is_ended made written old new =
+    NotRead taken is_ended old new ⊎ LastRead shows session taken made written old new
 
 -- the session has answered the inputs of what was taken, but for these, which come next
 pub record Halfway (shows : ℕ → Bool) (start now : Stand) (taken : List Sign) (is_ended : Bool) (due : List Input)
@@ -113,8 +118,7 @@ pub record Halfway (shows : ℕ → Bool) (start now : Stand) (taken : List Sign
   pub tells : WhereTold start.link now.link (TellsOpen taken is_ended (joined (opening_text ∷ pieces)))
   pub talked : Talks shows start.state.number inputs newcomer made pieces now.memory
   pub come : inputs_of taken is_ended ≡ inputs ++ due
-  pub read : NotRead taken is_ended start.link now.link
-      ⊎ LastRead shows start.state.number taken made (joined (opening_text ∷ pieces)) start.link now.link
+  pub read : WasRead shows start.state.number taken is_ended made (joined (opening_text ∷ pieces)) start.link now.link
 
 -- the reader has been fed all that was taken, and hands out what comes next
 pub record Progress (shows : ℕ → Bool) (start now : Stand) (reader : LineReading) (turns : ℕ) : Type 0 where
@@ -156,8 +160,7 @@ pub record Stops (shows : ℕ → Bool) (end : LinkEnd) (start now : Stand) : Ty
   pub behind : Behind end shows start.state.mark start.state.number inputs (inputs_of taken is_ended) memory
       now.memory begun
   pub writes : HasWritten end (opening_text ∷ pieces) written
-  pub read : NotRead taken is_ended start.link now.link
-      ⊎ LastRead shows start.state.number taken (made ++ begun) written start.link now.link
+  pub read : WasRead shows start.state.number taken is_ended (made ++ begun) written start.link now.link
   pub ends : EndsReading end taken is_ended memory
 
 -- a step on the way: it goes on, or the reading has ended

@@ -1,15 +1,13 @@
 //! The answer to one input.
-ghost use Rattle.std.specs.Prelude.{◌≡◌, ◌≤◌, false, OnOk};
-ghost use Rattle.edge_traits.specs.Faults.{Rose};
-ghost use Rattle.edge_traits.specs.Link.{IsOpen};
+ghost use Rattle.std.specs.Prelude.{◌≡◌, false, OnOk};
+ghost use Rattle.edge_traits.specs.Link.{LinkIsOpen};
 ghost use Rattle.session_core.specs.Inputs.{FitsInput};
 ghost use Rattle.session_core.specs.Memory.{is_gone};
-ghost use Rattle.link_core.specs.Steps.{AfterAnswer, AfterWrite, OnFault};
+ghost use Rattle.link_core.specs.Steps.{AfterAnswer, AfterWrite, LeavesLink, stand_of};
 
 use crate::link_end::LinkEnd;
-use crate::moment::moment_of;
 use edge_traits::{Clock, Link, Sent};
-use one_server::Runner;
+use one_server::{Runner, moment_of};
 use session_core::{Input, Session};
 
 /// Makes the session answer an input, at the present moment, and writes what it says to a link that isn't closed.
@@ -22,16 +20,14 @@ pub(crate) fn answer<R: Runner, L: Link, C: Clock>(
 ) -> Result<(), LinkEnd>
     requires fits { FitsInput input }
     requires here { is_gone session.old ≡ false }
-    requires unclosed { IsOpen (L.tale link.old) }
+    requires unclosed { LinkIsOpen (L.tale link.old) }
     ensures home { R.home r.new ≡ R.home r.old }
-    ensures answered { AfterAnswer (C.shows clock.now) input (R.state r.old) session.old (L.tale link.old)
-        (R.state r.new) session.new (L.tale link.new) result }
+    ensures answered { AfterAnswer (C.shows clock.now) input (stand_of (R.state r.old) session.old (L.tale link.old))
+        (stand_of (R.state r.new) session.new (L.tale link.new)) result }
     ensures here { OnOk result (is_gone session.new ≡ false) }
-    ensures unclosed { OnOk result (IsOpen (L.tale link.new)) }
-    ensures cause { OnFault result (Rose (L.faults link.old) (L.faults link.new)) }
-    ensures counted { L.faults link.old ≤ L.faults link.new }
+    ensures link { LeavesLink result (L.tale link.new) (L.faults link.old) (L.faults link.new) }
 {
-    let moment = moment_of(clock);
+    let moment = moment_of(clock.now());
     let Ok(wrote) = session.take(r, moment, input) else {
         return Err(LinkEnd::Memory);
     };
@@ -44,11 +40,9 @@ pub(crate) fn answer<R: Runner, L: Link, C: Clock>(
 
 /// Writes bytes, if there are any, to a link that isn't closed.
 pub(crate) fn write<L: Link>(link: &mut L, bytes: &[u8]) -> Result<(), LinkEnd>
-    requires unclosed { IsOpen (L.tale link.old) }
+    requires unclosed { LinkIsOpen (L.tale link.old) }
     ensures wrote { AfterWrite bytes.now (L.tale link.old) (L.tale link.new) result }
-    ensures unclosed { OnOk result (IsOpen (L.tale link.new)) }
-    ensures cause { OnFault result (Rose (L.faults link.old) (L.faults link.new)) }
-    ensures counted { L.faults link.old ≤ L.faults link.new }
+    ensures link { LeavesLink result (L.tale link.new) (L.faults link.old) (L.faults link.new) }
 {
     if bytes.is_empty() {
         return Ok(());

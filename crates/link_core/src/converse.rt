@@ -1,9 +1,9 @@
 //! How a link is read, and each input answered before the next read.
-ghost use Rattle.std.specs.Prelude.{◌≡◌, ◌≤◌, ◌+◌, ◌++◌, [], ℕ, List, true, false, map, option_to_list, Err, OnOk};
-ghost use Rattle.edge_traits.specs.Faults.{Rose};
-ghost use Rattle.edge_traits.specs.Link.{IsOpen, Sign};
+ghost use Rattle.std.specs.Prelude.{◌≡◌, ◌+◌, ◌++◌, [], ℕ, List, true, false, map, option_to_list, Err, OnOk};
+ghost use Rattle.edge_traits.specs.Link.{LinkIsOpen, Sign};
 ghost use Rattle.line_reader.specs.Reader.{rest_to_come};
-ghost use Rattle.link_core.specs.Steps.{AfterStep, AfterWrite, Halfway, IsDrained, OnFault, Progress, Stand, Stops};
+ghost use Rattle.link_core.specs.Steps.{AfterStep, AfterWrite, Halfway, IsDrained, LeavesLink, Progress, Stand, Stops};
+ghost use Rattle.link_core.specs.Steps.{stand_of};
 ghost use Rattle.session_core.specs.Memory.{is_gone, newcomer};
 ghost use Rattle.session_core.specs.Texts.{opening_text};
 ghost use Rattle.session_core.specs.declared.input.Input.TheVariants.{Line};
@@ -29,13 +29,12 @@ pub(crate) fn converse<R: Runner, L: Link, C: Clock>(
     session: &mut Session,
 ) -> LinkEnd
     requires new { session.old ≡ newcomer }
-    requires unclosed { IsOpen (L.tale link.old) }
+    requires unclosed { LinkIsOpen (L.tale link.old) }
     ensures home { R.home r.new ≡ R.home r.old }
     ensures stops { Stops (C.shows clock.now) result
-        (record { state = R.state r.old; memory = session.old; link = L.tale link.old })
-        (record { state = R.state r.new; memory = session.new; link = L.tale link.new }) }
-    ensures cause { OnFault (Err result) (Rose (L.faults link.old) (L.faults link.new)) }
-    ensures counted { L.faults link.old ≤ L.faults link.new }
+        (stand_of (R.state r.old) session.old (L.tale link.old))
+        (stand_of (R.state r.new) session.new (L.tale link.new)) }
+    ensures link { LeavesLink (Err result) (L.tale link.new) (L.faults link.old) (L.faults link.new) }
 {
     // What is known of every runner is known from here on.
     let _session = r.session();
@@ -58,11 +57,9 @@ pub(crate) fn converse<R: Runner, L: Link, C: Clock>(
 
 /// Writes what the connection opens with.
 fn greet<L: Link>(session: &Session, link: &mut L) -> Result<(), LinkEnd>
-    requires unclosed { IsOpen (L.tale link.old) }
+    requires unclosed { LinkIsOpen (L.tale link.old) }
     ensures wrote { AfterWrite opening_text (L.tale link.old) (L.tale link.new) result }
-    ensures unclosed { OnOk result (IsOpen (L.tale link.new)) }
-    ensures cause { OnFault result (Rose (L.faults link.old) (L.faults link.new)) }
-    ensures counted { L.faults link.old ≤ L.faults link.new }
+    ensures link { LeavesLink result (L.tale link.new) (L.faults link.old) (L.faults link.new) }
 {
     let Ok(opening) = session.open() else {
         return Err(LinkEnd::Memory);
@@ -81,17 +78,15 @@ fn take_read<R: Runner, L: Link, C: Clock>(
 ) -> Result<(), LinkEnd>
     requires drained { IsDrained reader.old }
     requires here { is_gone session.old ≡ false }
-    requires unclosed { IsOpen (L.tale link.old) }
+    requires unclosed { LinkIsOpen (L.tale link.old) }
     ensures home { R.home r.new ≡ R.home r.old }
     ensures steps { (start : Stand) (turns : ℕ) → Progress (C.shows clock.now) start
-        (record { state = R.state r.old; memory = session.old; link = L.tale link.old }) reader.old turns
+        (stand_of (R.state r.old) session.old (L.tale link.old)) reader.old turns
         → AfterStep (C.shows clock.now) start
-        (record { state = R.state r.new; memory = session.new; link = L.tale link.new }) reader.new (turns + 1) result }
+        (stand_of (R.state r.new) session.new (L.tale link.new)) reader.new (turns + 1) result }
     ensures drained { OnOk result (IsDrained reader.new) }
     ensures here { OnOk result (is_gone session.new ≡ false) }
-    ensures unclosed { OnOk result (IsOpen (L.tale link.new)) }
-    ensures cause { OnFault result (Rose (L.faults link.old) (L.faults link.new)) }
-    ensures counted { L.faults link.old ≤ L.faults link.new }
+    ensures link { LeavesLink result (L.tale link.new) (L.faults link.old) (L.faults link.new) }
 {
     match link.read(buf) {
         Heard::Bytes(n) => take_piece(r, link, clock, session, reader, &buf[..n]),
@@ -111,18 +106,16 @@ fn take_piece<R: Runner, L: Link, C: Clock>(
     piece: &[u8],
 ) -> Result<(), LinkEnd>
     requires here { is_gone session.old ≡ false }
-    requires unclosed { IsOpen (L.tale link.old) }
+    requires unclosed { LinkIsOpen (L.tale link.old) }
     ensures home { R.home r.new ≡ R.home r.old }
     ensures steps { (start : Stand) (turns : ℕ) → Progress (C.shows clock.now) start
-        (record { state = R.state r.old; memory = session.old; link = L.tale link.old })
+        (stand_of (R.state r.old) session.old (L.tale link.old))
         (record reader.old { fed = reader.old.fed ++ piece.now }) turns
         → AfterStep (C.shows clock.now) start
-        (record { state = R.state r.new; memory = session.new; link = L.tale link.new }) reader.new turns result }
+        (stand_of (R.state r.new) session.new (L.tale link.new)) reader.new turns result }
     ensures drained { OnOk result (IsDrained reader.new) }
     ensures here { OnOk result (is_gone session.new ≡ false) }
-    ensures unclosed { OnOk result (IsOpen (L.tale link.new)) }
-    ensures cause { OnFault result (Rose (L.faults link.old) (L.faults link.new)) }
-    ensures counted { L.faults link.old ≤ L.faults link.new }
+    ensures link { LeavesLink result (L.tale link.new) (L.faults link.old) (L.faults link.new) }
 {
     if reader.feed(piece).is_err() {
         return Err(LinkEnd::Memory);
@@ -139,17 +132,15 @@ fn take_lines<R: Runner, L: Link, C: Clock>(
     reader: &mut LineReader,
 ) -> Result<(), LinkEnd>
     requires here { is_gone session.old ≡ false }
-    requires unclosed { IsOpen (L.tale link.old) }
+    requires unclosed { LinkIsOpen (L.tale link.old) }
     ensures home { R.home r.new ≡ R.home r.old }
     ensures steps { (start : Stand) (turns : ℕ) → Progress (C.shows clock.now) start
-        (record { state = R.state r.old; memory = session.old; link = L.tale link.old }) reader.old turns
+        (stand_of (R.state r.old) session.old (L.tale link.old)) reader.old turns
         → AfterStep (C.shows clock.now) start
-        (record { state = R.state r.new; memory = session.new; link = L.tale link.new }) reader.new turns result }
+        (stand_of (R.state r.new) session.new (L.tale link.new)) reader.new turns result }
     ensures drained { OnOk result (IsDrained reader.new) }
     ensures here { OnOk result (is_gone session.new ≡ false) }
-    ensures unclosed { OnOk result (IsOpen (L.tale link.new)) }
-    ensures cause { OnFault result (Rose (L.faults link.old) (L.faults link.new)) }
-    ensures counted { L.faults link.old ≤ L.faults link.new }
+    ensures link { LeavesLink result (L.tale link.new) (L.faults link.old) (L.faults link.new) }
 {
     loop {
         match reader.next() {
@@ -172,15 +163,14 @@ fn take_rest<R: Runner, L: Link, C: Clock>(
     reader: &LineReader,
 ) -> LinkEnd
     requires here { is_gone session.old ≡ false }
-    requires unclosed { IsOpen (L.tale link.old) }
+    requires unclosed { LinkIsOpen (L.tale link.old) }
     ensures home { R.home r.new ≡ R.home r.old }
     ensures stops { (start : Stand) (taken : List Sign) → Halfway (C.shows clock.now) start
-        (record { state = R.state r.old; memory = session.old; link = L.tale link.old }) taken true
+        (stand_of (R.state r.old) session.old (L.tale link.old)) taken true
         (map Line (option_to_list (rest_to_come reader.now [])))
         → Stops (C.shows clock.now) result start
-        (record { state = R.state r.new; memory = session.new; link = L.tale link.new }) }
-    ensures cause { OnFault (Err result) (Rose (L.faults link.old) (L.faults link.new)) }
-    ensures counted { L.faults link.old ≤ L.faults link.new }
+        (stand_of (R.state r.new) session.new (L.tale link.new)) }
+    ensures link { LeavesLink (Err result) (L.tale link.new) (L.faults link.old) (L.faults link.new) }
 {
     match reader.rest() {
         Ok(Some(line)) => match answer(r, link, clock, session, Input::Line(line)) {

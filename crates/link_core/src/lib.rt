@@ -10,7 +10,6 @@ mod answer;
 mod converse;
 mod laws;
 mod link_end;
-mod moment;
 mod serving;
 
 pub use laws::{each_line_is_answered, served_links_are_their_own};

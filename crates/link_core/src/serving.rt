@@ -1,15 +1,14 @@
 //! A link from its opening to its end.
 ghost use Rattle.std.specs.Prelude.{◌≡◌, ◌≤◌};
 ghost use Rattle.edge_traits.specs.Faults.{Rose};
-ghost use Rattle.edge_traits.specs.Link.{IsOpen};
+ghost use Rattle.edge_traits.specs.Link.{LinkIsOpen};
 ghost use Rattle.link_core.specs.Serving.{ServesLink};
 
 use crate::converse::converse;
 use crate::link_end::LinkEnd;
-use crate::moment::moment_of;
 use edge_traits::{Clock, Link};
 use memory::NoMemory;
-use one_server::Runner;
+use one_server::{Runner, moment_of};
 use session_core::Session;
 use std::alloc::Global;
 
@@ -25,7 +24,7 @@ pub fn serve_link<R: Runner, L: Link, C: Clock>(
     link: &mut L,
     clock: &C,
 ) -> LinkEnd
-    requires unclosed { IsOpen (L.tale link.old) }
+    requires unclosed { LinkIsOpen (L.tale link.old) }
     ensures home { R.home r.new ≡ R.home r.old }
     ensures served { ServesLink (C.shows clock.now) result
         (R.state r.old) (record { tale = L.tale link.old; faults = L.faults link.old })
@@ -36,7 +35,7 @@ pub fn serve_link<R: Runner, L: Link, C: Clock>(
 {
     let mut session = Session::new(alloc);
     let end = converse(alloc, r, link, clock, &mut session);
-    let left = session.leave(r, moment_of(clock));
+    let left = session.leave(r, moment_of(clock.now()));
     link.close();
     match left {
         Ok(()) => end,

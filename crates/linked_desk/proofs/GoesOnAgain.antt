@@ -17,7 +17,7 @@ use Rattle.game_board.specs.Learn.{learnt}
 use Rattle.game_records.specs.declared.stored_game.Half.{Half}
 use Rattle.game_records.specs.Bounds as bounds
 use Rattle.game_records.specs.Bounds.{IsHalf}
-use Rattle.game_records.specs.Replays.{CanBePlayed, GoesOn, MayCome, OtherGoesOn, half_moves, position_on}
+use Rattle.game_records.specs.Replays.{CanBePlayed, GoesOn, MayCome, OtherGoesOn, without_charges, position_on}
 use Rattle.game_records.proofs.Played.{by_steps}
 use Rattle.fics_words.specs.Boards.{board_number, numbered_board, board_place}
 use Rattle.desk_boards.specs.Boards.{board_numbers, new_boards}
@@ -48,8 +48,8 @@ position_by : (t : Terms) (boards : List Board) (k : ℕ) (b : Board) → AreSou
 unfolding position_of
 position_by t boards k b s there =
     let terms : b.terms ≡ t = All-at (λ (x : Board). x.terms ≡ t) boards k b s.terms there in
-    let all : half_moves (halves_of boards) ≡ b.all =
-    All-at (λ (x : Board). half_moves (halves_of boards) ≡ x.all) boards k b (all_of t boards s) there in
+    let all : without_charges (halves_of boards) ≡ b.all =
+    All-at (λ (x : Board). without_charges (halves_of boards) ≡ x.all) boards k b (all_of t boards s) there in
     (λ i. position_after (terms i).variant (sym all i) b.number)
 
 -- at the start
@@ -68,12 +68,13 @@ other_goes_on : (front : List Half) (h : Half) (n : ℕ) → n ≡ 3 - h.board �
 unfolding position_of
 other_goes_on front h n is low high going =
     let terms : Terms = record { minutes = 0; increment = 0; variant = Bughouse; colour = None } in
-    let b : Board = record (new_board n terms 0) { all = half_moves front } in
+    let b : Board = record (new_board n terms 0) { all = without_charges front } in
     let other : other_board n ≡ h.board = omega (arith, is, low, high) in
     let before : GoesOn (position_of b) = subst (λ (m : ℕ). GoesOn (position_on Bughouse front m)) (sym is) going in
     let after : GoesOn (position_of (learnt b h.what)) = learnt_goes b h.what refl before in
-    let made : half_moves front ++ record { board = other_board n; what = h.what } ∷ [] ≡ half_moves (front ++ h ∷ []) =
-    (λ i. half_moves front ++ record { board = other i; what = h.what } ∷ [])
+    let made : without_charges front ++ record { board = other_board n; what = h.what } ∷ []
+    ≡ without_charges (front ++ h ∷ []) =
+    (λ i. without_charges front ++ record { board = other i; what = h.what } ∷ [])
     ∙ sym (map-append (λ (g : Half). record { board = g.board; what = g.what }) front (h ∷ [])) in
     subst (λ (T : List HalfMove). GoesOn (position_after Bughouse T n)) made after
 

@@ -3,7 +3,7 @@ use Rattle.std.proofs.Common.{◌≤◌, ◌^◌, ℕ, Bool, true, false, if◌t
 use Rattle.std.specs.Prelude.{is_some}
 use Rattle.chess_model.specs.declared.why.Why.TheVariants.{Adjourned}
 use Rattle.linked_desk.specs.declared.ended.Ended.{Ended}
-use Rattle.observer_feed.specs.Feed.{without}
+use Rattle.observer_feed.specs.Feed.{without_viewer}
 use Rattle.linked_desk.specs.Desk.{GameState, seat_of}
 use Rattle.linked_desk.specs.Leave.{forfeit, leave_effect, leaving_end, game_left_by, game_waits}
 use Rattle.linked_desk.specs.Offering.{end_without_winner}
@@ -34,7 +34,7 @@ Keeps-leave_effect desk g session moment =
     record {
       step =
           and_then (left_follows desk g moment (seat_of g session) (λ c. c.0))
-          (viewers_follow left moment (λ c. c.0) (without session left.viewers));
+          (viewers_follow left moment (λ c. c.0) (without_viewer session left.viewers));
       tells = λ s. tt;
       memory = refl;
     }

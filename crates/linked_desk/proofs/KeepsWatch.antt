@@ -1,6 +1,6 @@
 -- What looking on keeps, from its beginning to its end.
 use Rattle.std.proofs.Common.{ℕ, [], ◌∷◌, ◌++◌, true, false, refl}
-use Rattle.observer_feed.specs.Feed.{without}
+use Rattle.observer_feed.specs.Feed.{without_viewer}
 use Rattle.linked_desk.specs.Desk.{GameState}
 use Rattle.linked_desk.specs.Seating.{board_item}
 use Rattle.linked_desk.specs.Seats.{pairs_of}
@@ -19,7 +19,7 @@ Keeps-watch_effect desk g session moment = record {
 pub Keeps-unwatch_effect : (g : GameState) (session moment : ℕ)
     → Keeps g moment (Unit {0}) false (unwatch_effect g session moment)
 Keeps-unwatch_effect g session moment = record {
-  step = viewers_follow g moment (λ c. c.0) (without session g.viewers);
+  step = viewers_follow g moment (λ c. c.0) (without_viewer session g.viewers);
   tells = λ s. tt;
   memory = refl;
 }

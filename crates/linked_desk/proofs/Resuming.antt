@@ -12,7 +12,7 @@ use Rattle.game_board.specs.Board.{Board, position_of}
 use Rattle.game_board.specs.Charges.{clock_of, remaining_of}
 use Rattle.clock_ledger.specs.Clock as clock
 use Rattle.game_records.specs.declared.stored_game.StoredGame.{StoredGame}
-use Rattle.game_records.specs.Replays.{Replays, half_moves}
+use Rattle.game_records.specs.Replays.{Replays, without_charges}
 use Rattle.desk_boards.specs.Boards.{board_numbers}
 use Rattle.fics_words.specs.declared.board_number.BoardNumber.{BoardNumber}
 use Rattle.desk_boards.specs.Halves.{halves_of, last_board, list_on}
@@ -122,9 +122,10 @@ as_before t before now place b c s n halves here there =
     same_Some c.number b.number
     (sym (number_at t.variant now place c n.numbers there) ∙ number_at t.variant before place b s.numbers here) in
     let all : c.all ≡ b.all =
-    sym (All-at (λ (x : Board). half_moves (halves_of now) ≡ x.all) now place c (all_of (uncoloured t) now n) there)
-    ∙ ap half_moves halves
-    ∙ All-at (λ (x : Board). half_moves (halves_of before) ≡ x.all) before place b (all_of t before s) here in
+    sym
+    (All-at (λ (x : Board). without_charges (halves_of now) ≡ x.all) now place c (all_of (uncoloured t) now n) there)
+    ∙ ap without_charges halves
+    ∙ All-at (λ (x : Board). without_charges (halves_of before) ≡ x.all) before place b (all_of t before s) here in
     let list : c.list ≡ b.list =
     sym
     (All-at (λ (x : Board). list_on x.number (halves_of now) ≡ x.list) now place c (each_of (uncoloured t) now n) there)

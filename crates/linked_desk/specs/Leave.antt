@@ -5,7 +5,7 @@ use Rattle.chess_model.specs.declared.why.Why.TheVariants.{Adjourned, Left}
 use Rattle.chess_model.specs.Placement.{opposite}
 use Rattle.fics_words.specs.Effect.{Effect}
 use Rattle.fics_words.specs.Seats as sitting
-use Rattle.observer_feed.specs.Feed.{without}
+use Rattle.observer_feed.specs.Feed.{without_viewer}
 use Rattle.linked_desk.specs.declared.acts.DeskReply.{DeskReply}
 use Rattle.linked_desk.specs.declared.acts.DeskReply.TheVariants.{Done}
 use Rattle.linked_desk.specs.declared.ended.Ended.{Ended}
@@ -33,7 +33,7 @@ game_left_by desk g moment (Some seat) = if is_some g.ended then g else ended_by
 
 -- the game without that viewer
 abbrev pub unwatched : GameState → ℕ → ℕ → GameState
-unwatched g session moment = record g { viewers = without session g.viewers; last = moment_at g moment }
+unwatched g session moment = record g { viewers = without_viewer session g.viewers; last = moment_at g moment }
 
 -- leaves: the game is adjourned or lost where it runs and the session plays in it, and the session is no viewer any
 -- more. Never refused

@@ -7,7 +7,7 @@ use Rattle.std.proofs.lemmas.Slice.Eq.{bytes_eq-Decides}
 use Rattle.fics_words.specs.declared.account.Account.{Account}
 use Rattle.game_records.specs.Keys.{game_key}
 use Rattle.lobby_shelf.specs.declared.shelved.Shelved.{Shelved}
-use Rattle.lobby_shelf.specs.Numbers.{game_in, has_number, stored_game}
+use Rattle.lobby_shelf.specs.Numbers.{row_game, has_number, stored_game}
 use Rattle.lobby_shelf.specs.Wanted.{account_record, either_record, game_record, is_account_at, is_game_at}
 use Rattle.lobby_state.specs.Lobby.{LobbyState}
 use Rattle.lobby_store.specs.Agreeing.{wanted_by}
@@ -43,7 +43,7 @@ none_stored (row ∷ games) number none =
     elim (has_number number row)
     as (λ t.
     has_number number row ≡ t
-    → stored_game (row ∷ games) number ≡ game_in (cond t (Some row) (find (has_number number) games))
+    → stored_game (row ∷ games) number ≡ row_game (cond t (Some row) (find (has_number number) games))
     → stored_game (row ∷ games) number ≡ None) [
       | true ↦ λ is same. absurd (here row games number (eqb-true row.number number is) none)
       | false ↦ λ is same. same ∙ none_stored games number (there row games number none)

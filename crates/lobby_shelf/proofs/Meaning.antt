@@ -10,7 +10,7 @@ use Rattle.lobby_shelf.specs.declared.request.Request.{Request}
 use Rattle.lobby_shelf.specs.declared.shelved.Shelved.{Shelved}
 use Rattle.lobby_shelf.specs.Facts.{IsShelf, OrdersRise}
 use Rattle.lobby_shelf.specs.Laws.{FindsLeast, GamesAreFound, RequestsStand, SavedAreFirst}
-use Rattle.lobby_shelf.specs.Numbers.{RiseAbove, game_in, has_number}
+use Rattle.lobby_shelf.specs.Numbers.{RiseAbove, row_game, has_number}
 use Rattle.lobby_shelf.specs.Players.{IsLeastOf, is_of_both, least_of}
 use Rattle.lobby_shelf.specs.Shelf.{ShelfState, asks, is_request, saved, with_request}
 use Rattle.lobby_shelf.specs.Wanted.{told_up_to}
@@ -21,18 +21,18 @@ use Rattle.std.proofs.lemmas.Map.Views.{any-filter_same}
 pub games-found : (shelf : ShelfState) → IsShelf shelf → GamesAreFound shelf
 games-found shelf is = record {
   put = λ number game unused.
-      ap game_in
+      ap row_game
       (find-with_new (has_number number) (record { number = number; game = game }) 0 shelf.games unused is.numbers
       (eq-eqb number number refl)
       (All-weaker (λ row. row.number ≡ number → ⊥) (λ row. has_number number row ≡ false)
       (λ row differs. ne_eqb row.number number differs)
       shelf.games (unused-all number shelf.games unused)));
   others_put = λ number other game unused differs.
-      ap game_in (find-with_other (has_number other) (record { number = number; game = game }) 0 shelf.games
+      ap row_game (find-with_other (has_number other) (record { number = number; game = game }) 0 shelf.games
       unused is.numbers (ne_eqb number other (λ e. differs (sym e))));
-  gone = λ number. ap game_in (find-without_this (has_number number) number shelf.games
+  gone = λ number. ap row_game (find-without_this (has_number number) number shelf.games
       (λ k d h. λ differs. ne_eqb (get_or shelf.games k d).number number differs));
-  others_gone = λ number other differs. ap game_in (find-without_other (has_number other) number shelf.games
+  others_gone = λ number other differs. ap row_game (find-without_other (has_number other) number shelf.games
       (λ k d h. λ same. ne_eqb (get_or shelf.games k d).number other (λ e. differs (sym e ∙ same))));
   number = next_number-least shelf.games is.numbers;
 }

@@ -18,13 +18,13 @@ abbrev pub is_used : List Shelved → ℕ → Bool
 is_used games number = rising.is_used number_of games number
 
 -- the game in a row that is there
-abbrev pub game_in : Option Shelved → Option StoredGame
-game_in None = None
-game_in (Some row) = Some row.game
+abbrev pub row_game : Option Shelved → Option StoredGame
+row_game None = None
+row_game (Some row) = Some row.game
 
 -- the stored game of that number, if there is one
 abbrev pub stored_game : List Shelved → ℕ → Option StoredGame
-stored_game games number = game_in (find (has_number number) games)
+stored_game games number = row_game (find (has_number number) games)
 
 -- the numbers rise from game to game, all of them above this one, and below 2^64
 abbrev pub RiseAbove : ℕ → List Shelved → Type 0

@@ -17,7 +17,7 @@ use Rattle.lobby_state.proofs.PartnerRows.{ArePartnersOf-forgotten, ArePartnersO
 use Rattle.lobby_shelf.specs.Shelf.{without_requests}
 use Rattle.lobby_state.proofs.ShelfRows.{IsShelfOf-without}
 use Rattle.lobby_state.proofs.WellFormed.{challenges_gone, member_changed, resumes_gone, seeks_gone, with_partners}
-use Rattle.partner_link.specs.Partners.{without}
+use Rattle.partner_link.specs.Partners.{without_naming}
 use Rattle.seek_match.specs.Matches.{concerns, without_challenges_of}
 use Rattle.seek_match.specs.Seeks.{is_by, without_seeks_of}
 
@@ -31,7 +31,7 @@ formed_going lobby session h =
     (challenges_gone gone (λ c. not (concerns session c))
     (member_changed lobby (is_session session) leaving_member (λ _. refl) (λ _. refl) (λ _ seats. seats) h)) in
     resumes_gone (without_partner session left) (λ request. not (eqb request.by session))
-    (with_partners left (without left.partners session)
+    (with_partners left (without_naming left.partners session)
     (ArePartnersOf-forgotten (sessions_in left.members) session left.partners formed.partners) formed)
 
 pub formed_gone : (lobby : LobbyState) (session : ℕ) → IsWellFormed lobby
@@ -52,7 +52,7 @@ formed_gone lobby session h =
           (AreChallengesOf-without (sessions_in lobby.members) session lobby.challenges h.challenges);
       seeks = subst (λ (ss : List ℕ). AreSeeksOf ss (without_seeks_of session lobby.seeks)) (sym sessions)
           (AreSeeksOf-without (sessions_in lobby.members) session lobby.seeks h.seeks);
-      partners = subst (λ (ss : List ℕ). ArePartnersOf ss (without lobby.partners session)) (sym sessions)
+      partners = subst (λ (ss : List ℕ). ArePartnersOf ss (without_naming lobby.partners session)) (sym sessions)
           (ArePartnersOf-without (sessions_in lobby.members) session lobby.partners h.partners);
       games = h.games;
       serials = h.serials;

@@ -1,5 +1,5 @@
 -- What each pair act and each plan keeps, and what follows of the plans that a lobby gives, for all of them alike.
-use Rattle.std.proofs.Common.{◌≡◌, ℕ, Option, Result, Ok, Err, subst}
+use Rattle.std.proofs.Common.{◌≡◌, ℕ, Option, Result, Ok, subst}
 use Rattle.std.specs.Prelude.{Bool, IfOk, IfSome}
 use Rattle.fics_words.specs.declared.refusal.Refusal.{Refusal}
 use Rattle.lobby_state.specs.declared.acts.PairAct.{PairAct}
@@ -53,11 +53,6 @@ plan_of-is lobby session act plan h names e =
 -- its desk, if it has one, is a desk of the hall
 pub desk_of-is : (lobby : LobbyState) (plan : Plan) → IsPlanned lobby plan → IfSome (desk_of plan) IsDesk
 desk_of-is lobby plan can = (keeps_plan lobby plan can).is_desk
-
-pub IfOk-desk_of : (lobby : LobbyState) (r : Result Plan Refusal) → IfOk r (IsPlanned lobby)
-    → IfOk r (λ plan. IfSome (desk_of plan) IsDesk)
-IfOk-desk_of lobby (Ok plan) can = desk_of-is lobby plan can
-IfOk-desk_of lobby (Err cause) can = tt
 
 -- a lobby in which a plan was carried out is well-formed
 pub IsWellFormed-committed : (lobby : LobbyState) (plan : Plan) (game : Option StoredGame) (is_cleared : Bool)

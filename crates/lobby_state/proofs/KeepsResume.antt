@@ -14,7 +14,7 @@ use Rattle.fics_words.specs.declared.account.Account.{Account}
 use Rattle.fics_words.specs.declared.player.Player.{Player}
 use Rattle.game_records.specs.Bounds.{seats}
 use Rattle.game_records.specs.Replays.{AreFour, Replays}
-use Rattle.lobby_shelf.specs.Numbers.{RiseAbove, game_in, has_number, stored_game}
+use Rattle.lobby_shelf.specs.Numbers.{RiseAbove, row_game, has_number, stored_game}
 use Rattle.lobby_shelf.specs.Players.{is_of_both, least_of}
 use Rattle.lobby_shelf.specs.Shelf.{asks}
 use Rattle.lobby_shelf.specs.declared.shelved.Shelved.{Shelved}
@@ -44,12 +44,12 @@ stored_at : (low : ℕ) (games : List Shelved) (row : Shelved) (k : ℕ) → Ris
     → stored_game games row.number ≡ Some row.game
 stored_at low [] row k rise inside e = absurd (omega arith)
 stored_at low (first ∷ games) row zero rise inside e =
-    ap (λ t. game_in (cond t (Some first) (find (has_number row.number) games)))
+    ap (λ t. row_game (cond t (Some first) (find (has_number row.number) games)))
     (eq-eqb first.number row.number (ap (λ (r : Shelved). r.number) e))
     ∙ ap (λ (r : Shelved). Some r.game) e
 stored_at low (first ∷ games) row (suc k) rise inside e =
     let above = rises_at first.number games k row rise.2 (omega arith) in
-    ap (λ t. game_in (cond t (Some first) (find (has_number row.number) games)))
+    ap (λ t. row_game (cond t (Some first) (find (has_number row.number) games)))
     (ne_eqb first.number row.number (lesser first.number _ row.number above (ap (λ (r : Shelved). r.number) e)))
     ∙ stored_at first.number games row k rise.2 (omega arith) e
 

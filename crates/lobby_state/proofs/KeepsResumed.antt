@@ -8,7 +8,7 @@ use Rattle.chess_model.specs.declared.variant.Terms.{Terms}
 use Rattle.fics_words.specs.Handle.{key_of}
 use Rattle.fics_words.specs.declared.seats.Seats.{Seats}
 use Rattle.game_records.specs.declared.stored_game.StoredGame.{StoredGame}
-use Rattle.lobby_shelf.specs.Numbers.{AreInOrder, game_in, has_number, is_used, stored_game, without_game}
+use Rattle.lobby_shelf.specs.Numbers.{AreInOrder, row_game, has_number, is_used, stored_game, without_game}
 use Rattle.lobby_shelf.specs.Shelf.{ShelfState, asked, asks, taken_off, with_request}
 use Rattle.lobby_shelf.specs.declared.request.Request.{Request}
 use Rattle.lobby_shelf.specs.declared.shelved.Shelved.{Shelved}
@@ -33,7 +33,7 @@ use Rattle.std.proofs.lemmas.Option.{same_Some}
 -- a stored game that is found is there
 used_by : (b : Bool) (row : Shelved) (games : List Shelved) (number : ℕ) (game : StoredGame)
     → (stored_game games number ≡ Some game → is_used games number ≡ true)
-    → game_in (cond b (Some row) (find (has_number number) games)) ≡ Some game → (b || is_used games number) ≡ true
+    → row_game (cond b (Some row) (find (has_number number) games)) ≡ Some game → (b || is_used games number) ≡ true
 used_by true row games number game step e = refl
 used_by false row games number game step e = step e
 
@@ -45,7 +45,7 @@ used-stored (row ∷ games) number game e =
 
 unused_by : (b : Bool) (row : Shelved) (games : List Shelved) (number : ℕ)
     → (stored_game games number ≡ None → is_used games number ≡ false)
-    → game_in (cond b (Some row) (find (has_number number) games)) ≡ None → (b || is_used games number) ≡ false
+    → row_game (cond b (Some row) (find (has_number number) games)) ≡ None → (b || is_used games number) ≡ false
 unused_by true row games number step e = cc
 unused_by false row games number step e = step e
 

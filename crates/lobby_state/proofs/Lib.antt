@@ -27,6 +27,7 @@ pub mod GamesFound
 pub mod WaitingKept
 pub mod SettledOffers
 pub mod Seated
+pub mod Settled
 pub mod GettingUp
 pub mod OneHears
 pub mod KeepsPartner

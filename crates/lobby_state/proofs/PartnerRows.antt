@@ -5,7 +5,7 @@ use Rattle.std.specs.List.{filter}
 use Rattle.std.proofs.lemmas.Bool.{and_parts, or_parts, not-true}
 use Rattle.std.proofs.lemmas.List.Elements.{All-filter, All-push, All-weaker}
 use Rattle.partner_link.specs.declared.pairs.PartnerRequest.{PartnerRequest}
-use Rattle.partner_link.specs.Partners.{AreLinks, PartnerLists, asked, asking, has_asked, is_of, linked, names, parted, partner_of, stands, without}
+use Rattle.partner_link.specs.Partners.{AreLinks, PartnerLists, requested, asking, has_asked, is_of, linked, names, parted, partner_of, request_stands, without_naming}
 use Rattle.partner_link.proofs.Links.{AreLinks-append, AreLinks-filter, flipped}
 use Rattle.lobby_state.specs.WellFormed.{ArePartnersOf, IsAskedByMember, IsLinkOfMembers}
 use Rattle.lobby_state.proofs.Lists.{All-filter_passing, Contains-filter}
@@ -34,7 +34,7 @@ ArePartnersOf-parted sessions who lists h = record {
 
 -- what names a member goes
 pub ArePartnersOf-forgotten : (sessions : List ℕ) (who : ℕ) (lists : PartnerLists) → ArePartnersOf sessions lists
-    → ArePartnersOf sessions (without lists who)
+    → ArePartnersOf sessions (without_naming lists who)
 ArePartnersOf-forgotten sessions who lists h = record {
   requests = All-filter (λ request. not (names who request)) (IsAskedByMember sessions) lists.requests h.requests;
   links = All-filter (λ link. not (is_of who link)) (IsLinkOfMembers sessions) lists.links h.links;
@@ -43,7 +43,7 @@ ArePartnersOf-forgotten sessions who lists h = record {
 
 -- a member goes with what names it
 pub ArePartnersOf-without : (sessions : List ℕ) (who : ℕ) (lists : PartnerLists) → ArePartnersOf sessions lists
-    → ArePartnersOf (filter (λ s. not (eqb s who)) sessions) (without lists who)
+    → ArePartnersOf (filter (λ s. not (eqb s who)) sessions) (without_naming lists who)
 ArePartnersOf-without sessions who lists h =
     let stays : ℕ → Bool = λ s. not (eqb s who) in
     let left = filter stays sessions in
@@ -76,7 +76,7 @@ linked_or_asked : (sessions : List ℕ) (b : Bool) (lists : PartnerLists) (one a
     → Contains sessions another
     → (b ≡ true → AreLinks (lists.links ++ record { first = another; second = one } ∷ []))
     → ArePartnersOf sessions lists
-    → ArePartnersOf sessions (cond b (linked lists one another) (asked lists one another))
+    → ArePartnersOf sessions (cond b (linked lists one another) (requested lists one another))
 linked_or_asked sessions true lists one another here there apart h = record {
   requests =
       All-filter (λ request. not (names one request || names another request)) (IsAskedByMember sessions) lists.requests
@@ -90,7 +90,7 @@ linked_or_asked sessions true lists one another here there apart h = record {
 }
 linked_or_asked sessions false lists one another here there apart h = record {
   requests =
-      one_more_or_same sessions (stands lists.requests one another) lists.requests (record {
+      one_more_or_same sessions (request_stands lists.requests one another) lists.requests (record {
         from = one;
         to = another;
       }) h.requests
@@ -104,7 +104,7 @@ asks_another : (lists : PartnerLists) (one another : ℕ) → has_asked lists.re
     → (another == one) ≡ false
 asks_another lists one another asks =
     flipped one another
-    (not-true (one == another) (and_parts (not (one == another)) (stands lists.requests another one) asks).0)
+    (not-true (one == another) (and_parts (not (one == another)) (request_stands lists.requests another one) asks).0)
 
 -- a member asks a member, and neither has a partner
 pub ArePartnersOf-asking : (sessions : List ℕ) (lists : PartnerLists) (one another : ℕ) → Contains sessions one

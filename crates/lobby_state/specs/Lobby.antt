@@ -8,7 +8,7 @@ use Rattle.fics_words.specs.Handle.{key_of}
 use Rattle.fics_words.specs.declared.account.Account.{Account}
 use Rattle.lobby_shelf.specs.Shelf.{ShelfState, empty, without_requests}
 use Rattle.login_handles.specs.Accounts.{account_of}
-use Rattle.partner_link.specs.Partners.{PartnerLists, partner_of, without}
+use Rattle.partner_link.specs.Partners.{PartnerLists, partner_of, without_naming}
 use Rattle.seek_match.specs.declared.seek.Seek.{Seek}
 use Rattle.seek_match.specs.Matches.{without_challenges_of}
 use Rattle.seek_match.specs.Seeks.{without_seeks_of}
@@ -154,7 +154,7 @@ partner_in lobby session = partner_of lobby.partners.links session
 
 -- the lobby without the requests and the link that name this session
 abbrev pub without_partner : ℕ → LobbyState → LobbyState
-without_partner session lobby = record lobby { partners = without lobby.partners session }
+without_partner session lobby = record lobby { partners = without_naming lobby.partners session }
 
 -- the lobby without the requests of this session to resume a game
 abbrev pub without_resumes : ℕ → LobbyState → LobbyState

@@ -2,7 +2,7 @@
 -- FICS's.
 use Rattle.std.specs.Prelude.{ℕ, Bool, true, false, ◌||◌, List, [], ◌∷◌, Option, None, Some, is_none}
 use Rattle.std.specs.List.{find}
-use Rattle.channel_feed.specs.NameLists.{adding, is_on, removing}
+use Rattle.channel_feed.specs.NameLists.{adding, is_listed, removing}
 use Rattle.fics_words.specs.Effect.{Cause, Effect}
 use Rattle.fics_words.specs.Handle.{key_of}
 use Rattle.fics_words.specs.declared.refusal.Refusal.TheVariants.{NotIn}
@@ -17,12 +17,12 @@ use Rattle.lobby_state.specs.Lobby.{LobbyState, is_session, member_of}
 -- the other has the member on its censor list, and so doesn't hear it
 abbrev pub censors : Option Member → Member → Bool
 censors None other = false
-censors (Some member) other = is_on other.censor (key_of member.name)
+censors (Some member) other = is_listed other.censor (key_of member.name)
 
 -- the other has the member on one of its lists, and so doesn't play with it
 abbrev pub avoids : Option Member → Member → Bool
 avoids None other = false
-avoids (Some member) other = is_on other.noplay (key_of member.name) || is_on other.censor (key_of member.name)
+avoids (Some member) other = is_listed other.noplay (key_of member.name) || is_listed other.censor (key_of member.name)
 
 -- the names on that list of the member
 abbrev pub names_on : WhichList → Member → List (List ℕ)

@@ -1,7 +1,7 @@
 //! The acts of the lobby, what they are answered, and what pair acts are to do.
 ghost use Rattle.std.specs.Prelude.{◌≡◌};
 ghost use Rattle.lobby_state.specs.Told.{lists_told, plain_part};
-ghost use Rattle.lobby_state.specs.Plans.{desk_of};
+ghost use Rattle.lobby_state.specs.Plans.{NamesDesk, desk_of};
 
 pub(crate) mod accept;
 pub(crate) mod bye;
@@ -45,12 +45,11 @@ pub(crate) mod who;
 pub(crate) mod withdraw;
 
 use crate::acts::name_list::WhichList;
-use crate::acts::var::Var;
 use crate::desk_in_use::DeskInUse;
 use crate::told::ReplyLists;
 use chess_model::Terms;
 use collections::Listed;
-use fics_words::{Digest, Handle, HandleKey, Line, Lines, Seats};
+use fics_words::{DeskNumber, Digest, Handle, HandleKey, Line, Lines, Seats, Variable};
 use lobby_shelf::Order;
 use simul_control::{Place, Places};
 use std::mem::size_of;
@@ -91,7 +90,7 @@ pub enum LobbyAct {
     Games,
     /// The member's variable is on or off from now on.
     Var {
-        which: Var,
+        which: Variable,
         on: bool,
     },
     /// The member puts the name on that list of its own, or takes it off where `on` is false.
@@ -252,15 +251,26 @@ pub enum PairAct {
     /// Asks to resume the adjourned game of least number that the player with this handle and the member both play in.
     Resume(HandleKey),
     /// Gives up the place at a desk whose game has ended, and frees the desk where nobody looks on any more.
-    Clear { desk: u8, serial: u64 },
+    Clear { desk: DeskNumber, serial: u64 },
 }
 
-/// What a pair act is to do, as the lobby alone decides it. Desks are 1 to 128.
+impl PairAct {
+    /// Does nothing: a desk that the act names is one of the hall's, as its number says.
+    pub fn names_desk(&self)
+        ensures { NamesDesk self.now }
+    {
+        if let PairAct::Clear { desk, .. } = self {
+            let _number = desk.get();
+        }
+    }
+}
+
+/// What a pair act is to do, as the lobby alone decides it.
 #[derive(Clone, Copy)]
 pub enum Plan {
     /// A game starts.
     Start {
-        desk: u8,
+        desk: DeskNumber,
         serial: u64,
         terms: Terms,
         seats: Seats,
@@ -268,12 +278,12 @@ pub enum Plan {
     /// The session gives up its place.
     Clear {
         by: u32,
-        desk: u8,
+        desk: DeskNumber,
         serial: u64,
     },
     /// The adjourned game of that number starts again.
     Resume {
-        desk: u8,
+        desk: DeskNumber,
         serial: u64,
         number: u64,
         terms: Terms,
@@ -289,7 +299,7 @@ pub enum Plan {
 
 impl Plan {
     /// The desk that the plan needs beside the lobby, if it needs one.
-    pub fn desk(&self) -> Option<u8>
+    pub fn desk(&self) -> Option<DeskNumber>
         ensures { result ≡ desk_of self.now }
     {
         match self {

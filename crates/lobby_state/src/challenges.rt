@@ -1,11 +1,11 @@
 //! Which challenges stay as a game starts.
-ghost use Rattle.std.specs.Prelude.{◌≡◌, not};
-ghost use Rattle.lobby_state.specs.Start.{concerns_bound, is_between_seated, is_bound, is_giver, is_settled};
+ghost use Rattle.std.specs.Prelude.{◌≡◌, ◌&&◌, ◌||◌, not};
+ghost use Rattle.lobby_state.specs.Start.{is_bound, is_giver, is_seated};
 
 use crate::members::Members;
 use collections::Predicate;
 use fics_words::Seats;
-use seek_match::Challenge;
+use seek_match::ChallengeKey;
 
 /// A challenge that stays as the game of these seats starts.
 #[derive(Clone, Copy)]
@@ -14,27 +14,27 @@ pub(crate) struct Stays<'a> {
     pub(crate) seats: Seats,
 }
 
-impl<'a> Predicate<Challenge> for Stays<'a> {
-    ghost passes = { λ test challenge. not (is_settled test.members.now test.seats challenge) };
+impl<'a> Predicate<ChallengeKey> for Stays<'a> {
+    ghost passes = { λ test key. not ((is_seated test.seats key.from && is_seated test.seats key.to)
+        || (is_bound test.members.now test.seats key.from || is_bound test.members.now test.seats key.to)) };
 
-    fn passes(&self, challenge: &Challenge) -> bool {
-        !(is_between(&self.seats, challenge)
-            || concerns_bound(self.members, &self.seats, challenge))
+    fn passes(&self, key: &ChallengeKey) -> bool {
+        !(are_seated(&self.seats, key) || concerns_bound(self.members, &self.seats, key))
     }
 }
 
-/// Whether the challenge is between two players of the game.
-fn is_between(seats: &Seats, challenge: &Challenge) -> bool
-    ensures { result ≡ is_between_seated seats.now challenge.now }
+/// Whether the two are players of the game.
+fn are_seated(seats: &Seats, key: &ChallengeKey) -> bool
+    ensures { result ≡ (is_seated seats.now key.now.from && is_seated seats.now key.now.to) }
 {
-    seats.number(challenge.from).is_some() && seats.number(challenge.to).is_some()
+    seats.number(key.from).is_some() && seats.number(key.to).is_some()
 }
 
-/// Whether the challenge is by or to a player of the game that gives no simul.
-fn concerns_bound(members: &Members, seats: &Seats, challenge: &Challenge) -> bool
-    ensures { result ≡ concerns_bound members.now seats.now challenge.now }
+/// Whether one of the two is a player of the game that gives no simul.
+fn concerns_bound(members: &Members, seats: &Seats, key: &ChallengeKey) -> bool
+    ensures { result ≡ (is_bound members.now seats.now key.now.from || is_bound members.now seats.now key.now.to) }
 {
-    is_bound(members, seats, challenge.from) || is_bound(members, seats, challenge.to)
+    is_bound(members, seats, key.from) || is_bound(members, seats, key.to)
 }
 
 /// Whether the session is a player of the game that gives no simul.

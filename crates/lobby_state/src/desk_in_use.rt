@@ -1,10 +1,11 @@
 //! A desk in use.
 
+use fics_words::DeskNumber;
+
 /// A desk that is in use, and for which game.
-#[derive(Clone, Copy, PartialEq, Eq)]
+#[derive(Clone, Copy)]
 pub struct DeskInUse {
-    /// The desk, 1 to 128.
-    pub desk: u8,
+    pub desk: DeskNumber,
     /// The serial of the game at that desk.
     pub serial: u64,
 }

@@ -16,7 +16,7 @@ ghost use Rattle.lobby_state.specs.Keeps.{KeepsPlan, KeepsWhere};
 ghost use Rattle.lobby_state.specs.KeptAway.{KeepAway};
 ghost use Rattle.lobby_state.specs.Lobby.{most_members, waiting_of};
 ghost use Rattle.lobby_state.specs.Planned.{IsPlanned};
-ghost use Rattle.lobby_state.specs.Plans.{NamesDesk, committed, plan_of};
+ghost use Rattle.lobby_state.specs.Plans.{committed, plan_of};
 ghost use Rattle.lobby_state.specs.SettledOffers.{SettleOffers};
 ghost use Rattle.lobby_state.specs.Start.{lobby_seated};
 ghost use Rattle.lobby_state.specs.WaitingLines.{BeginsWith, Deed, StaysInHall, after_all, all_given, lines_given};
@@ -43,10 +43,12 @@ pub fn acts_keep(lobby: &Lobby, session: u32, act: &LobbyAct)
 /// A plan that a lobby gives can be carried out in it. That leaves the lobby well-formed, and changes the game of no
 /// other desk.
 pub fn plans_keep(lobby: &Lobby, session: u32, act: &PairAct, plan: &Plan)
-    ensures planned { NamesDesk act.now → IsWellFormed lobby.now → plan_of lobby.now session act.now ≡ Ok plan.now
+    ensures planned { IsWellFormed lobby.now → plan_of lobby.now session act.now ≡ Ok plan.now
         → IsPlanned lobby.now plan.now }
     ensures kept { IsPlanned lobby.now plan.now → KeepsPlan lobby.now plan.now }
-{}
+{
+    act.names_desk();
+}
 
 /// While the hall isn't full, the guest that enters next has the least name of a guest that no member and no account
 /// has.

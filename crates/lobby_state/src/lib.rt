@@ -38,7 +38,6 @@ mod told;
 mod wants;
 
 pub use acts::name_list::WhichList;
-pub use acts::var::Var;
 pub use acts::{LobbyAct, LobbyReply, PairAct, Plan};
 pub use desk_in_use::DeskInUse;
 pub use game::{DESKS, ListedGame};

@@ -1,14 +1,13 @@
 //! The lobby itself: which act is carried out by which function, and that every lobby is well-formed.
-ghost use Rattle.std.specs.Prelude.{◌≡◌, ◌≤◌, IfOk, IfSome, IsOk, None, length, option_copied};
+ghost use Rattle.std.specs.Prelude.{◌≡◌, ◌≤◌, IfOk, IsOk, None, length, option_copied};
 ghost use Rattle.fics_words.specs.Effect.{Takes};
 ghost use Rattle.game_records.specs.Replays.{Replays};
 ghost use Rattle.lobby_shelf.specs.Numbers.{stored_game};
 ghost use Rattle.lobby_state.specs.Acts.{FitsLobby, LobbyNeedsNoMemory, lobby_effect};
-ghost use Rattle.lobby_state.specs.Desks.{IsDesk};
 ghost use Rattle.lobby_state.specs.Lobby.{game_at, opening, places_of, waiting_of};
 ghost use Rattle.lobby_state.specs.Told.{lists_told};
 ghost use Rattle.lobby_state.specs.Planned.{IsPlanned};
-ghost use Rattle.lobby_state.specs.Plans.{NamesDesk, committed, desk_of, plan_of};
+ghost use Rattle.lobby_state.specs.Plans.{committed, plan_of};
 ghost use Rattle.lobby_state.specs.Registration.{loading_effect};
 ghost use Rattle.lobby_state.specs.Reserve.{CanShelve, IsReady, shelved_in};
 ghost use Rattle.lobby_state.specs.ShelfRoom.{numbers_of, storing_effect};
@@ -18,7 +17,7 @@ use crate::game::ListedGame;
 use crate::reserve::Ready;
 use crate::roster::Roster;
 use crate::told::ReplyLists;
-use fics_words::{Account, Fail, Line, Refusal};
+use fics_words::{Account, DeskNumber, Fail, Line, Refusal};
 use lobby_shelf::{Shelved, StoredGame};
 use memory::NoMemory;
 use simul_control::Places;
@@ -135,9 +134,8 @@ impl Lobby {
         self.roster.waiting(session)
     }
 
-    /// The game for which the desk, 1 to 128, is in use, if it is.
-    pub fn game(&self, desk: u8) -> Option<ListedGame>
-        requires { IsDesk desk }
+    /// The game for which the desk is in use, if it is.
+    pub fn game(&self, desk: DeskNumber) -> Option<ListedGame>
         ensures { result ≡ game_at self.now desk }
     {
         self.roster.game(desk)
@@ -162,11 +160,10 @@ impl Lobby {
 
     /// What an act that needs the lobby and a desk is to do, by the lobby alone.
     pub fn plan(&self, session: u32, act: &PairAct) -> Result<Plan, Refusal>
-        requires { NamesDesk act.now }
         ensures plan { result ≡ plan_of self.now session act.now }
         ensures planned { IfOk result (IsPlanned self.now) }
-        ensures desk { IfOk result (λ plan. IfSome (desk_of plan) IsDesk) }
     {
+        act.names_desk();
         self.roster.plan(session, act)
     }
 

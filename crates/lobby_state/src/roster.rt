@@ -1,6 +1,5 @@
 //! What a lobby keeps, and the look-ups in it.
 ghost use Rattle.std.specs.Prelude.{◌≡◌, IfOk, option_copied};
-ghost use Rattle.lobby_state.specs.Desks.{IsDesk};
 ghost use Rattle.lobby_state.specs.Lobby.{holder_of, opening, member_of, named, places_of, waiting_of, free_slot, game_at, partner_in};
 
 use crate::game::{ListedGame, no_games};
@@ -8,7 +7,7 @@ use crate::member::Member;
 use crate::members::Members;
 use channel_feed::Channels;
 use collections::Listed;
-use fics_words::{HandleKey, Line};
+use fics_words::{DeskNumber, HandleKey, Line};
 use lobby_shelf::GameShelf;
 use login_handles::Accounts;
 use memory::NoMemory;
@@ -111,12 +110,11 @@ impl Roster {
         }
     }
 
-    /// The game for which the desk, 1 to 128, is in use, if it is.
-    pub(crate) fn game(&self, desk: u8) -> Option<ListedGame>
-        requires { IsDesk desk }
+    /// The game for which the desk is in use, if it is.
+    pub(crate) fn game(&self, desk: DeskNumber) -> Option<ListedGame>
         ensures { result ≡ game_at self.now desk }
     {
-        match self.games.get(desk as usize - 1) {
+        match self.games.get(desk.place()) {
             Some(game) => *game,
             None => None,
         }

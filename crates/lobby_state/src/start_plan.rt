@@ -9,7 +9,7 @@ use crate::acts::Plan;
 use crate::member::Member;
 use crate::roster::Roster;
 use chess_model::{Colour, Terms, Variant};
-use fics_words::{Opponents, Player, Refusal, Seats};
+use fics_words::{DeskNumber, Opponents, Player, Refusal, Seats};
 use login_handles::Accounts;
 
 /// The most games that are ever started, which keeps serials below 2^64.
@@ -44,7 +44,7 @@ impl Roster {
         }
         let serial = self.started + 1;
         Ok(Plan::Start {
-            desk: slot as u8 + 1,
+            desk: DeskNumber::new(slot as u8 + 1),
             serial,
             terms,
             seats: self.seats(serial, offering, accepting, terms),

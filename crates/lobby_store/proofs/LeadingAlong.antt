@@ -9,7 +9,7 @@ use Rattle.fics_words.specs.declared.account.Account.{Account}
 use Rattle.game_records.specs.Keys.{account_key}
 use Rattle.fics_words.specs.declared.seats.Seats.{Seats}
 use Rattle.game_records.specs.declared.stored_game.StoredGame.{StoredGame}
-use Rattle.lobby_shelf.specs.Numbers.{RiseAbove, game_in as row_game, has_number, stored_game}
+use Rattle.lobby_shelf.specs.Numbers.{RiseAbove, row_game, has_number, stored_game}
 use Rattle.lobby_shelf.specs.Shelf.{account_order, game_order, removal_order}
 use Rattle.lobby_shelf.specs.Wanted.{is_account_at, table_with, wanted}
 use Rattle.lobby_shelf.specs.declared.order.Order.{Order}

@@ -108,7 +108,7 @@ impl Doorway for MemDoor {
     ghost use Rattle.edge_traits.specs.Faults.{Rose};
     ghost use Rattle.memory_edges.specs.Plan.{IsToFail, after_call};
     ghost use Rattle.edge_traits.specs.WhereTold.{WhereTold};
-    ghost use Rattle.edge_traits.specs.Door.{Gives, IfCame, IsNew, IsOut, TakesBack, OnDoorFailed};
+    ghost use Rattle.edge_traits.specs.Door.{DoorGives, IfCame, IsNew, IsOut, TakesBack, OnDoorFailed};
     ghost use Rattle.edge_traits.specs.Answers.{IsQuiet, door_failed};
 
     type Link = MemLink;
@@ -118,7 +118,8 @@ impl Doorway for MemDoor {
     ghost faults = { λ door. door.plan.faults };
 
     fn next(&mut self) -> Came<MemLink>
-        ensures gives { WhereTold (Some self.old.tale) (Some self.new.tale) (Gives (λ link. Some link.tale) result) }
+        ensures gives { WhereTold (Some self.old.tale) (Some self.new.tale)
+            (DoorGives (λ link. Some link.tale) result) }
         ensures fresh { IfCame result (λ link. IsNew link.plan.faults (Some link.tale)) }
         ensures cause { OnDoorFailed result (Rose self.old.plan.faults self.new.plan.faults) }
         ensures counted { self.old.plan.faults ≤ self.new.plan.faults }

@@ -117,7 +117,7 @@ impl Link for MemLink {
     ghost use Rattle.edge_traits.specs.Answers.{hear_failed, write_failed};
     ghost use Rattle.edge_traits.specs.Sink.{OnWriteFailed};
     ghost use Rattle.edge_traits.specs.WhereTold.{WhereTold};
-    ghost use Rattle.edge_traits.specs.Link.{IsOpen, Reads, Writes, Closes, IfHeard, OnHearFailed};
+    ghost use Rattle.edge_traits.specs.Link.{LinkIsOpen, Reads, Writes, Closes, IfHeard, OnHearFailed};
 
     ghost tale = { λ link. Some link.tale };
 
@@ -125,7 +125,7 @@ impl Link for MemLink {
 
     fn read(&mut self, buf: &mut [u8]) -> Heard
         requires room { 0 < length buf.old }
-        requires open { IsOpen (Some self.old.tale) }
+        requires open { LinkIsOpen (Some self.old.tale) }
         ensures count { IfHeard result (λ n. (0 < n) × (n ≤ length buf.new)) }
         ensures read { WhereTold (Some self.old.tale) (Some self.new.tale) (Reads result buf.new) }
         ensures cause { OnHearFailed result (Rose self.old.plan.faults self.new.plan.faults) }
@@ -146,7 +146,7 @@ impl Link for MemLink {
     }
 
     fn write(&mut self, bytes: &[u8]) -> Sent
-        requires open { IsOpen (Some self.old.tale) }
+        requires open { LinkIsOpen (Some self.old.tale) }
         ensures wrote { WhereTold (Some self.old.tale) (Some self.new.tale) (Writes result bytes.now) }
         ensures cause { OnWriteFailed result (Rose self.old.plan.faults self.new.plan.faults) }
         ensures counted { self.old.plan.faults ≤ self.new.plan.faults }

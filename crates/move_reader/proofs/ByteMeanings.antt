@@ -5,7 +5,7 @@ use Rattle.std.proofs.lemmas.Bool.{eqb-true}
 use Rattle.std.proofs.lemmas.Bool.Decides.{nat_tests}
 use Rattle.chess_model.specs.declared.man.Kind.{Kind}
 use Rattle.move_reader.specs.Spellings.{Text, OneOf, square_names, man_letters, promotion_letters, drop_letters}
-use Rattle.move_reader.specs.Reading.{lookup, men, promotions, droppable, man_of, file_of_letter, rank_of_digit}
+use Rattle.move_reader.specs.Reading.{lookup, men, promotable, droppable, man_of, file_of_letter, rank_of_digit}
 
 pub not_some : {V : Type 0} {C : Type 0} (v : V) → None ≡ Some v → C
 not_some v e = absurd (let bad : None ≡ Some v = e in cc)
@@ -31,9 +31,9 @@ man_letter b k =
     lookup-all (λ b k. OneOf (man_letters k) (b ∷ [])) men b k
     (inl refl, (inl refl, (inl refl, (inl refl, (inl refl, (inr (inl refl), tt))))))
 
-pub promotion_letter : (b : ℕ) (k : Kind) → lookup promotions b ≡ Some k → OneOf (promotion_letters k) (b ∷ [])
+pub promotion_letter : (b : ℕ) (k : Kind) → lookup promotable b ≡ Some k → OneOf (promotion_letters k) (b ∷ [])
 promotion_letter b k =
-    lookup-all (λ b k. OneOf (promotion_letters k) (b ∷ [])) promotions b k (
+    lookup-all (λ b k. OneOf (promotion_letters k) (b ∷ [])) promotable b k (
       inl refl,
       (inr (inl refl), (inl refl, (inr (inl refl), (inl refl, (inr (inl refl), (inl refl, (inr (inl refl), tt))))))),
     )

@@ -4,7 +4,7 @@ use Rattle.std.specs.Prelude.{◌⊎◌, ◌==◌, ◌||◌, Option}
 use Rattle.std.proofs.lemmas.Bool.{eqb-true}
 use Rattle.chess_model.specs.declared.man.Kind.{Kind}
 use Rattle.move_reader.specs.Spellings.{Text, OneOf, MadeOf, square_names, man_letters, origin_files, origin_ranks, promotion_letters, promotion_and, marks}
-use Rattle.move_reader.specs.Reading.{lookup, promotions, man_of, file_of_letter, rank_of_digit, told, leading, behind, squared, leading_square, ended, is_mark, is_empty, promoted, promotion_of, or_pawn}
+use Rattle.move_reader.specs.Reading.{lookup, promotable, man_of, file_of_letter, rank_of_digit, told, leading, behind_byte, squared, leading_square, ended, is_mark, is_empty, promoted, promotion_spelled, or_pawn}
 use Rattle.move_reader.proofs.ByteMeanings.{not_some, man_letter, promotion_letter, OneOf-if, is_below, file_read, rank_read, name_of_square}
 
 -- nothing was taken, or the first byte as what it means
@@ -74,10 +74,10 @@ pub rank-sound : (text : Text) (parts : List (List Text)) → MadeOf parts (lead
 rank-sound text parts m = rank-step text (leading rank_of_digit text) parts (leading-takes rank_of_digit text) m
 
 -- a byte that may be left out
-pub behind-sound : (byte : ℕ) (text : Text) (parts : List (List Text)) → MadeOf parts (behind byte text)
+pub behind_byte-sound : (byte : ℕ) (text : Text) (parts : List (List Text)) → MadeOf parts (behind_byte byte text)
     → MadeOf (([] ∷ (byte ∷ []) ∷ []) ∷ parts) text
-behind-sound byte [] parts m = ([], [], inl refl, m, refl)
-behind-sound byte (first ∷ rest) parts m =
+behind_byte-sound byte [] parts m = ([], [], inl refl, m, refl)
+behind_byte-sound byte (first ∷ rest) parts m =
     elim (first == byte)
     as (λ t.
     (first == byte) ≡ t → MadeOf parts (cond t rest (first ∷ rest))
@@ -126,7 +126,8 @@ Ends is_end ends = (text : Text) → is_end text ≡ true → MadeOf ends text
 promotion-step : (is_end : Text → Bool) (ends : List (List Text)) (text : Text) (promo : Option Kind)
     (taken : Option Kind × Text)
     → Ends is_end ends
-    → Takes (lookup promotions) (behind 61 text) taken → promoted taken.0 (is_end taken.1) (is_end text) ≡ Some promo
+    → Takes (lookup promotable) (behind_byte 61 text) taken
+    → promoted taken.0 (is_end taken.1) (is_end text) ≡ Some promo
     → MadeOf (promotion_and promo ends) text
 promotion-step is_end ends text promo taken sound (inl e) =
     subst (λ (t : Option Kind × Text).
@@ -142,15 +143,15 @@ promotion-step is_end ends text promo taken sound (inr (b, k, rest, split, means
     (λ is.
     let both = ended-both (Some k) promo (is_end rest) is in
     subst (λ (p : Option Kind). MadeOf (promotion_and p ends) text) both.1
-    (behind-sound 61 text (promotion_letters k ∷ ends)
+    (behind_byte-sound 61 text (promotion_letters k ∷ ends)
     (b ∷ [], rest, promotion_letter b k means, sound rest both.0, split)))
 
 pub promotion-sound : (is_end : Text → Bool) (ends : List (List Text)) (text : Text) (promo : Option Kind)
     → Ends is_end ends
-    → promotion_of is_end text ≡ Some promo → MadeOf (promotion_and promo ends) text
+    → promotion_spelled is_end text ≡ Some promo → MadeOf (promotion_and promo ends) text
 promotion-sound is_end ends text promo sound e =
-    promotion-step is_end ends text promo (leading (lookup promotions) (behind 61 text)) sound
-    (leading-takes (lookup promotions) (behind 61 text)) e
+    promotion-step is_end ends text promo (leading (lookup promotable) (behind_byte 61 text)) sound
+    (leading-takes (lookup promotable) (behind_byte 61 text)) e
 
 pub is_empty-sound : Ends is_empty []
 is_empty-sound [] e = refl

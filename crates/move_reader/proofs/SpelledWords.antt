@@ -5,8 +5,8 @@ use Rattle.chess_model.specs.declared.man.Kind.{Kind}
 use Rattle.chess_model.specs.declared.man.Kind.TheVariants.{Pawn, Knight, Bishop, Rook, Queen, King}
 use Rattle.chess_model.specs.declared.moves.MoveWord.{MoveWord}
 use Rattle.chess_model.specs.declared.moves.MoveWord.TheVariants.{Coordinate, Named, Castle, Drop}
-use Rattle.move_reader.specs.Spellings.{Text, OneOf, MadeOf, Spells, square_names, man_letters, origin_files, origin_ranks, captures, equals, marks, promotion_letters, drop_letters, promotion_and, castlings}
-use Rattle.move_reader.specs.Reading.{lookup, promotions, man_of, file_of_letter, rank_of_digit, told, leading, behind, squared, leading_square, ended, is_mark, is_empty, promoted, promotion_of, to_square, target_of, coordinate_from, coordinate_of, or_pawn, named_by, named_of, dropped_at, reading}
+use Rattle.move_reader.specs.Spellings.{Text, OneOf, MadeOf, Spells, square_names, man_letters, origin_files, origin_ranks, capture_marks, equals, marks, promotion_letters, drop_letters, promotion_and, castlings}
+use Rattle.move_reader.specs.Reading.{lookup, promotable, man_of, file_of_letter, rank_of_digit, told, leading, behind_byte, squared, leading_square, ended, is_mark, is_empty, promoted, promotion_spelled, to_square, target_of, coordinate_from, coordinate_of, or_pawn, named_by, named_of, dropped_at, reading}
 use Rattle.move_reader.proofs.ByteMeanings.{if-OneOf, below, above, under, file_again, rank_again, digit_no_file, letter_no_rank, letter_no_man, digit_no_man}
 
 -- the name of a square stands first
@@ -41,21 +41,21 @@ square_again text s rest b =
 -- a byte that may be left out, before a square's name
 behind_again : (byte : ℕ) (text left rest : Text) (s : ℕ) (after : Text) → OneOf ([] ∷ (byte ∷ []) ∷ []) left
     → text ≡ left ++ rest → Begins rest s after
-    → ((file : ℕ) → file < 8 → ((97 + file) == byte) ≡ false) → (byte == byte) ≡ true → behind byte text ≡ rest
+    → ((file : ℕ) → file < 8 → ((97 + file) == byte) ≡ false) → (byte == byte) ≡ true → behind_byte byte text ≡ rest
 behind_again byte text left rest s after (inl none) e b other same =
-    ap (behind byte) (e ∙ ap (λ (x : Text). x ++ rest) none ∙ b.bytes)
+    ap (behind_byte byte) (e ∙ ap (λ (x : Text). x ++ rest) none ∙ b.bytes)
     ∙ ap (λ (t : Bool). cond t ((49 + b.rank) ∷ after) ((97 + b.file) ∷ (49 + b.rank) ∷ after))
     (other b.file b.file_fits)
     ∙ sym b.bytes
 behind_again byte text left rest s after (inr (inl one)) e b other same =
-    ap (behind byte) (e ∙ ap (λ (x : Text). x ++ rest) one) ∙ ap (λ (t : Bool). cond t rest (byte ∷ rest)) same
+    ap (behind_byte byte) (e ∙ ap (λ (x : Text). x ++ rest) one) ∙ ap (λ (t : Bool). cond t rest (byte ∷ rest)) same
 behind_again byte text left rest s after (inr (inr never)) e b other same = absurd never
 
 -- a promotion's letter
 record IsPromotion (letter : Text) (man : Kind) : Type 0 where
   byte : ℕ
   is : letter ≡ byte ∷ []
-  means : lookup promotions byte ≡ Some man
+  means : lookup promotable byte ≡ Some man
   no_sign : (byte == 61) ≡ false
   no_capture : (byte == 120) ≡ false
 
@@ -85,26 +85,26 @@ promoted_as is_end whole taken = promoted taken.0 (is_end taken.1) (is_end whole
 -- a promotion's letter, with a sign before it or none
 promotion_again : (is_end : Text → Bool) (text sign rest letter end : Text) (man : Kind) → OneOf equals sign
     → text ≡ sign ++ rest → IsPromotion letter man
-    → rest ≡ letter ++ end → is_end end ≡ true → promotion_of is_end text ≡ Some (Some man)
+    → rest ≡ letter ++ end → is_end end ≡ true → promotion_spelled is_end text ≡ Some (Some man)
 unfolding promoted_as
 promotion_again is_end text sign rest letter end man (inl none) e p e' ends =
     let bytes : text ≡ p.byte ∷ end = e ∙ ap (λ (x : Text). x ++ rest) none ∙ e' ∙ ap (λ (x : Text). x ++ end) p.is in
-    ap (promotion_of is_end) bytes
-    ∙ ap (λ (t : Bool). promoted_as is_end (p.byte ∷ end) (leading (lookup promotions) (cond t end (p.byte ∷ end))))
+    ap (promotion_spelled is_end) bytes
+    ∙ ap (λ (t : Bool). promoted_as is_end (p.byte ∷ end) (leading (lookup promotable) (cond t end (p.byte ∷ end))))
     p.no_sign
     ∙ ap (λ (o : Option Kind). promoted_as is_end (p.byte ∷ end) (told o p.byte end)) p.means
     ∙ ap (λ (t : Bool). ended (Some man) t) ends
 promotion_again is_end text sign rest letter end man (inr (inl one)) e p e' ends =
     let bytes : text ≡ 61 ∷ p.byte ∷ end =
     e ∙ ap (λ (x : Text). x ++ rest) one ∙ ap (λ (x : Text). 61 ∷ x) (e' ∙ ap (λ (x : Text). x ++ end) p.is) in
-    ap (promotion_of is_end) bytes
+    ap (promotion_spelled is_end) bytes
     ∙ ap (λ (o : Option Kind). promoted_as is_end (61 ∷ p.byte ∷ end) (told o p.byte end)) p.means
     ∙ ap (λ (t : Bool). ended (Some man) t) ends
 promotion_again is_end text sign rest letter end man (inr (inr never)) e p e' ends = absurd never
 
 empty_promotion : (promo : Option Kind) (text : Text) → MadeOf (promotion_and promo []) text
-    → promotion_of is_empty text ≡ Some promo
-empty_promotion None text e = ap (promotion_of is_empty) e
+    → promotion_spelled is_empty text ≡ Some promo
+empty_promotion None text e = ap (promotion_spelled is_empty) e
 empty_promotion (Some man) text (sign, rest, s, (letter, end, l, none, e'), e) =
     promotion_again is_empty text sign rest letter end man s e (promotion_letter man letter l) e' (ap is_empty none)
 
@@ -136,14 +136,14 @@ is_mark-again text (inr (inl e)) = ap is_mark e
 is_mark-again text (inr (inr (inl e))) = ap is_mark e
 is_mark-again text (inr (inr (inr e))) = absurd e
 
-no_promotion : (text : Text) → OneOf marks text → promotion_of is_mark text ≡ Some None
-no_promotion text (inl e) = ap (promotion_of is_mark) e
-no_promotion text (inr (inl e)) = ap (promotion_of is_mark) e
-no_promotion text (inr (inr (inl e))) = ap (promotion_of is_mark) e
+no_promotion : (text : Text) → OneOf marks text → promotion_spelled is_mark text ≡ Some None
+no_promotion text (inl e) = ap (promotion_spelled is_mark) e
+no_promotion text (inr (inl e)) = ap (promotion_spelled is_mark) e
+no_promotion text (inr (inr (inl e))) = ap (promotion_spelled is_mark) e
 no_promotion text (inr (inr (inr e))) = absurd e
 
 marked_promotion : (promo : Option Kind) (text : Text) → MadeOf (promotion_and promo (marks ∷ [])) text
-    → promotion_of is_mark text ≡ Some promo
+    → promotion_spelled is_mark text ≡ Some promo
 marked_promotion None text m = no_promotion text (mark_text text m)
 marked_promotion (Some man) text (sign, rest, s, (letter, end, l, m, e'), e) =
     promotion_again is_mark text sign rest letter end man s e (promotion_letter man letter l) e'
@@ -154,10 +154,10 @@ no_square_of None rest = refl
 no_square_of (Some f) rest = refl
 
 -- no square's name stands where a mark is
-no_square_at_mark : (text : Text) → OneOf marks text → leading_square (behind 120 text) ≡ None
-no_square_at_mark text (inl e) = ap (λ (x : Text). leading_square (behind 120 x)) e
-no_square_at_mark text (inr (inl e)) = ap (λ (x : Text). leading_square (behind 120 x)) e
-no_square_at_mark text (inr (inr (inl e))) = ap (λ (x : Text). leading_square (behind 120 x)) e
+no_square_at_mark : (text : Text) → OneOf marks text → leading_square (behind_byte 120 text) ≡ None
+no_square_at_mark text (inl e) = ap (λ (x : Text). leading_square (behind_byte 120 x)) e
+no_square_at_mark text (inr (inl e)) = ap (λ (x : Text). leading_square (behind_byte 120 x)) e
+no_square_at_mark text (inr (inr (inl e))) = ap (λ (x : Text). leading_square (behind_byte 120 x)) e
 no_square_at_mark text (inr (inr (inr e))) = absurd e
 
 no_square_at_letter : (b : ℕ) (end : Text) → OneOf marks end → leading_square (b ∷ end) ≡ None
@@ -169,19 +169,19 @@ no_square_at_letter b end (inr (inr (inl e))) =
 no_square_at_letter b end (inr (inr (inr e))) = absurd e
 
 no_square_behind : (promo : Option Kind) (text : Text) → MadeOf (promotion_and promo (marks ∷ [])) text
-    → leading_square (behind 120 text) ≡ None
+    → leading_square (behind_byte 120 text) ≡ None
 no_square_behind None text m = no_square_at_mark text (mark_text text m)
 no_square_behind (Some man) text (sign, rest, inl none, (letter, end, l, m, e'), e) =
     let p = promotion_letter man letter l in
     let bytes : text ≡ p.byte ∷ end = e ∙ ap (λ (x : Text). x ++ rest) none ∙ e' ∙ ap (λ (x : Text). x ++ end) p.is in
-    ap (λ (x : Text). leading_square (behind 120 x)) bytes
+    ap (λ (x : Text). leading_square (behind_byte 120 x)) bytes
     ∙ ap (λ (t : Bool). leading_square (cond t end (p.byte ∷ end))) p.no_capture
     ∙ no_square_at_letter p.byte end (mark_text end m)
 no_square_behind (Some man) text (sign, rest, inr (inl one), (letter, end, l, m, e'), e) =
     let p = promotion_letter man letter l in
     let bytes : text ≡ 61 ∷ p.byte ∷ end =
     e ∙ ap (λ (x : Text). x ++ rest) one ∙ ap (λ (x : Text). 61 ∷ x) (e' ∙ ap (λ (x : Text). x ++ end) p.is) in
-    ap (λ (x : Text). leading_square (behind 120 x)) bytes
+    ap (λ (x : Text). leading_square (behind_byte 120 x)) bytes
 no_square_behind (Some man) text (sign, rest, inr (inr never), (letter, end, l, m, e'), e) = absurd never
 
 -- algebraic notation behind the man's letter
@@ -189,21 +189,21 @@ named_from : Kind → Text → Option MoveWord
 named_from man text =
     let file = leading file_of_letter text in
     let rank = leading rank_of_digit file.1 in
-    named_by man file.0 rank.0 rank.1 (leading_square (behind 120 rank.1))
+    named_by man file.0 rank.0 rank.1 (leading_square (behind_byte 120 rank.1))
 
 -- a file, a rank and a capture that were read before a target
 named-behind : (man : Kind) (text one two three : Text) (file rank : Option ℕ) (to : ℕ) (end : Text)
     (promo : Option Kind)
-    → leading file_of_letter text ≡ (file, one) → leading rank_of_digit one ≡ (rank, two) → behind 120 two ≡ three
+    → leading file_of_letter text ≡ (file, one) → leading rank_of_digit one ≡ (rank, two) → behind_byte 120 two ≡ three
     → leading_square three ≡ Some (to, end)
-    → promotion_of is_mark end ≡ Some promo → named_from man text ≡ Some (Named man file rank to promo)
+    → promotion_spelled is_mark end ≡ Some promo → named_from man text ≡ Some (Named man file rank to promo)
 unfolding named_from
 named-behind man text one two three file rank to end promo f r c s p =
     ap (λ (x : Option ℕ × Text).
     named_by man x.0 (leading rank_of_digit x.1).0 (leading rank_of_digit x.1).1
-    (leading_square (behind 120 (leading rank_of_digit x.1).1)))
+    (leading_square (behind_byte 120 (leading rank_of_digit x.1).1)))
     f
-    ∙ ap (λ (x : Option ℕ × Text). named_by man file x.0 x.1 (leading_square (behind 120 x.1))) r
+    ∙ ap (λ (x : Option ℕ × Text). named_by man file x.0 x.1 (leading_square (behind_byte 120 x.1))) r
     ∙ ap (λ (x : Text). named_by man file rank two (leading_square x)) c
     ∙ ap (λ (x : Option (ℕ × Text)). named_by man file rank two x) s
     ∙ ap (to_square (Named man file rank) to) p
@@ -236,7 +236,8 @@ same_text text none rest (inl is) e = e ∙ ap (λ (x : Text). x ++ rest) is
 same_text text none rest (inr never) e = absurd never
 
 -- a mark of capture or a target is no rank
-no_rank : (text left rest : Text) (s : ℕ) (end : Text) → OneOf captures left → text ≡ left ++ rest → Begins rest s end
+no_rank : (text left rest : Text) (s : ℕ) (end : Text) → OneOf capture_marks left → text ≡ left ++ rest
+    → Begins rest s end
     → leading rank_of_digit text ≡ (None, text)
 no_rank text left rest s end (inl none) e b =
     let bytes : text ≡ (97 + b.file) ∷ (49 + b.rank) ∷ end = e ∙ ap (λ (x : Text). x ++ rest) none ∙ b.bytes in
@@ -248,13 +249,14 @@ no_rank text left rest s end (inr (inl one)) e b =
     ap (leading rank_of_digit) bytes ∙ ap (λ (x : Text). (None, x)) (sym bytes)
 no_rank text left rest s end (inr (inr never)) e b = absurd never
 
-capture_again : (text left rest : Text) (s : ℕ) (end : Text) → OneOf captures left → text ≡ left ++ rest
-    → Begins rest s end → behind 120 text ≡ rest
+capture_again : (text left rest : Text) (s : ℕ) (end : Text) → OneOf capture_marks left → text ≡ left ++ rest
+    → Begins rest s end → behind_byte 120 text ≡ rest
 capture_again text left rest s end one e b =
     behind_again 120 text left rest s end one e b (λ file h. under (97 + file) 120 (omega arith)) refl
 
 origin-again : (man : Kind) (file rank : Option ℕ) (to : ℕ) (promo : Option Kind) (text : Text)
-    → MadeOf (origin_files file ∷ origin_ranks rank ∷ captures ∷ square_names to ∷ promotion_and promo (marks ∷ []))
+    → MadeOf
+    (origin_files file ∷ origin_ranks rank ∷ capture_marks ∷ square_names to ∷ promotion_and promo (marks ∷ []))
     text
     → named_from man text ≡ Some (Named man file rank to promo)
 unfolding named_from
@@ -285,10 +287,11 @@ origin-again man None None to promo text (a, ta, oa, (b, tb, ob, (c, tc, inl non
     ∙ ap (λ (o : Option ℕ).
     let file = told o (97 + target.file) after in
     let rank = leading rank_of_digit file.1 in
-    named_by man file.0 rank.0 rank.1 (leading_square (behind 120 rank.1))) (file_again target.file target.file_fits)
+    named_by man file.0 rank.0 rank.1 (leading_square (behind_byte 120 rank.1)))
+    (file_again target.file target.file_fits)
     ∙ ap (λ (o : Option ℕ).
     let rank = told o (49 + target.rank) end in
-    named_by man (Some target.file) rank.0 rank.1 (leading_square (behind 120 rank.1)))
+    named_by man (Some target.file) rank.0 rank.1 (leading_square (behind_byte 120 rank.1)))
     (rank_again target.rank target.rank_fits)
     ∙ ap (λ (x : Option (ℕ × Text)). named_by man (Some target.file) (Some target.rank) end x)
     (no_square_behind promo end m)
@@ -310,7 +313,7 @@ origin-again man None None to promo text (a, ta, oa, (b, tb, ob, (c, tc, inr (in
 
 -- a text of origin and target begins with no man's letter
 no_man : (file rank : Option ℕ) (to : ℕ) (ends : List (List Text)) (text : Text)
-    → MadeOf (origin_files file ∷ origin_ranks rank ∷ captures ∷ square_names to ∷ ends) text
+    → MadeOf (origin_files file ∷ origin_ranks rank ∷ capture_marks ∷ square_names to ∷ ends) text
     → leading man_of text ≡ (None, text)
 no_man (Some f) rank to ends text (a, ta, oa, rest, ea) =
     let taken = file_taken text a ta f oa ea in

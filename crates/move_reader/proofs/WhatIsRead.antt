@@ -6,21 +6,22 @@ use Rattle.std.proofs.lemmas.Slice.Eq.{bytes_eq-Decides}
 use Rattle.chess_model.specs.declared.man.Kind.{Kind}
 use Rattle.chess_model.specs.declared.moves.MoveWord.{MoveWord}
 use Rattle.chess_model.specs.declared.moves.MoveWord.TheVariants.{Coordinate, Named, Castle, Drop}
-use Rattle.move_reader.specs.Spellings.{Text, OneOf, MadeOf, Spells, square_names, origin_files, origin_ranks, captures, dashes, marks, promotion_and}
-use Rattle.move_reader.specs.Reading.{lookup, droppable, man_of, file_of_letter, rank_of_digit, leading, behind, squared, leading_square, is_mark, is_empty, promotion_of, to_square, target_of, coordinate_from, coordinate_of, or_pawn, named_by, named_of, is_marked, is_castling, castle_of, dropped_at, dropped, drop_of}
+use Rattle.move_reader.specs.Spellings.{Text, OneOf, MadeOf, Spells, square_names, origin_files, origin_ranks, capture_marks, dashes, marks, promotion_and}
+use Rattle.move_reader.specs.Reading.{lookup, droppable, man_of, file_of_letter, rank_of_digit, leading, behind_byte, squared, leading_square, is_mark, is_empty, promotion_spelled, to_square, target_of, coordinate_from, coordinate_of, or_pawn, named_by, named_of, is_marked, is_castling, castle_of, dropped_at, dropped, drop_of}
 use Rattle.move_reader.proofs.ByteMeanings.{not_some, drop_letter}
-use Rattle.move_reader.proofs.PartReaders.{Takes, leading-takes, man-sound, file-sound, rank-sound, behind-sound, squared-both, square_named, square-sound, promotion-sound, is_empty-sound, is_mark-sound}
+use Rattle.move_reader.proofs.PartReaders.{Takes, leading-takes, man-sound, file-sound, rank-sound, behind_byte-sound, squared-both, square_named, square-sound, promotion-sound, is_empty-sound, is_mark-sound}
 
 -- a target and a promotion that were read
 pub target-both : (word : ℕ → Option Kind → MoveWord) (is_end : Text → Bool) (found : Option (ℕ × Text)) (w : MoveWord)
     → target_of word is_end found ≡ Some w
     → (to : ℕ) × (rest : Text) × (promo : Option Kind) × (found ≡ Some (to, rest))
-    × (promotion_of is_end rest ≡ Some promo) × (word to promo ≡ w)
+    × (promotion_spelled is_end rest ≡ Some promo) × (word to promo ≡ w)
 target-both word is_end None w e = not_some w e
 target-both word is_end (Some found) w e =
-    elim (promotion_of is_end found.1) as (λ p. promotion_of is_end found.1 ≡ p → to_square word found.0 p ≡ Some w
+    elim (promotion_spelled is_end found.1)
+    as (λ p. promotion_spelled is_end found.1 ≡ p → to_square word found.0 p ≡ Some w
     → (to : ℕ) × (rest : Text) × (promo : Option Kind) × (Some found ≡ Some (to, rest))
-    × (promotion_of is_end rest ≡ Some promo) × (word to promo ≡ w)) [
+    × (promotion_spelled is_end rest ≡ Some promo) × (word to promo ≡ w)) [
       | None ↦ λ is e. not_some w e
       | Some promo ↦ λ is e. (found.0, found.1, promo, refl, is, let same : word found.0 promo ≡ w = cc in same)
     ] refl e
@@ -35,7 +36,7 @@ coordinate-step : (text : Text) (found : Option (ℕ × Text)) (w : MoveWord) �
     → coordinate_from found ≡ Some w → IsSquares text w
 coordinate-step text None w is e = not_some w e
 coordinate-step text (Some from) w is e =
-    let got = target-both (Coordinate from.0) is_empty (leading_square (behind 45 from.1)) w e in
+    let got = target-both (Coordinate from.0) is_empty (leading_square (behind_byte 45 from.1)) w e in
     let to = got.0 in
     let rest = got.1 in
     let promo = got.2 in (
@@ -44,8 +45,8 @@ coordinate-step text (Some from) w is e =
       promo,
       got.5,
       square-sound text from (dashes ∷ square_names to ∷ promotion_and promo []) is
-          (behind-sound 45 from.1 (square_names to ∷ promotion_and promo [])
-          (square-sound (behind 45 from.1) (to, rest) (promotion_and promo []) got.3
+          (behind_byte-sound 45 from.1 (square_names to ∷ promotion_and promo [])
+          (square-sound (behind_byte 45 from.1) (to, rest) (promotion_and promo []) got.3
           (promotion-sound is_empty [] rest promo is_empty-sound got.4))),
     )
 
@@ -79,7 +80,8 @@ file-rank-rest text f r first second parts (inr (b, v, rest, split, means, e)) (
     )
 
 named-step : (text : Text) (w : MoveWord) (found : Option (ℕ × Text))
-    → leading_square (behind 120 (leading rank_of_digit (leading file_of_letter (leading man_of text).1).1).1) ≡ found
+    → leading_square (behind_byte 120 (leading rank_of_digit (leading file_of_letter (leading man_of text).1).1).1)
+    ≡ found
     → named_by (or_pawn (leading man_of text).0) (leading file_of_letter (leading man_of text).1).0
     (leading rank_of_digit (leading file_of_letter (leading man_of text).1).1).0
     (leading rank_of_digit (leading file_of_letter (leading man_of text).1).1).1 found
@@ -100,11 +102,11 @@ named-step text w (Some found) is e =
       to,
       promo,
       got.5,
-      man-sound text (origin_files file.0 ∷ origin_ranks rank.0 ∷ captures ∷ square_names to ∷ ends)
-          (file-sound man.1 (origin_ranks rank.0 ∷ captures ∷ square_names to ∷ ends)
-          (rank-sound file.1 (captures ∷ square_names to ∷ ends)
-          (behind-sound 120 rank.1 (square_names to ∷ ends)
-          (square-sound (behind 120 rank.1) (to, rest) ends (is ∙ got.3)
+      man-sound text (origin_files file.0 ∷ origin_ranks rank.0 ∷ capture_marks ∷ square_names to ∷ ends)
+          (file-sound man.1 (origin_ranks rank.0 ∷ capture_marks ∷ square_names to ∷ ends)
+          (rank-sound file.1 (capture_marks ∷ square_names to ∷ ends)
+          (behind_byte-sound 120 rank.1 (square_names to ∷ ends)
+          (square-sound (behind_byte 120 rank.1) (to, rest) ends (is ∙ got.3)
           (promotion-sound is_mark (marks ∷ []) rest promo is_mark-sound got.4))))),
     )
 named-step text w None is e =
@@ -119,15 +121,15 @@ named-step text w None is e =
     let ends = promotion_and promo (marks ∷ []) in
     let target : 8 * r + f ≡ got.0 = sym (ap (λ (x : ℕ × Text). x.0) both.4) in
     let end : rank.1 ≡ got.1 = sym (ap (λ (x : ℕ × Text). x.1) both.4) in
-    let promotion : promotion_of is_mark rank.1 ≡ Some promo =
-    ap (λ (x : Text). promotion_of is_mark x) end ∙ got.4 in (
+    let promotion : promotion_spelled is_mark rank.1 ≡ Some promo =
+    ap (λ (x : Text). promotion_spelled is_mark x) end ∙ got.4 in (
       or_pawn man.0,
       None,
       None,
       8 * r + f,
       promo,
       ap (λ (x : ℕ). Named (or_pawn man.0) None None x promo) target ∙ got.5,
-      man-sound text (([] ∷ []) ∷ ([] ∷ []) ∷ captures ∷ square_names (8 * r + f) ∷ ends) (
+      man-sound text (([] ∷ []) ∷ ([] ∷ []) ∷ capture_marks ∷ square_names (8 * r + f) ∷ ends) (
         [],
         man.1,
         inl refl,
@@ -153,7 +155,8 @@ named-step text w None is e =
 pub named-sound : (text : Text) (w : MoveWord) → named_of text ≡ Some w → IsNamed text w
 named-sound text w e =
     named-step text w
-    (leading_square (behind 120 (leading rank_of_digit (leading file_of_letter (leading man_of text).1).1).1)) refl e
+    (leading_square (behind_byte 120 (leading rank_of_digit (leading file_of_letter (leading man_of text).1).1).1)) refl
+    e
 
 marked : (word text : Text) (choices : List Text) → OneOf choices word → is_marked word text ≡ true
     → MadeOf (choices ∷ marks ∷ []) text

@@ -14,8 +14,8 @@ lookup (row ∷ rows) letter = if letter == row.0 then Some row.1 else lookup ro
 abbrev pub men : List (ℕ × Kind)
 men = (75, King) ∷ (81, Queen) ∷ (82, Rook) ∷ (66, Bishop) ∷ (78, Knight) ∷ (80, Pawn) ∷ []
 
-abbrev pub promotions : List (ℕ × Kind)
-promotions =
+abbrev pub promotable : List (ℕ × Kind)
+promotable =
     (81, Queen) ∷ (113, Queen) ∷ (82, Rook) ∷ (114, Rook) ∷ (66, Bishop) ∷ (98, Bishop) ∷ (78, Knight) ∷ (110, Knight)
     ∷ []
 
@@ -44,9 +44,9 @@ leading meaning [] = (None, [])
 leading meaning (byte ∷ rest) = told (meaning byte) byte rest
 
 -- the text behind a first byte, if it is that one
-abbrev pub behind : ℕ → List ℕ → List ℕ
-behind byte [] = []
-behind byte (first ∷ rest) = if first == byte then rest else first ∷ rest
+abbrev pub behind_byte : ℕ → List ℕ → List ℕ
+behind_byte byte [] = []
+behind_byte byte (first ∷ rest) = if first == byte then rest else first ∷ rest
 
 abbrev pub squared : Option ℕ → Option ℕ → List ℕ → Option (ℕ × List ℕ)
 squared (Some file) (Some rank) rest = Some (square_at file rank, rest)
@@ -78,9 +78,9 @@ promoted (Some kind) end nothing = ended (Some kind) end
 promoted None end nothing = ended None nothing
 
 -- the promotion that all of the text spells
-abbrev pub promotion_of : (List ℕ → Bool) → List ℕ → Option (Option Kind)
-promotion_of is_end text =
-    let letter = leading (lookup promotions) (behind 61 text) in promoted letter.0 (is_end letter.1) (is_end text)
+abbrev pub promotion_spelled : (List ℕ → Bool) → List ℕ → Option (Option Kind)
+promotion_spelled is_end text =
+    let letter = leading (lookup promotable) (behind_byte 61 text) in promoted letter.0 (is_end letter.1) (is_end text)
 
 abbrev pub to_square : (ℕ → Option Kind → MoveWord) → ℕ → Option (Option Kind) → Option MoveWord
 to_square word to None = None
@@ -89,11 +89,11 @@ to_square word to (Some promo) = Some (word to promo)
 -- a target and a promotion
 abbrev pub target_of : (ℕ → Option Kind → MoveWord) → (List ℕ → Bool) → Option (ℕ × List ℕ) → Option MoveWord
 target_of word is_end None = None
-target_of word is_end (Some found) = to_square word found.0 (promotion_of is_end found.1)
+target_of word is_end (Some found) = to_square word found.0 (promotion_spelled is_end found.1)
 
 abbrev pub coordinate_from : Option (ℕ × List ℕ) → Option MoveWord
 coordinate_from None = None
-coordinate_from (Some from) = target_of (Coordinate from.0) is_empty (leading_square (behind 45 from.1))
+coordinate_from (Some from) = target_of (Coordinate from.0) is_empty (leading_square (behind_byte 45 from.1))
 
 abbrev pub coordinate_of : List ℕ → Option MoveWord
 coordinate_of text = coordinate_from (leading_square text)
@@ -112,7 +112,7 @@ named_of text =
     let man = leading man_of text in
     let file = leading file_of_letter man.1 in
     let rank = leading rank_of_digit file.1 in
-    named_by (or_pawn man.0) file.0 rank.0 rank.1 (leading_square (behind 120 rank.1))
+    named_by (or_pawn man.0) file.0 rank.0 rank.1 (leading_square (behind_byte 120 rank.1))
 
 -- the text is the word, perhaps with a mark behind it
 abbrev pub is_marked : List ℕ → List ℕ → Bool

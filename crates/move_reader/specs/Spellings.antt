@@ -73,8 +73,8 @@ drop_letters King = []
 abbrev pub dashes : List Text
 dashes = [] ∷ codes "-" ∷ []
 
-abbrev pub captures : List Text
-captures = [] ∷ codes "x" ∷ []
+abbrev pub capture_marks : List Text
+capture_marks = [] ∷ codes "x" ∷ []
 
 abbrev pub equals : List Text
 equals = [] ∷ codes "=" ∷ []
@@ -96,7 +96,7 @@ castlings true = codes "O-O-O" ∷ codes "o-o-o" ∷ codes "0-0-0" ∷ []
 abbrev pub parts_of : MoveWord → List (List Text)
 parts_of (Coordinate from to promo) = square_names from ∷ dashes ∷ square_names to ∷ promotion_and promo []
 parts_of (Named kind file rank to promo) =
-    man_letters kind ∷ origin_files file ∷ origin_ranks rank ∷ captures ∷ square_names to
+    man_letters kind ∷ origin_files file ∷ origin_ranks rank ∷ capture_marks ∷ square_names to
     ∷ promotion_and promo (marks ∷ [])
 parts_of (Castle long) = castlings long ∷ marks ∷ []
 parts_of (Drop kind to) = drop_letters kind ∷ (codes "@" ∷ []) ∷ square_names to ∷ marks ∷ []

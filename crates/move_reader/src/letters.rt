@@ -1,7 +1,7 @@
 //! What single bytes of a move word stand for.
 
 ghost use Rattle.std.specs.Prelude.{◌≡◌, ◌<◌, IfSome};
-ghost use Rattle.move_reader.specs.Reading.{man_of, lookup, promotions, droppable, file_of_letter, rank_of_digit};
+ghost use Rattle.move_reader.specs.Reading.{man_of, lookup, promotable, droppable, file_of_letter, rank_of_digit};
 
 use chess_model::Kind;
 
@@ -22,7 +22,7 @@ pub(crate) fn man_of(letter: u8) -> Option<Kind>
 
 /// The kind that a pawn becomes, by its letter of any case.
 pub(crate) fn promotion_of(letter: u8) -> Option<Kind>
-    ensures { result ≡ lookup promotions letter }
+    ensures { result ≡ lookup promotable letter }
 {
     match letter {
         b'Q' => Some(Kind::Queen),

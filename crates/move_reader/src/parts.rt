@@ -1,8 +1,8 @@
 //! The parts of a move word, read from its prefix.
 
 ghost use Rattle.std.specs.Prelude.{◌≡◌, ◌<◌, IfSome, option_map};
-ghost use Rattle.move_reader.specs.Ends.{is_end};
-ghost use Rattle.move_reader.specs.Reading.{man_of, lookup, promotions, leading, file_of_letter, rank_of_digit, behind, squared, leading_square, promotion_of, is_mark, is_empty};
+ghost use Rattle.move_reader.specs.Ends.{is_word_end};
+ghost use Rattle.move_reader.specs.Reading.{man_of, lookup, promotable, leading, file_of_letter, rank_of_digit, behind_byte, squared, leading_square, promotion_spelled, is_mark, is_empty};
 
 use crate::letters::{file_of, man_of, promotion_of, rank_of};
 use chess_model::{Kind, Square};
@@ -59,7 +59,7 @@ pub(crate) fn leading_rank(text: &[u8]) -> (Option<u8>, &[u8])
 
 /// The text behind its first byte, if that is this one; else all of it.
 pub(crate) fn behind(byte: u8, text: &[u8]) -> &[u8]
-    ensures { result.now ≡ behind byte text.now }
+    ensures { result.now ≡ behind_byte byte text.now }
 {
     let [first, rest @ ..] = text else {
         return text;
@@ -105,7 +105,7 @@ pub(crate) fn is_mark(text: &[u8]) -> bool
 
 /// Whether the text is an end of this sort.
 fn is_end(text: &[u8], end: WordEnd) -> bool
-    ensures { result ≡ is_end end text.now }
+    ensures { result ≡ is_word_end end text.now }
 {
     match end {
         WordEnd::Nothing => text.is_empty(),
@@ -115,7 +115,7 @@ fn is_end(text: &[u8], end: WordEnd) -> bool
 
 /// The promotion letter that is first, and the rest.
 fn leading_promotion(text: &[u8]) -> (Option<Kind>, &[u8])
-    ensures { (result.0, result.1.now) ≡ leading (lookup promotions) text.now }
+    ensures { (result.0, result.1.now) ≡ leading (lookup promotable) text.now }
 {
     let [letter, rest @ ..] = text else {
         return (None, text);
@@ -128,7 +128,7 @@ fn leading_promotion(text: &[u8]) -> (Option<Kind>, &[u8])
 
 /// The promotion that all of the text spells, with such an end; the outer None where it spells none.
 pub(crate) fn read_promotion(text: &[u8], end: WordEnd) -> Option<Option<Kind>>
-    ensures { result ≡ promotion_of (is_end end) text.now }
+    ensures { result ≡ promotion_spelled (is_word_end end) text.now }
 {
     let (kind, rest) = leading_promotion(behind(b'=', text));
     if kind.is_some() {

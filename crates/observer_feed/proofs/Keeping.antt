@@ -8,7 +8,7 @@ use Rattle.std.proofs.lemmas.List.Elements.{All-filter, All-map, All-push, All-w
 use Rattle.observer_feed.specs.declared.cursor.Cursor.{Cursor}
 use Rattle.observer_feed.specs.declared.cursor.Backlog.{Backlog}
 use Rattle.observer_feed.specs.declared.cursor.Backlog.TheVariants.{FromStart, FromNow}
-use Rattle.observer_feed.specs.Feed.{AreOnce, ArePlaces, caught_up, cursor_of, first_place, is_viewer, without}
+use Rattle.observer_feed.specs.Feed.{AreOnce, ArePlaces, caught_up, cursor_of, first_place, is_viewer, without_viewer}
 use Rattle.collections.proofs.Numbers.{differ_turned}
 
 -- where nobody is found, the first cursor isn't the session's, and nobody is found behind it
@@ -116,7 +116,7 @@ places_begun count viewers session told none h =
 
 -- a session ceases to look on
 pub places_without : (count session : ℕ) (viewers : List Cursor) → ArePlaces count viewers
-    → ArePlaces count (without session viewers)
+    → ArePlaces count (without_viewer session viewers)
 places_without count session viewers h = record {
   once = AreOnce-filter (λ c. not (c.session == session)) viewers h.once;
   within = All-filter (λ c. not (c.session == session)) (λ c. c.seen ≤ count) viewers h.within;
@@ -136,11 +136,11 @@ places_caught_up count session viewers h = record {
 
 -- who is given all and then ceases is gone, as who ceases at once
 pub without_caught_up : (session seen : ℕ) (viewers : List Cursor)
-    → without session (map (caught_up session seen) viewers) ≡ without session viewers
+    → without_viewer session (map (caught_up session seen) viewers) ≡ without_viewer session viewers
 without_caught_up session seen [] = refl
 without_caught_up session seen (c ∷ viewers) =
-    let left = without session viewers in
-    let moved = without session (map (caught_up session seen) viewers) in
+    let left = without_viewer session viewers in
+    let moved = without_viewer session (map (caught_up session seen) viewers) in
     let rest : moved ≡ left = without_caught_up session seen viewers in
     let last : Cursor = record { session = c.session; seen = seen } in
     let gone : (d : Cursor) (more : List Cursor) → (c.session == session) ≡ true

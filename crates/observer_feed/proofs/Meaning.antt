@@ -9,8 +9,8 @@ use Rattle.fics_words.specs.Effect.{state_of, unless}
 use Rattle.observer_feed.specs.declared.cursor.Cursor.{Cursor}
 use Rattle.observer_feed.specs.declared.cursor.Backlog.{Backlog}
 use Rattle.observer_feed.specs.declared.cursor.Backlog.TheVariants.{FromStart, FromNow}
-use Rattle.observer_feed.specs.Feed.{ArePlaces, FeedState, ahead, begun, caught_up, cursor_of, fetching, first_place, forgotten, is_viewer, past, unwatching, watching, with_all, without}
-use Rattle.observer_feed.specs.Laws.{BeginsAndEnds, Deed, Adds, Begins, Ceases, Fetches, MissesNothing, Stays, added, added_by, after_all, after_one, given, given_by}
+use Rattle.observer_feed.specs.Feed.{ArePlaces, FeedState, ahead, with_viewer, caught_up, cursor_of, fetching, first_place, forgotten, is_viewer, past, unwatching, watching, with_all, without_viewer}
+use Rattle.observer_feed.specs.Laws.{BeginsAndEnds, Deed, Adds, Begins, Ceases, Fetches, MissesNothing, KeepsWatching, added, added_by, after_all, after_one, given_to, given_by}
 use Rattle.observer_feed.proofs.Keeping.{found_alike, is_viewer-caught_up, places_begun, places_caught_up, places_with_more, places_without, skipped, unfound}
 
 -- the cursor of a viewer is the same where another comes
@@ -32,12 +32,12 @@ apart c session who differs h = ne_eqb c.session who (λ e. differs (sym (eqb-tr
 
 -- where another goes
 cursor-without : (session : ℕ) (viewers : List Cursor) (who : ℕ) → session ≢ who
-    → cursor_of (without session viewers) who ≡ cursor_of viewers who
+    → cursor_of (without_viewer session viewers) who ≡ cursor_of viewers who
 cursor-without session [] who differs = refl
 cursor-without session (c ∷ viewers) who differs =
-    let rest : cursor_of (without session viewers) who ≡ cursor_of viewers who =
+    let rest : cursor_of (without_viewer session viewers) who ≡ cursor_of viewers who =
     cursor-without session viewers who differs in
-    cond_both (not (c.session == session)) (c ∷ without session viewers) (without session viewers)
+    cond_both (not (c.session == session)) (c ∷ without_viewer session viewers) (without_viewer session viewers)
     (λ (vs : List Cursor). cursor_of vs who ≡ cursor_of (c ∷ viewers) who)
     (λ _. ap (λ found. cond (c.session == who) (Some c) found) rest)
     (λ h.
@@ -116,9 +116,10 @@ goes_begins : {T : Type 0} (feed : FeedState T) (viewer session : ℕ) (told : B
 goes_begins feed viewer session told looks places =
     let last : Cursor = record { session = session; seen = first_place told (length feed.items) } in
     cond_both (is_viewer feed.viewers session) (Some AlreadyWatching) None
-    (λ cause. Goes feed (unless cause feed (begun session told feed)) viewer [] [])
+    (λ cause. Goes feed (unless cause feed (with_viewer session told feed)) viewer [] [])
     (λ _. goes_same feed viewer looks places)
-    (λ none. goes_beside feed (begun session told feed) viewer refl (cursor-push feed.viewers last viewer looks) looks
+    (λ none.
+    goes_beside feed (with_viewer session told feed) viewer refl (cursor-push feed.viewers last viewer looks) looks
     (places_begun (length feed.items) feed.viewers session told none places))
 
 goes_ceases : {T : Type 0} (feed : FeedState T) (viewer session : ℕ) → session ≢ viewer
@@ -179,7 +180,7 @@ goes_fetches feed viewer session looks places =
     ]
 
 goes : {T : Type 0} (feed : FeedState T) (viewer : ℕ) (deed : Deed T) (deeds : List (Deed T))
-    → Stays viewer (deed ∷ deeds)
+    → KeepsWatching viewer (deed ∷ deeds)
     → is_viewer feed.viewers viewer ≡ true → ArePlaces (length feed.items) feed.viewers
     → Goes feed (after_one feed deed) viewer (given_by viewer feed deed) (added_by deed)
 goes feed viewer (Adds x) deeds s looks places = record {
@@ -193,8 +194,8 @@ goes feed viewer (Begins session told) deeds s looks places = goes_begins feed v
 goes feed viewer (Ceases session) deeds s looks places = goes_ceases feed viewer session s.0 looks places
 goes feed viewer (Fetches session) deeds s looks places = goes_fetches feed viewer session looks places
 
-stays_on : {T : Type 0} (viewer : ℕ) (deed : Deed T) (deeds : List (Deed T)) → Stays viewer (deed ∷ deeds)
-    → Stays viewer deeds
+stays_on : {T : Type 0} (viewer : ℕ) (deed : Deed T) (deeds : List (Deed T)) → KeepsWatching viewer (deed ∷ deeds)
+    → KeepsWatching viewer deeds
 stays_on viewer (Adds x) deeds s = s
 stays_on viewer (Begins session told) deeds s = s
 stays_on viewer (Ceases session) deeds s = s.1
@@ -202,8 +203,8 @@ stays_on viewer (Fetches session) deeds s = s
 
 given_all : {T : Type 0} (deeds : List (Deed T)) (feed : FeedState T) (viewer : ℕ)
     → ArePlaces (length feed.items) feed.viewers
-    → is_viewer feed.viewers viewer ≡ true → Stays viewer deeds
-    → given viewer feed deeds ++ ahead (after_all feed deeds).items (after_all feed deeds).viewers viewer
+    → is_viewer feed.viewers viewer ≡ true → KeepsWatching viewer deeds
+    → given_to viewer feed deeds ++ ahead (after_all feed deeds).items (after_all feed deeds).viewers viewer
     ≡ ahead feed.items feed.viewers viewer ++ added deeds
 given_all [] feed viewer places looks s = sym (append-nil (ahead feed.items feed.viewers viewer))
 given_all (deed ∷ deeds) feed viewer places looks s =
@@ -212,7 +213,7 @@ given_all (deed ∷ deeds) feed viewer places looks s =
     let got = given_by viewer feed deed in
     let step = goes feed viewer deed deeds s looks places in
     let rest = given_all deeds new viewer step.places step.looks (stays_on viewer deed deeds s) in
-    append_assoc got (given viewer new deeds) (ahead end.items end.viewers viewer)
+    append_assoc got (given_to viewer new deeds) (ahead end.items end.viewers viewer)
     ∙ ap (λ items. got ++ items) rest
     ∙ sym (append_assoc got (ahead new.items new.viewers viewer) (added deeds))
     ∙ ap (λ items. items ++ added deeds) step.gives
@@ -239,13 +240,14 @@ cursor_last (c ∷ viewers) last session none e =
     cond-false (c.session == session) (Some c) (cursor_of (viewers ++ last ∷ []) session) both.0
     ∙ cursor_last viewers last session both.1 e
 
-none_left : (session : ℕ) (viewers : List Cursor) → is_viewer (without session viewers) session ≡ false
+none_left : (session : ℕ) (viewers : List Cursor) → is_viewer (without_viewer session viewers) session ≡ false
 none_left session [] = refl
 none_left session (c ∷ viewers) =
-    cond_both (not (c.session == session)) (c ∷ without session viewers) (without session viewers)
+    cond_both (not (c.session == session)) (c ∷ without_viewer session viewers) (without_viewer session viewers)
     (λ (vs : List Cursor). is_viewer vs session ≡ false)
     (λ k.
-    unfound (c.session == session) c (cursor_of (without session viewers) session) (not-true (c.session == session) k)
+    unfound (c.session == session) c (cursor_of (without_viewer session viewers) session)
+    (not-true (c.session == session) k)
     (none_left session viewers))
     (λ _. none_left session viewers)
 

@@ -50,8 +50,8 @@ abbrev pub caught_up : ℕ → ℕ → Cursor → Cursor
 caught_up session seen c = if c.session == session then record { session = c.session; seen = seen } else c
 
 -- the viewers but this session
-abbrev pub without : ℕ → List Cursor → List Cursor
-without session viewers = filter (λ c. not (c.session == session)) viewers
+abbrev pub without_viewer : ℕ → List Cursor → List Cursor
+without_viewer session viewers = filter (λ c. not (c.session == session)) viewers
 
 -- the feed with room for so many items
 abbrev pub with_room : {T : Type 0} → ℕ → FeedState T → FeedState T
@@ -67,14 +67,14 @@ with_both first None feed = with_item first feed
 with_both first (Some second) feed = with_item second (with_item first feed)
 
 -- the feed with one viewer more
-abbrev pub begun : {T : Type 0} → ℕ → Backlog → FeedState T → FeedState T
-begun session told feed =
+abbrev pub with_viewer : {T : Type 0} → ℕ → Backlog → FeedState T → FeedState T
+with_viewer session told feed =
     record feed
     { viewers = feed.viewers ++ record { session = session; seen = first_place told (length feed.items) } ∷ [] }
 
 -- the feed without that viewer
 abbrev pub forgotten : {T : Type 0} → ℕ → FeedState T → FeedState T
-forgotten session feed = record feed { viewers = without session feed.viewers }
+forgotten session feed = record feed { viewers = without_viewer session feed.viewers }
 
 -- the feed once that viewer has been given all items
 abbrev pub with_all : {T : Type 0} → ℕ → FeedState T → FeedState T
@@ -86,7 +86,7 @@ watching feed session told = record {
   causes = (is_viewer feed.viewers session, AlreadyWatching) ∷ [];
   memory = true;
   reply = tt;
-  after = begun session told feed;
+  after = with_viewer session told feed;
 }
 
 -- a session ceases to look on: refused where it doesn't look on

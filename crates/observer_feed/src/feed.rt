@@ -2,7 +2,7 @@
 ghost use Rattle.std.specs.Option.{option_to_list};
 ghost use Rattle.std.specs.Prelude.{◌≡◌, ◌<◌, ◌≤◌, ◌++◌, ◌∷◌, IfOk, OnErr, OnOk, drop, false, length};
 ghost use Rattle.fics_words.specs.Effect.{Takes, answer_of, state_of};
-ghost use Rattle.observer_feed.specs.Feed.{ahead, begun, empty_feed, fetching, forgotten, is_left, is_viewer, unwatching, watching, with_both, with_item, with_room};
+ghost use Rattle.observer_feed.specs.Feed.{ahead, with_viewer, empty_feed, fetching, forgotten, is_left, is_viewer, unwatching, watching, with_both, with_item, with_room};
 
 use crate::cursor::{Backlog, CatchUp, Cursor, OfOthers, OfSession};
 use collections::{Listed, Reserved, find};
@@ -117,7 +117,7 @@ impl<T> Feed<T> {
     /// Makes a session a viewer that is none, as `has` tells. Running out of memory changes nothing.
     pub fn begin(&mut self, session: u32, told: Backlog) -> Result<(), NoMemory>
         requires { is_viewer self.old.viewers session ≡ false }
-        ensures ok { OnOk result (self.new ≡ begun session told self.old) }
+        ensures ok { OnOk result (self.new ≡ with_viewer session told self.old) }
         ensures err { OnErr result (self.new ≡ self.old) }
     {
         let seen = told.first_place(self.items.len());

@@ -8,7 +8,7 @@ use Rattle.std.proofs.lemmas.List.Folds.{list_any-append}
 use Rattle.offer_book.specs.declared.offer.Offer.{Offer}
 use Rattle.offer_book.specs.declared.offer.Offer.TheVariants.{Draw, Abort, Adjourn, Takeback}
 use Rattle.offer_book.specs.declared.offer.StandingOffer.{StandingOffer}
-use Rattle.offer_book.specs.Offers.{AreOffers, HasOneEach, OfferBook, earliest, is_other_takeback, kind_of, same_offer, settled, stands, stands_alike, stands_for_all, where_stand, with_offer, without}
+use Rattle.offer_book.specs.Offers.{AreOffers, HasOneEach, OfferBook, earliest, is_other_takeback, kind_of, same_offer, settled, stands, stands_alike, stands_for_all, where_stand, with_offer, without_offer}
 use Rattle.std.specs.Cmp.{second_so}
 use Rattle.collections.proofs.Tests.{list_any-filter}
 use Rattle.collections.proofs.Numbers.{differ_turned}
@@ -180,7 +180,7 @@ pub AreOffers-settled : (seat : ℕ) (offer : Offer) (book : OfferBook) → AreO
 AreOffers-settled seat offer book h seated lacking =
     let rows = with_offer seat offer book.standing in
     let made : AreOffers (where_stand rows book) = AreOffers-with_offer seat offer book h seated lacking in
-    cond_both (stands_for_all book.seats rows offer) (without offer rows) rows
+    cond_both (stands_for_all book.seats rows offer) (without_offer offer rows) rows
     (λ (zs : List StandingOffer). AreOffers (where_stand zs book))
     (λ _. AreOffers-filter (λ (row : StandingOffer). not (same_offer row.offer offer)) (where_stand rows book) made)
     (λ _. made)

@@ -5,15 +5,15 @@ use Rattle.fics_words.specs.declared.refusal.Refusal.TheVariants.{NoSuchOffer}
 use Rattle.offer_book.specs.declared.offer.Offer.{Offer}
 use Rattle.offer_book.specs.declared.offer.Offer.TheVariants.{Takeback}
 use Rattle.offer_book.specs.declared.offer.StandingOffer.{StandingOffer}
-use Rattle.offer_book.specs.Offers.{OfferBook, accepting, after_half_move, earliest, is_takeback, opponent_of, same_offer, stands, stands_for_all, with_offer, without}
+use Rattle.offer_book.specs.Offers.{OfferBook, accepting, after_half_move, earliest, is_takeback, opponent_of, same_offer, stands, stands_for_all, with_offer, without_offer}
 
 -- no seat has the offer
 abbrev pub NobodyHas : List StandingOffer → Offer → Type 0
 NobodyHas rows offer = (seat : ℕ) → stands rows seat offer ≡ false
 
 -- a seat that makes an offer has it standing
-abbrev pub Stands : List StandingOffer → ℕ → Offer → Type 0
-Stands rows seat offer = stands (with_offer seat offer rows) seat offer ≡ true
+abbrev pub OfferStands : List StandingOffer → ℕ → Offer → Type 0
+OfferStands rows seat offer = stands (with_offer seat offer rows) seat offer ≡ true
 
 -- an offer takes effect exactly when the last seat agrees: when every other seat has it standing
 abbrev pub TakesEffectWithTheLast : OfferBook → ℕ → Offer → Type 0
@@ -23,9 +23,9 @@ TakesEffectWithTheLast book seat offer =
 
 -- where an offer is cleared no seat has it, and every other offer stands as before
 pub record ClearsOne (rows : List StandingOffer) (offer : Offer) : Type 0 where
-  pub cleared : NobodyHas (without offer rows) offer
+  pub cleared : NobodyHas (without_offer offer rows) offer
   pub others : (seat : ℕ) (other : Offer) → same_offer other offer ≡ false
-      → stands (without offer rows) seat other ≡ stands rows seat other
+      → stands (without_offer offer rows) seat other ≡ stands rows seat other
 
 -- after a half-move no takeback stands, the opponent has no offer, and every other offer stands as before
 pub record ClearsForTheMove (rows : List StandingOffer) (seat : ℕ) : Type 0 where

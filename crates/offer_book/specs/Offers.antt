@@ -39,8 +39,8 @@ stands_for_all zero rows offer = true
 stands_for_all (suc seat) rows offer = stands_for_all seat rows offer && stands rows seat offer
 
 -- what stands without this offer, whose seat ever made it
-abbrev pub without : Offer → List StandingOffer → List StandingOffer
-without offer rows = filter (λ row. not (same_offer row.offer offer)) rows
+abbrev pub without_offer : Offer → List StandingOffer → List StandingOffer
+without_offer offer rows = filter (λ row. not (same_offer row.offer offer)) rows
 
 -- the seat makes an offer: it stands behind the others, and a takeback clears those of another number
 abbrev pub with_offer : ℕ → Offer → List StandingOffer → List StandingOffer
@@ -49,7 +49,7 @@ with_offer seat offer rows =
 
 -- an offer takes effect where now every seat has it standing, and is cleared then
 abbrev pub settled : ℕ → Offer → List StandingOffer → List StandingOffer
-settled seats offer rows = cond (stands_for_all seats rows offer) (without offer rows) rows
+settled seats offer rows = cond (stands_for_all seats rows offer) (without_offer offer rows) rows
 
 -- the earliest offer of another seat that this seat lacks
 abbrev pub earliest : List StandingOffer → ℕ → Option Offer
@@ -108,7 +108,7 @@ declining book seat =
       causes = (is_none (earliest book.standing seat), NoSuchOffer) ∷ [];
       memory = false;
       reply = offer;
-      after = where_stand (without offer book.standing) book;
+      after = where_stand (without_offer offer book.standing) book;
     }
 
 -- the kind of an offer: takebacks are of one kind, whatever their number

@@ -1,5 +1,5 @@
 //! What the rules of offers mean, as calls that do nothing: each says by its contract what was proved.
-ghost use Rattle.offer_book.specs.Laws.{AcceptsTheEarliest, ClearsForTheMove, ClearsOne, Stands, TakebacksAgree, TakesEffectWithTheLast};
+ghost use Rattle.offer_book.specs.Laws.{AcceptsTheEarliest, ClearsForTheMove, ClearsOne, OfferStands, TakebacksAgree, TakesEffectWithTheLast};
 
 use crate::offer::Offer;
 use crate::offers::Offers;
@@ -7,7 +7,7 @@ use crate::offers::Offers;
 /// An offer that a seat makes stands for it, and takes effect exactly when the last seat agrees.
 #[tactic(auto, using(crate::proofs::Meaning::with_the_last))]
 pub fn offers_need_all(offers: &Offers, seat: u8, offer: Offer)
-    ensures stands { Stands offers.now.standing seat offer }
+    ensures stands { OfferStands offers.now.standing seat offer }
     ensures last { TakesEffectWithTheLast offers.now seat offer }
 {}
 

@@ -16,7 +16,7 @@ use Rattle.fics_words.specs.declared.refusal.Refusal.{Refusal}
 use Rattle.game_board.specs.Board.{Board, position_of}
 use Rattle.game_records.specs.declared.stored_game.Half.{Half}
 use Rattle.game_records.specs.declared.stored_game.StoredGame.{StoredGame}
-use Rattle.game_records.specs.Replays.{half_moves, position_on}
+use Rattle.game_records.specs.Replays.{without_charges, position_on}
 use Rattle.lobby_shelf.specs.declared.shelved.Shelved.{Shelved}
 use Rattle.lobby_shelf.proofs.Meaning.{games-found}
 use Rattle.histories.specs.Core.{reply, after}
@@ -65,7 +65,7 @@ both P Q R (x ∷ xs) step ps qs =
     All-cons R x xs (step x (All-head P x xs ps) (All-head Q x xs qs))
     (both P Q R xs step (All-tail P x xs ps) (All-tail Q x xs qs))
 
-at_position : (t : Terms) (halves : List Half) (b : Board) → b.terms ≡ t → half_moves halves ≡ b.all
+at_position : (t : Terms) (halves : List Half) (b : Board) → b.terms ≡ t → without_charges halves ≡ b.all
     → position_of b ≡ position_on t.variant halves b.number
 unfolding position_of
 at_position t halves b own all =
@@ -88,7 +88,7 @@ is_restored stored moment game s again =
           subst (λ (h : List Half).
           All (λ (b : Board). position_of b ≡ position_on stored.terms.variant h b.number) game.boards)
           again.halves
-          (both (λ (b : Board). b.terms ≡ stored.terms) (λ (b : Board). half_moves (halves_of game.boards) ≡ b.all)
+          (both (λ (b : Board). b.terms ≡ stored.terms) (λ (b : Board). without_charges (halves_of game.boards) ≡ b.all)
           (λ (b : Board). position_of b ≡ position_on stored.terms.variant (halves_of game.boards) b.number) game.boards
           (λ b own all. at_position stored.terms (halves_of game.boards) b own all) sound.terms
           (all_of stored.terms game.boards sound));

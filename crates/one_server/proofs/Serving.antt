@@ -4,7 +4,7 @@ use Rattle.std.specs.List.{slice_get}
 use Rattle.std.specs.declared.option.Option.{Option}
 use Rattle.std.specs.declared.option.Option.TheVariants.{None, Some}
 use Rattle.std.specs.Option.{option_map}
-use Rattle.std.proofs.lemmas.List.{length-map}
+use Rattle.std.proofs.lemmas.List.{length-map, map-append}
 use Rattle.std.proofs.lemmas.Option.{slice_get-map}
 use Rattle.histories.specs.Core.{reply, after}
 use Rattle.histories.specs.declared.entry.Entry.{Entry}
@@ -27,16 +27,15 @@ use Rattle.one_server.specs.Whole.{IsInPlace, IsOpening, IsWhole, parts_with, va
 use Rattle.one_server.specs.LawfulProof.{house_lawful}
 
 -- the parts of a server are whole
-pub whole_now : (opening : List Part) (log : List (Entry Timed Reply)) (lobby : LobbyState) (desks : List DeskState)
-    → IsServed opening log lobby desks → IsWhole (parts_with lobby desks)
-whole_now opening log lobby desks s = subst IsWhole s.state (stays_whole house house_lawful opening log s.whole s.legal)
+pub whole_now : (opening : List Part) (log : List (Entry Timed Reply)) (parts : List Part)
+    → IsServed opening log parts → IsWhole parts
+whole_now opening log parts s = subst IsWhole s.state (stays_whole house house_lawful opening log s.whole s.legal)
 
-pub one_more : (opening : List Part) (log : List (Entry Timed Reply)) (lobby new : LobbyState)
-    (desks news : List DeskState) (session : ℕ) (act : Timed) (r : Reply)
-    → IsServed opening log lobby desks → IsEvent act → reply house (parts_with lobby desks) session act ≡ Some r
-    → after house (parts_with lobby desks) session act ≡ parts_with new news
-    → IsServed opening (log ++ entry session act r ∷ []) new news
-one_more opening log lobby new desks news session act r s fits answers leaves = record {
+pub one_more : (opening : List Part) (log : List (Entry Timed Reply)) (parts new : List Part) (session : ℕ)
+    (act : Timed) (r : Reply)
+    → IsServed opening log parts → IsEvent act → reply house parts session act ≡ Some r
+    → after house parts session act ≡ new → IsServed opening (log ++ entry session act r ∷ []) new
+one_more opening log parts new session act r s fits answers leaves = record {
   whole = s.whole;
   legal =
       grows_legally house opening log (entry session act r) s.legal fits
@@ -77,6 +76,10 @@ none_there (suc n) (suc i) h = none_there n i (omega arith)
 
 pub front : (one another : Part) → Some one ≡ Some another → one ≡ another
 front one another e = cc
+
+-- what is the lobby is no desk
+pub no_desk : (lobby : LobbyState) (desk : DeskState) → Some (ADesk desk) ≡ Some (TheLobby lobby) → ⊥
+no_desk lobby desk e = cc
 
 open_desk : (lobby : LobbyState) → lobby.games ≡ replicate desk_count None
     → (i : ℕ) (part : Part) (found : Option DeskState) → slice_get (vacant_from 1 desk_count) i ≡ found
@@ -122,33 +125,33 @@ whole_opening lobby formed o = record {
   places = open_place lobby o.no_game;
 }
 
-pub fresh : (opening lobby : LobbyState) (desks : List DeskState) (log : List (Entry Timed Reply)) → IsWellFormed lobby
-    → IsOpening lobby → opening ≡ lobby → desks ≡ vacant_from 1 desk_count → log ≡ []
-    → IsServed (opened_server opening) log lobby desks
+pub fresh : (opening lobby : LobbyState) (desks : List Part) (log : List (Entry Timed Reply)) → IsWellFormed lobby
+    → IsOpening lobby → opening ≡ lobby → desks ≡ map ADesk (vacant_from 1 desk_count) → log ≡ []
+    → IsServed (opened_server opening) log (TheLobby lobby ∷ desks)
 unfolding opened_server
 fresh opening lobby desks log formed o same e empty =
     let whole = whole_opening lobby formed o in
-    let made : IsServed (opened_server lobby) [] lobby (vacant_from 1 desk_count) =
+    let made : IsServed (opened_server lobby) [] (parts_with lobby (vacant_from 1 desk_count)) =
     record { whole = whole; legal = tt; state = refl } in
-    subst (λ (l : LobbyState). IsServed (opened_server l) log lobby desks) (sym same)
-    (subst (λ (ds : List DeskState). IsServed (opened_server lobby) log lobby ds) (sym e)
-    (subst (λ (es : List (Entry Timed Reply)). IsServed (opened_server lobby) es lobby (vacant_from 1 desk_count))
-    (sym empty)
-    made))
+    subst (λ (l : LobbyState). IsServed (opened_server l) log (TheLobby lobby ∷ desks)) (sym same)
+    (subst (λ (ds : List Part). IsServed (opened_server lobby) log (TheLobby lobby ∷ ds)) (sym e)
+    (subst (λ (es : List (Entry Timed Reply)).
+    IsServed (opened_server lobby) es (parts_with lobby (vacant_from 1 desk_count))) (sym empty) made))
 
-pub vacant_push : (slot : ℕ) (desks new : List DeskState) (desk : DeskState) → desks ≡ vacant_from 1 slot
-    → desk ≡ vacant (slot + 1) → new ≡ desks ++ desk ∷ [] → new ≡ vacant_from 1 (slot + 1)
+pub vacant_push : (slot : ℕ) (desks new : List Part) (desk : DeskState) → desks ≡ map ADesk (vacant_from 1 slot)
+    → desk ≡ vacant (slot + 1) → new ≡ desks ++ ADesk desk ∷ [] → new ≡ map ADesk (vacant_from 1 (slot + 1))
 vacant_push slot desks new desk e d n =
     let one : slot + 1 ≡ 1 + slot = omega arith in
     let more : suc slot ≡ slot + 1 = omega arith in
-    n ∙ (λ i. e i ++ d i ∷ []) ∙ ap (λ k. vacant_from 1 slot ++ vacant k ∷ []) one ∙ sym (vacant_more 1 slot)
-    ∙ ap (vacant_from 1) more
+    n ∙ (λ i. e i ++ ADesk (d i) ∷ []) ∙ sym (map-append ADesk (vacant_from 1 slot) (vacant (slot + 1) ∷ []))
+    ∙ ap (λ k. map ADesk (vacant_from 1 slot ++ vacant k ∷ [])) one
+    ∙ ap (map ADesk) (sym (vacant_more 1 slot) ∙ ap (vacant_from 1) more)
 
 -- the log as it was written
 pub pushed : (opening : List Part) (log old items : List (Entry Timed Reply)) (session : ℕ) (act : Timed)
-    (twin r : Reply) (new : LobbyState) (news : List DeskState)
+    (twin r : Reply) (new : List Part)
     → items ≡ old ++ entry session act twin ∷ [] → old ≡ log → twin ≡ r
-    → IsServed opening (log ++ entry session act r ∷ []) new news → IsServed opening items new news
-pushed opening log old items session act twin r new news e f g s =
+    → IsServed opening (log ++ entry session act r ∷ []) new → IsServed opening items new
+pushed opening log old items session act twin r new e f g s =
     let same : items ≡ log ++ entry session act r ∷ [] = e ∙ (λ i. f i ++ entry session act (g i) ∷ []) in
-    subst (λ (es : List (Entry Timed Reply)). IsServed opening es new news) (sym same) s
+    subst (λ (es : List (Entry Timed Reply)). IsServed opening es new) (sym same) s

@@ -1,193 +1,126 @@
--- A step on the lobby and the desks is the server's step on the list of its parts.
-use Rattle.std.proofs.Common.{◌≡◌, ℕ, ◌+◌, ◌-◌, ◌≤◌, zero, suc, List, ◌∷◌, length, map, set, refl, ap, sym, subst, ◌∙◌, arith}
+-- A step on the parts that an act is lent is the server's step on the list of its parts.
+use Rattle.std.proofs.Common.{◌≡◌, ◌≢◌, ℕ, ◌-◌, ◌<◌, ◌≤◌, zero, suc, List, ◌∷◌, length, get_or, set, refl, ap, sym, subst, ◌∙◌, arith}
 use Rattle.std.specs.List.{slice_get}
-use Rattle.std.specs.Option.{option_map}
-use Rattle.std.specs.declared.option.Option.{Option}
 use Rattle.std.specs.declared.option.Option.TheVariants.{None, Some}
 use Rattle.std.specs.declared.result.Result.{Result}
 use Rattle.std.specs.declared.result.Result.TheVariants.{Ok, Err}
-use Rattle.std.proofs.lemmas.List.{map-set, length-map}
-use Rattle.std.proofs.lemmas.Option.{slice_get-map}
-use Rattle.fics_words.specs.declared.refusal.Refusal.{Refusal}
+use Rattle.std.specs.Prelude.{OnOk}
+use Rattle.std.proofs.lemmas.Option.{get_or_from_slice_get}
 use Rattle.histories.specs.Core.{reply, after}
 use Rattle.histories.proofs.Parts.{get_within}
 use Rattle.histories.proofs.Steps.{after_alone, after_together, reply_alone, reply_together}
-use Rattle.linked_desk.specs.declared.acts.DeskAct.{DeskAct}
-use Rattle.linked_desk.specs.Acts.{desk_answer, desk_after}
-use Rattle.linked_desk.specs.Desk.{DeskState}
-use Rattle.lobby_state.specs.declared.acts.LobbyAct.{LobbyAct}
-use Rattle.lobby_state.specs.declared.acts.PairAct.{PairAct}
-use Rattle.lobby_state.specs.declared.acts.Plan.{Plan}
-use Rattle.lobby_state.specs.Acts.{lobby_answer, lobby_after}
 use Rattle.lobby_state.specs.Desks.{IsDesk, desks as desk_count}
-use Rattle.lobby_state.specs.Lobby.{LobbyState}
-use Rattle.lobby_state.specs.Planned.{IsPlanned}
-use Rattle.lobby_state.specs.Plans.{NamesDesk, plan_of, desk_of}
-use Rattle.lobby_state.proofs.KeepsPlans.{plan_of-is, desk_of-is}
-use Rattle.std.specs.Prelude.{IfSome, OnOk}
 use Rattle.one_server.specs.declared.act.Act.{Act}
 use Rattle.one_server.specs.declared.act.Act.TheVariants.{Lobby, Desk, Pair}
 use Rattle.one_server.specs.declared.act.Timed.{Timed}
+use Rattle.one_server.specs.declared.part.Part.{Part}
 use Rattle.one_server.specs.declared.part.Part.TheVariants.{Lobby as TheLobby, Desk as ADesk}
-use Rattle.one_server.specs.declared.reply.Reply.{Reply}
-use Rattle.one_server.specs.declared.reply.Reply.TheVariants.{Refused, Pair as PairReplied}
-use Rattle.one_server.specs.CarryingProof.{carried_by}
-use Rattle.one_server.specs.Acts.{planned_desk, lobby_reply, desk_reply}
-use Rattle.one_server.specs.House.{house, pair_reply, pair_lobby, pair_desk}
-use Rattle.one_server.specs.Plans.{CanCarry, alone_lobby, alone_reply, plan_desk, plan_lobby, plan_reply}
-use Rattle.one_server.specs.Whole.{IsWhole, parts_with}
-use Rattle.one_server.specs.WholeProof.{formed_is, place_is}
+use Rattle.one_server.specs.Acts.{IsEvent, first_part, second_part}
+use Rattle.one_server.specs.House.{house, house_answer, house_one, house_two}
+use Rattle.one_server.specs.LawfulProof.{house_lawful}
+use Rattle.one_server.specs.Lent.{AreBothOf, IsFirstOf}
+use Rattle.one_server.specs.Whole.{IsWhole}
+use Rattle.one_server.proofs.Lending.{lends_first, lends_second}
 
--- the desk with a number stands at its place in the list of parts
-pub part_there : (lobby : LobbyState) (desks : List DeskState) (number : ℕ) (desk : DeskState) → 1 ≤ number
-    → slice_get desks (number - 1) ≡ Some desk
-    → slice_get (parts_with lobby desks) number ≡ Some (ADesk desk)
+-- a desk stands at its number in the list of parts
+pub part_there : (lobby : Part) (desks : List Part) (number : ℕ) (desk : Part) → 1 ≤ number
+    → slice_get desks (number - 1) ≡ Some desk → slice_get (lobby ∷ desks) number ≡ Some desk
 part_there lobby desks zero desk h e = absurd (omega arith)
 part_there lobby desks (suc n) desk h e =
-    let same : suc n - 1 ≡ n = omega arith in
-    let there : slice_get desks n ≡ Some desk = subst (λ (k : ℕ). slice_get desks k ≡ Some desk) same e in
-    slice_get-map ADesk desks n ∙ ap (option_map ADesk) there
+    let same : suc n - 1 ≡ n = omega arith in subst (λ (k : ℕ). slice_get desks k ≡ Some desk) same e
 
 -- a desk that is written anew in the list of parts
-written : (lobby : LobbyState) (desks : List DeskState) (number : ℕ) (desk : DeskState) → 1 ≤ number
-    → set (parts_with lobby desks) number (ADesk desk) ≡ parts_with lobby (set desks (number - 1) desk)
+written : (lobby : Part) (desks : List Part) (number : ℕ) (desk : Part) → 1 ≤ number
+    → set (lobby ∷ desks) number desk ≡ lobby ∷ set desks (number - 1) desk
 written lobby desks zero desk h = absurd (omega arith)
 written lobby desks (suc n) desk h =
-    let same : suc n - 1 ≡ n = omega arith in
-    ap (λ ps. TheLobby lobby ∷ ps) (sym (map-set ADesk desks n desk))
-    ∙ ap (λ k. parts_with lobby (set desks k desk)) (sym same)
+    let same : suc n - 1 ≡ n = omega arith in ap (λ k. lobby ∷ set desks k desk) (sym same)
 
 -- there are 128 desks in a whole state
-pub count_of_desks : (lobby : LobbyState) (desks : List DeskState) → IsWhole (parts_with lobby desks)
-    → length desks ≡ desk_count
-count_of_desks lobby desks w =
-    let all : length (map ADesk desks) ≡ length desks = length-map desks ADesk in
-    let count : length (parts_with lobby desks) ≡ desk_count + 1 = w.count in
-    omega (arith, all, count)
+pub count_of_desks : (lobby : Part) (desks : List Part) → IsWhole (lobby ∷ desks) → length desks ≡ desk_count
+count_of_desks lobby desks w = omega (arith, w.count)
 
-module _ (lobby : LobbyState) (desks : List DeskState) (session moment : ℕ) where
-  pub reply_lobby : (act : LobbyAct) (r : Reply) → r ≡ lobby_reply (lobby_answer lobby session act)
-      → reply house (parts_with lobby desks) session (record { moment = moment; act = Lobby act }) ≡ Some r
-  reply_lobby act r e =
-      let timed : Timed = record { moment = moment; act = Lobby act } in
-      reply_alone house (parts_with lobby desks) session timed (TheLobby lobby) refl refl ∙ ap Some (sym e)
+-- what is read at the place of a desk stands at its number in the list of parts
+pub read_there : (lobby : Part) (desks read : List Part) (number : ℕ) (part : Part) → IsWhole (lobby ∷ desks)
+    → IsDesk number → read ≡ desks → part ≡ get_or read (number - 1) part
+    → slice_get (lobby ∷ desks) number ≡ Some part
+read_there lobby desks read number part w d e is =
+    let count = count_of_desks lobby desks w in
+    let found = get_within desks (number - 1) (omega (arith, count, d)) in
+    let same : part ≡ found.0 =
+    is ∙ ap (λ ps. get_or ps (number - 1) part) e
+    ∙ get_or_from_slice_get desks (number - 1) found.0 part found.1 in
+    part_there lobby desks number part d.0 (found.1 ∙ ap Some (sym same))
 
-  pub after_lobby : (act : LobbyAct) (new : LobbyState) → new ≡ lobby_after lobby session act
-      → after house (parts_with lobby desks) session (record { moment = moment; act = Lobby act })
-      ≡ parts_with new desks
-  after_lobby act new e =
-      let timed : Timed = record { moment = moment; act = Lobby act } in
-      after_alone house (parts_with lobby desks) session timed (TheLobby lobby) refl refl
-      ∙ ap (λ l. parts_with l desks) (sym e)
+-- an act that needs a desk first needs no other part
+desk_alone : (one : Part) (session : ℕ) (act : Act) → 1 ≤ first_part act → second_part one session act ≡ None
+desk_alone (ADesk desk) session (Desk number serial act) low = refl
+desk_alone (TheLobby lobby) session (Desk number serial act) low = refl
+desk_alone one session (Lobby act) low = absurd (omega (arith, low))
+desk_alone one session (Pair act) low = absurd (omega (arith, low))
 
-  module _ (number serial : ℕ) (act : DeskAct) (desk : DeskState) (low : 1 ≤ number)
-      (there : slice_get desks (number - 1) ≡ Some desk) where
-    pub reply_desk : (r : Reply) → r ≡ desk_reply (desk_answer desk session moment serial act)
-        → reply house (parts_with lobby desks) session (record { moment = moment; act = Desk number serial act })
-        ≡ Some r
-    reply_desk r e =
-        let timed : Timed = record { moment = moment; act = Desk number serial act } in
-        reply_alone house (parts_with lobby desks) session timed (ADesk desk)
-        (part_there lobby desks number desk low there) refl
-        ∙ ap Some (sym e)
+module _ (lobby : Part) (desks : List Part) (session : ℕ) (timed : Timed) where
+  -- an act that needs the lobby alone
+  pub lobby_steps : first_part timed.act ≡ 0 → second_part lobby session timed.act ≡ None
+      → after house (lobby ∷ desks) session timed ≡ house_one lobby None session timed.moment timed.act ∷ desks
+  lobby_steps first none =
+      after_alone house (lobby ∷ desks) session timed lobby (ap (slice_get (lobby ∷ desks)) first) none
+      ∙ ap (λ n. set (lobby ∷ desks) n (house_one lobby None session timed.moment timed.act)) first
 
-    pub after_desk : (new : List DeskState) → new ≡ set desks (number - 1) (desk_after desk session moment serial act)
-        → after house (parts_with lobby desks) session (record { moment = moment; act = Desk number serial act })
-        ≡ parts_with lobby new
-    after_desk new e =
-        let timed : Timed = record { moment = moment; act = Desk number serial act } in
-        after_alone house (parts_with lobby desks) session timed (ADesk desk)
-        (part_there lobby desks number desk low there) refl
-        ∙ written lobby desks number (desk_after desk session moment serial act) low
-        ∙ ap (λ ds. parts_with lobby ds) (sym e)
+  module _ (whole : IsWhole (lobby ∷ desks)) (event : IsEvent timed) where
+    -- an act that needs a desk alone: it is lent it, and is answered and leaves the parts like this
+    pub desk_steps : (place : ℕ) (desk : Part) → 1 ≤ first_part timed.act → place ≡ first_part timed.act - 1
+        → slice_get desks place ≡ Some desk
+        → IsFirstOf desk timed.act
+        × (reply house (lobby ∷ desks) session timed ≡ Some (house_answer desk None session timed.moment timed.act))
+        × (after house (lobby ∷ desks) session timed
+        ≡ lobby ∷ set desks place (house_one desk None session timed.moment timed.act))
+    desk_steps place desk low is e =
+        let number : ℕ = first_part timed.act in
+        let one : Part = house_one desk None session timed.moment timed.act in
+        let there =
+        part_there lobby desks number desk low (subst (λ (n : ℕ). slice_get desks n ≡ Some desk) is e) in
+        let none = desk_alone desk session timed.act low in (
+          lends_first (lobby ∷ desks) timed.act desk whole event.act there,
+          reply_alone house (lobby ∷ desks) session timed desk there none,
+          after_alone house (lobby ∷ desks) session timed desk there none ∙ written lobby desks number one low
+              ∙ ap (λ n. lobby ∷ set desks n one) (sym is),
+        )
 
-  module _ (act : PairAct) (cause : Refusal) (is : Err cause ≡ plan_of lobby session act) where
-    pub reply_refused : reply house (parts_with lobby desks) session (record { moment = moment; act = Pair act })
-        ≡ Some (Refused cause)
-    reply_refused =
-        let timed : Timed = record { moment = moment; act = Pair act } in
-        reply_alone house (parts_with lobby desks) session timed (TheLobby lobby) refl (ap planned_desk (sym is))
-        ∙ ap (λ r. Some (pair_reply r None)) (sym is)
+    module _ (number : ℕ) (first : first_part timed.act ≡ 0)
+        (second : second_part lobby session timed.act ≡ Some number) where
+      -- an act that needs the lobby and another part: that is a desk
+      pub second_is_desk : IsDesk number
+      second_is_desk =
+          let found =
+          house_lawful.second_in (lobby ∷ desks) session timed lobby number whole event
+          (ap (slice_get (lobby ∷ desks)) first) second in
+          let inside : number < length (lobby ∷ desks) = found.0 in
+          let other : number ≢ first_part timed.act = found.1 in
+          (omega (arith, other, first), omega (arith, inside, whole.count))
 
-    pub after_refused : after house (parts_with lobby desks) session (record { moment = moment; act = Pair act })
-        ≡ parts_with lobby desks
-    after_refused =
-        let timed : Timed = record { moment = moment; act = Pair act } in
-        after_alone house (parts_with lobby desks) session timed (TheLobby lobby) refl (ap planned_desk (sym is))
-        ∙ ap (λ r. parts_with (pair_lobby lobby r None) desks) (sym is)
-
-  module _ (act : PairAct) (plan : Plan) (is : Ok plan ≡ plan_of lobby session act) (none : desk_of plan ≡ None) where
-    pub reply_nowhere : (r : Reply) → r ≡ PairReplied (alone_reply plan)
-        → reply house (parts_with lobby desks) session (record { moment = moment; act = Pair act }) ≡ Some r
-    reply_nowhere r e =
-        let timed : Timed = record { moment = moment; act = Pair act } in
-        reply_alone house (parts_with lobby desks) session timed (TheLobby lobby) refl (ap planned_desk (sym is) ∙ none)
-        ∙ ap (λ p. Some (pair_reply p None)) (sym is) ∙ ap Some (sym e)
-
-    pub after_nowhere : (new : LobbyState) → new ≡ alone_lobby lobby plan
-        → after house (parts_with lobby desks) session (record { moment = moment; act = Pair act })
-        ≡ parts_with new desks
-    after_nowhere new e =
-        let timed : Timed = record { moment = moment; act = Pair act } in
-        after_alone house (parts_with lobby desks) session timed (TheLobby lobby) refl (ap planned_desk (sym is) ∙ none)
-        ∙ ap (λ p. parts_with (pair_lobby lobby p None) desks) (sym is) ∙ ap (λ l. parts_with l desks) (sym e)
-
-  module _ (act : PairAct) (plan : Plan) (number : ℕ) (desk : DeskState) (is : Ok plan ≡ plan_of lobby session act)
-      (own : desk_of plan ≡ Some number) (d : IsDesk number)
-      (there : slice_get desks (number - 1) ≡ Some desk) where
-    pub reply_planned : (r : Reply) → r ≡ PairReplied (plan_reply plan desk)
-        → reply house (parts_with lobby desks) session (record { moment = moment; act = Pair act }) ≡ Some r
-    reply_planned r e =
-        let timed : Timed = record { moment = moment; act = Pair act } in
-        reply_together house (parts_with lobby desks) session timed (TheLobby lobby) (ADesk desk) number refl
-        (ap planned_desk (sym is) ∙ own)
-        (part_there lobby desks number desk d.0 there)
-        ∙ ap (λ p. Some (pair_reply p (Some (ADesk desk)))) (sym is) ∙ ap Some (sym e)
-
-    pub after_planned : (new : LobbyState) (news : List DeskState) → new ≡ plan_lobby lobby plan desk
-        → news ≡ set desks (number - 1) (plan_desk lobby plan desk moment)
-        → after house (parts_with lobby desks) session (record { moment = moment; act = Pair act })
-        ≡ parts_with new news
-    after_planned new news e f =
-        let timed : Timed = record { moment = moment; act = Pair act } in
-        let both =
-        after_together house (parts_with lobby desks) session timed (TheLobby lobby) (ADesk desk) number refl
-        (ap planned_desk (sym is) ∙ own)
-        (part_there lobby desks number desk d.0 there) in
-        both
-        ∙ ap
-        (λ p.
-        set (parts_with (pair_lobby lobby p (Some (ADesk desk))) desks) number (ADesk (pair_desk lobby p desk moment)))
-        (sym is)
-        ∙ written (plan_lobby lobby plan desk) desks number (plan_desk lobby plan desk moment) d.0
-        ∙ (λ i. parts_with (sym e i) (sym f i))
-
--- each number of a desk has its desk
-pub desk_with : (lobby : LobbyState) (desks : List DeskState) (number : ℕ) → length desks ≡ desk_count → IsDesk number
-    → (desk : DeskState) × (slice_get desks (number - 1) ≡ Some desk)
-desk_with lobby desks number count d = get_within desks (number - 1) (omega (arith, count, d))
-
--- a plan that the lobby gave can be carried out at its desk
-module _ (lobby : LobbyState) (desks : List DeskState) (session : ℕ) (act : PairAct) (plan : Plan)
-    (w : IsWhole (parts_with lobby desks)) (names : NamesDesk act) (is : Ok plan ≡ plan_of lobby session act)
-    (number : ℕ) (own : desk_of plan ≡ Some number) where
-  planned_now : IsPlanned lobby plan
-  planned_now = plan_of-is lobby session act plan (formed_is (parts_with lobby desks) lobby w refl) names (sym is)
-
-  pub planned_number : IsDesk number
-  planned_number = subst (λ (x : Option ℕ). IfSome x IsDesk) own (desk_of-is lobby plan planned_now)
-
-  pub can_carry : (desk : DeskState) → slice_get desks (number - 1) ≡ Some desk → CanCarry lobby plan desk
-  can_carry desk there =
-      let place =
-      place_is (parts_with lobby desks) lobby w refl number (ADesk desk)
-      (part_there lobby desks number desk planned_number.0 there) in
-      carried_by lobby plan number desk (formed_is (parts_with lobby desks) lobby w refl) own place.1 planned_now
-
--- an act behind its moment
-pub at_act : (timed : Timed) (act : Act) (Q : Timed → Type 0) → timed.act ≡ act
-    → Q (record { moment = timed.moment; act = act }) → Q timed
-at_act timed act Q is h = subst (λ (a : Act). Q (record { moment = timed.moment; act = a })) (sym is) h
+      -- it is lent both, and is answered and leaves the parts like this
+      pub both_step : (place : ℕ) (desk : Part) → place ≡ number - 1 → slice_get desks place ≡ Some desk
+          → AreBothOf lobby desk session timed.act
+          × (reply house (lobby ∷ desks) session timed
+          ≡ Some (house_answer lobby (Some desk) session timed.moment timed.act))
+          × (after house (lobby ∷ desks) session timed
+          ≡ house_one lobby (Some desk) session timed.moment timed.act
+          ∷ set desks place (house_two lobby desk session timed.moment timed.act))
+      both_step place desk is e =
+          let there : slice_get (lobby ∷ desks) (first_part timed.act) ≡ Some lobby =
+          ap (slice_get (lobby ∷ desks)) first in
+          let low = second_is_desk.0 in
+          let other =
+          part_there lobby desks number desk low (subst (λ (n : ℕ). slice_get desks n ≡ Some desk) is e) in
+          let one : Part = house_one lobby (Some desk) session timed.moment timed.act in
+          let two : Part = house_two lobby desk session timed.moment timed.act in (
+            lends_second (lobby ∷ desks) session timed.act lobby desk number whole event.act there second other,
+            reply_together house (lobby ∷ desks) session timed lobby desk number there second other,
+            after_together house (lobby ∷ desks) session timed lobby desk number there second other
+                ∙ ap (λ n. set (set (lobby ∷ desks) n one) number two) first ∙ written one desks number two low
+                ∙ ap (λ n. one ∷ set desks n two) (sym is),
+          )
 
 pub on_ok : {T E : Type 0} (P Q : Type 0) (r : Result T E) → (P → Q) → OnOk r P → OnOk r Q
 on_ok P Q (Ok x) step h = step h

@@ -9,7 +9,7 @@ use Rattle.fics_words.specs.Handle.{key_of}
 use Rattle.fics_words.specs.Seats.{seat_list}
 use Rattle.game_records.specs.declared.stored_game.StoredGame.{StoredGame}
 use Rattle.game_records.specs.Replays.{Replays}
-use Rattle.lobby_shelf.specs.Numbers.{game_in as row_game, has_number, stored_game}
+use Rattle.lobby_shelf.specs.Numbers.{row_game, has_number, stored_game}
 use Rattle.lobby_shelf.specs.declared.shelved.Shelved.{Shelved}
 use Rattle.linked_desk.specs.Desk.{GameState, DeskState, occupant}
 use Rattle.linked_desk.specs.Seating.{HasPairsFor}

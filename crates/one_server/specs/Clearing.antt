@@ -7,12 +7,18 @@ use Rattle.game_records.specs.declared.stored_game.StoredGame.{StoredGame}
 use Rattle.linked_desk.specs.declared.ended.Ended.{Ended}
 use Rattle.linked_desk.specs.Desk.{DeskState, ended_at}
 use Rattle.linked_desk.specs.Shelve.{shelved_at}
+use Rattle.lobby_state.specs.declared.acts.Plan.{Plan}
 use Rattle.lobby_state.specs.declared.acts.Plan.TheVariants.{Clear}
 use Rattle.lobby_state.specs.Lobby.{LobbyState}
 use Rattle.lobby_state.specs.Plans.{committed}
 use Rattle.one_server.specs.Desks.{desk_emptied, has_ended, nobody_looks_on}
 use Rattle.one_server.specs.declared.reply.PairReply.{PairReply}
 use Rattle.one_server.specs.declared.reply.PairReply.TheVariants.{Kept, Freed, Cleared}
+
+-- the plan is a Clear
+abbrev pub IsClear : Plan → Type 0
+IsClear (Clear session number serial) = Unit {0}
+IsClear _ = ⊥
 
 -- a game that ended so was adjourned
 abbrev pub is_adjournment : Why → Bool

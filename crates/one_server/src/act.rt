@@ -1,5 +1,9 @@
 //! What a session asks of the server.
+ghost use Rattle.std.specs.Prelude.{◌≡◌, min};
+ghost use Rattle.clock_ledger.specs.Charges.{last_moment};
 
+use clock_ledger::{LAST_MOMENT, Moment};
+use fics_words::DeskNumber;
 use linked_desk::DeskAct;
 use lobby_state::{LobbyAct, PairAct};
 
@@ -8,8 +12,12 @@ use lobby_state::{LobbyAct, PairAct};
 pub enum Act {
     /// Needs the lobby alone.
     Lobby(LobbyAct),
-    /// Needs the desk of that number, 1 to 128, alone; it is meant for the game of that serial.
-    Desk { desk: u8, serial: u64, act: DeskAct },
+    /// Needs the desk of that number alone; it is meant for the game of that serial.
+    Desk {
+        desk: DeskNumber,
+        serial: u64,
+        act: DeskAct,
+    },
     /// Needs the lobby, and mostly a desk too.
     Pair(PairAct),
 }
@@ -19,4 +27,11 @@ pub enum Act {
 pub struct Timed {
     pub moment: u64,
     pub act: Act,
+}
+
+/// The moment of acts at which a clock shows so many milliseconds: cut to 2^48.
+pub fn moment_of(shown: u64) -> Moment
+    ensures { result ≡ min shown last_moment }
+{
+    Moment::new(shown.min(LAST_MOMENT))
 }

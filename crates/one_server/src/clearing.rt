@@ -1,10 +1,9 @@
 //! A Clear: a player gives its place at a desk up, and a game that was adjourned goes on the shelf.
-ghost use Rattle.std.specs.Prelude.{◌≡◌, IfOk, OnOk, OnErr};
-ghost use Rattle.lobby_state.specs.declared.acts.Plan.TheVariants.{Clear};
-ghost use Rattle.lobby_state.specs.Desks.{IsDesk};
-ghost use Rattle.lobby_state.specs.Reserve.{CanShelve};
-ghost use Rattle.one_server.specs.Clearing.{clear_desk, clear_lobby, clear_reply, kept_at};
+ghost use Rattle.std.specs.Prelude.{◌≡◌, ℕ, IfOk, OnOk, OnErr};
+ghost use Rattle.lobby_state.specs.Planned.{IsPlanned};
+ghost use Rattle.one_server.specs.Clearing.{IsClear, kept_at};
 ghost use Rattle.one_server.specs.Desks.{has_ended};
+ghost use Rattle.one_server.specs.Plans.{CanCarry, plan_desk, plan_lobby, plan_reply};
 
 use crate::reply::PairReply;
 use game_records::StoredGame;
@@ -13,40 +12,37 @@ use lobby_state::{Lobby, Plan, Ready};
 use memory::NoMemory;
 use std::alloc::Global;
 
-/// Gives up the caller's place at the desk of that number: nothing is done where no game of that serial has ended
-/// there. Where nobody looks on any more the desk is cleared, and a game that was adjourned goes on the shelf. Want of
-/// memory, which such a game alone can meet, changes neither.
+/// Carries out a Clear, by which the caller gives up its place at the desk: nothing is done where no game of that
+/// serial has ended there. Where nobody looks on any more the desk is cleared, and a game that was adjourned goes on
+/// the shelf. Want of memory, which such a game alone can meet, changes neither.
 pub(crate) fn clear_step(
     alloc: Global,
     lobby: &mut Lobby,
     desk: &mut Desk,
-    session: u32,
-    number: u8,
-    serial: u64,
+    plan: &Plan,
 ) -> Result<PairReply, NoMemory>
-    requires number { IsDesk number }
-    requires shelved { CanShelve lobby.old (Clear session number serial) (kept_at desk.old) }
-    ensures reply { IfOk result (λ reply. reply ≡ clear_reply desk.old serial) }
-    ensures lobby { OnOk result (lobby.new ≡ clear_lobby lobby.old session number serial desk.old) }
-    ensures desk { OnOk result (desk.new ≡ clear_desk desk.old serial) }
+    requires clear { IsClear plan.now }
+    requires planned { IsPlanned lobby.old plan.now }
+    requires ready { CanCarry lobby.old plan.now desk.old }
+    ensures reply { IfOk result (λ reply. reply ≡ plan_reply plan.now desk.old) }
+    ensures lobby { OnOk result (lobby.new ≡ plan_lobby lobby.old plan.now desk.old) }
+    ensures desk { (moment : ℕ) → OnOk result (desk.new ≡ plan_desk lobby.old plan.now desk.old moment) }
     ensures err_lobby { OnErr result (lobby.new ≡ lobby.old) }
     ensures err_desk { OnErr result (desk.new ≡ desk.old) }
 {
-    let plan = Plan::Clear {
-        by: session,
-        desk: number,
-        serial,
+    let Plan::Clear { serial, .. } = plan else {
+        unreachable!();
     };
-    if !has_ended(desk, serial) {
+    if !has_ended(desk, *serial) {
         return Ok(PairReply::Kept);
     }
     if !desk.is_left() {
-        lobby.commit(&plan, Ready::Nothing, false);
+        lobby.commit(plan, Ready::Nothing, false);
         return Ok(PairReply::Freed);
     }
     let kept = kept_at(alloc, desk)?;
-    let ready = lobby.reserve(&plan, kept)?;
-    lobby.commit(&plan, ready, true);
+    let ready = lobby.reserve(plan, kept)?;
+    lobby.commit(plan, ready, true);
     desk.clear();
     Ok(PairReply::Cleared)
 }

@@ -1,13 +1,12 @@
 //! Copies of what an act will answer, made before the act, so that running out of memory for them changes nothing.
-ghost use Rattle.std.specs.Prelude.{◌≡◌, IfOk, length};
-ghost use Rattle.lobby_state.specs.Desks.{desks as desk_count};
-ghost use Rattle.one_server.specs.Acts.{FitsAct};
+ghost use Rattle.std.specs.Prelude.{◌≡◌, IfOk};
 ghost use Rattle.one_server.specs.Copies.{AreOf, ListsFor, ItemsFor};
 
 use crate::act::Act;
+use crate::part::Part;
 use crate::reply::Reply;
-use linked_desk::{Desk, ItemList};
-use lobby_state::{Lobby, ReplyLists};
+use linked_desk::ItemList;
+use lobby_state::ReplyLists;
 use memory::NoMemory;
 use std::alloc::Global;
 
@@ -19,21 +18,18 @@ pub(crate) struct Copies {
 }
 
 impl Copies {
-    /// The copies for an act.
+    /// The copies for an act, by the part that it needs first.
     pub(crate) fn ahead(
         alloc: Global,
-        lobby: &Lobby,
-        desks: &[Desk],
+        one: &Part,
         session: u32,
         act: &Act,
     ) -> Result<Copies, NoMemory>
-        requires fits { FitsAct act.now }
-        requires count { length desks.now ≡ desk_count }
-        ensures lists { IfOk result (λ copies. ListsFor lobby.now session act.now copies.lists) }
-        ensures items { IfOk result (λ copies. ItemsFor desks.now session act.now copies.items) }
+        ensures lists { IfOk result (λ copies. ListsFor one.now session act.now copies.lists) }
+        ensures items { IfOk result (λ copies. ItemsFor one.now session act.now copies.items) }
     {
-        let lists = lists_ahead(alloc, lobby, session, act)?;
-        let items = items_ahead(alloc, desks, session, act)?;
+        let lists = lists_ahead(alloc, one, session, act)?;
+        let items = items_ahead(alloc, one, session, act)?;
         Ok(Copies { lists, items })
     }
 
@@ -52,30 +48,27 @@ impl Copies {
 }
 
 /// The lists that the lobby will answer.
-fn lists_ahead(
-    alloc: Global,
-    lobby: &Lobby,
-    session: u32,
-    act: &Act,
-) -> Result<ReplyLists, NoMemory>
-    ensures { IfOk result (λ lists. ListsFor lobby.now session act.now lists) }
+fn lists_ahead(alloc: Global, one: &Part, session: u32, act: &Act) -> Result<ReplyLists, NoMemory>
+    ensures { IfOk result (λ lists. ListsFor one.now session act.now lists) }
 {
+    let Part::Lobby(lobby) = one else {
+        return Ok(ReplyLists::none(alloc));
+    };
     match act {
         Act::Lobby(act) => lobby.lists_ahead(session, act),
         _ => Ok(ReplyLists::none(alloc)),
     }
 }
 
-/// The items that an act will answer.
-fn items_ahead(alloc: Global, desks: &[Desk], session: u32, act: &Act) -> Result<ItemList, NoMemory>
-    requires fits { FitsAct act.now }
-    requires count { length desks.now ≡ desk_count }
-    ensures { IfOk result (λ items. ItemsFor desks.now session act.now items) }
+/// The items that a desk will answer.
+fn items_ahead(alloc: Global, one: &Part, session: u32, act: &Act) -> Result<ItemList, NoMemory>
+    ensures { IfOk result (λ items. ItemsFor one.now session act.now items) }
 {
+    let Part::Desk(desk) = one else {
+        return Ok(ItemList::new(alloc));
+    };
     match act {
-        Act::Desk { desk, serial, act } => {
-            desks[*desk as usize - 1].items_ahead(alloc, session, *serial, act)
-        }
+        Act::Desk { serial, act, .. } => desk.items_ahead(alloc, session, *serial, act),
         _ => Ok(ItemList::new(alloc)),
     }
 }

@@ -1,9 +1,8 @@
 //! The parts that an act is lent, and its step on them, for whoever keeps the parts apart.
 ghost use Rattle.std.specs.Prelude.{◌≡◌, None, Some, IsOk, OnOk, OnErr};
-ghost use Rattle.one_server.specs.declared.part.Part.TheVariants.{Lobby as TheLobby};
 ghost use Rattle.one_server.specs.Acts.{IsEvent, FitsAct, NeedsNoMemory, first_part, planned_desk, second_part};
 ghost use Rattle.one_server.specs.House.{house_answer, house_one, house_two, pair_lobby, pair_reply};
-ghost use Rattle.lobby_state.specs.Plans.{NamesDesk, plan_of};
+ghost use Rattle.lobby_state.specs.Plans.{plan_of};
 ghost use Rattle.one_server.specs.Lent.{IsFirstOf, AreBothOf};
 
 use crate::act::{Act, Timed};
@@ -22,21 +21,25 @@ pub fn first_part(act: &Act) -> u8
 {
     match act {
         Act::Lobby(_) => 0,
-        Act::Desk { desk, .. } => *desk,
+        Act::Desk { desk, .. } => desk.get(),
         Act::Pair(_) => 0,
     }
 }
 
-/// The number of an act's second part: the desk of the plan that the lobby has for a pair act, if it has one.
-pub fn second_part(lobby: &Lobby, session: u32, act: &Act) -> Option<u8>
+/// The number of an act's second part, by its first: the desk of the plan that the lobby has for a pair act, if it has
+/// one.
+pub fn second_part(one: &Part, session: u32, act: &Act) -> Option<u8>
     requires { FitsAct act.now }
-    ensures { result ≡ second_part (TheLobby lobby.now) session act.now }
+    ensures { result ≡ second_part one.now session act.now }
 {
+    let Part::Lobby(lobby) = one else {
+        return None;
+    };
     let Act::Pair(act) = act else {
         return None;
     };
     match lobby.plan(session, act) {
-        Ok(plan) => plan.desk(),
+        Ok(plan) => Some(plan.desk()?.get()),
         Err(_) => None,
     }
 }
@@ -77,8 +80,7 @@ fn put_planned(
     act: &PairAct,
     reply: &mut Reply,
 ) -> Result<(), NoMemory>
-    requires names { NamesDesk act.now }
-    requires single { planned_desk (plan_of lobby.old session act.now) ≡ None }
+    requires { planned_desk (plan_of lobby.old session act.now) ≡ None }
     ensures reply { OnOk result (reply.new ≡ pair_reply (plan_of lobby.old session act.now) None) }
     ensures after { OnOk result (lobby.new ≡ pair_lobby lobby.old (plan_of lobby.old session act.now) None) }
     ensures err { OnErr result (lobby.new ≡ lobby.old) }
@@ -126,11 +128,7 @@ pub fn together(
     let Ok(plan) = lobby.plan(session, act) else {
         unreachable!();
     };
-    match pair_step(alloc, lobby, desk, Moment::new(timed.moment), &plan) {
-        Ok(made) => {
-            *reply = made;
-            Ok(())
-        }
-        Err(NoMemory) => Err(NoMemory),
-    }
+    let moment = Moment::new(timed.moment);
+    *reply = Reply::Pair(pair_step(alloc, lobby, desk, moment, &plan)?);
+    Ok(())
 }

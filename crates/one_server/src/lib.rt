@@ -8,13 +8,13 @@
 #![tactic(auto)]
 
 mod act;
-mod act_step;
 mod clearing;
 mod copies;
 mod house;
 mod laws;
 mod lent;
 mod part;
+mod parts;
 mod reply;
 mod resuming;
 mod runner;
@@ -22,7 +22,7 @@ mod seat;
 mod server;
 mod steps;
 
-pub use act::{Act, Timed};
+pub use act::{Act, Timed, moment_of};
 pub use house::House;
 pub use laws::{
     acts_keep_to_their_parts, every_board_keeps_a_true_score, every_end_names_its_winner,
@@ -35,4 +35,3 @@ pub use reply::{PairReply, Reply};
 pub use runner::{Runner, answered};
 pub use seat::OneSeat;
 pub use server::OneServer;
-pub use steps::{desk_step, lobby_step, pair_step};

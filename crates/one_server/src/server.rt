@@ -1,17 +1,16 @@
 //! The server of one thread.
 ghost use Rattle.std.specs.Prelude.{◌≡◌, ◌++◌, ◌∷◌, [], Some, IfOk, OnErr, slice_get};
-ghost use Rattle.lobby_state.specs.Desks.{IsDesk, desks as desk_count};
-ghost use Rattle.one_server.specs.Whole.{vacant_from};
 
 use crate::act::{Act, Timed};
-use crate::act_step::act_step;
 use crate::copies::Copies;
+use crate::part::Part;
+use crate::parts::{first_of, step, vacant_desks};
 use crate::reply::Reply;
 use collections::Listed;
 use fics_words::DeskNumber;
 use histories::Entry;
 use linked_desk::Desk;
-use lobby_state::{DESKS, Lobby, lobbies_are_well_formed};
+use lobby_state::{Lobby, lobbies_are_well_formed};
 use memory::NoMemory;
 use std::alloc::Global;
 use std::marker::Model;
@@ -23,12 +22,13 @@ use std::snapshot::Snapshot;
 pub struct OneServer {
     alloc: Global,
     opening: Snapshot<Lobby>,
-    lobby: Lobby,
-    desks: Listed<Desk>,
+    lobby: Part,
+    desks: Listed<Part>,
     log: Vec<Entry<Timed, Reply>>,
 }
 
 impl Model for OneServer {
+    ghost use Rattle.std.specs.Prelude.{◌∷◌};
     ghost use Rattle.one_server.specs.Server.{ServerState, IsServed};
     ghost use Rattle.one_server.specs.Whole.{opened_server};
 
@@ -36,7 +36,7 @@ impl Model for OneServer {
 
     ghost view = { λ s. record { opening = opened_server s.opening.value; log = s.log.items } };
 
-    ghost invariant = { λ s. IsServed (opened_server s.opening.value) s.log.items s.lobby s.desks };
+    ghost invariant = { λ s. IsServed (opened_server s.opening.value) s.log.items (s.lobby ∷ s.desks) };
 }
 
 impl OneServer {
@@ -59,7 +59,7 @@ impl OneServer {
             Ok(desks) => Ok(OneServer {
                 alloc,
                 opening: Snapshot::of(&lobby),
-                lobby,
+                lobby: Part::Lobby(lobby),
                 desks,
                 log: Vec::new(alloc),
             }),
@@ -82,9 +82,18 @@ impl OneServer {
     {
         self.log.reserve(1)?;
         let alloc = self.alloc;
-        let copies = Copies::ahead(alloc, &self.lobby, &self.desks, session, &act)?;
+        let one = first_of(&self.lobby, &self.desks, &act);
+        let copies = Copies::ahead(alloc, one, session, &act)?;
         let timed = Timed { moment, act };
-        let reply = act_step(alloc, &mut self.lobby, &mut self.desks, session, &timed)?;
+        let mut reply = Reply::blank();
+        step(
+            alloc,
+            &mut self.lobby,
+            &mut self.desks,
+            session,
+            &timed,
+            &mut reply,
+        )?;
         let twin = copies.twin(&reply);
         self.log.push_reserved(Entry {
             session,
@@ -98,15 +107,20 @@ impl OneServer {
     pub fn lobby(&self) -> &Lobby
         ensures { slice_get (parts_in self.now) 0 ≡ Some (TheLobby result.now) }
     {
-        &self.lobby
+        match &self.lobby {
+            Part::Lobby(lobby) => lobby,
+            Part::Desk(_) => unreachable!(),
+        }
     }
 
-    /// The desk of that number, 1 to 128, at present.
-    pub fn desk(&self, number: u8) -> &Desk
-        requires { IsDesk number }
+    /// The desk of that number at present.
+    pub fn desk(&self, number: DeskNumber) -> &Desk
         ensures { slice_get (parts_in self.now) number ≡ Some (ADesk result.now) }
     {
-        &self.desks[number as usize - 1]
+        match &self.desks.as_slice()[number.get() as usize - 1] {
+            Part::Desk(desk) => desk,
+            Part::Lobby(_) => unreachable!(),
+        }
     }
 
     /// The whole history, the oldest entry first.
@@ -117,16 +131,4 @@ impl OneServer {
     {
         self.log.as_slice()
     }
-}
-
-/// The desks 1 to 128, all of them vacant.
-#[tactic(auto, using(crate::proofs::Serving::vacant_push))]
-fn vacant_desks(alloc: Global) -> Result<Listed<Desk>, NoMemory>
-    ensures { IfOk result (λ desks. desks ≡ vacant_from 1 desk_count) }
-{
-    let mut desks = Listed::new(alloc);
-    for slot in 0..DESKS {
-        desks.push(Desk::vacant(DeskNumber::new(slot as u8 + 1)))?;
-    }
-    Ok(desks)
 }

@@ -16,28 +16,8 @@ use lobby_state::{Lobby, LobbyAct, Plan, Ready};
 use memory::NoMemory;
 use std::alloc::Global;
 
-/// Makes an act that needs the lobby alone. Running out of memory changes nothing, and acts that need none don't meet
-/// it.
-pub fn lobby_step(
-    lobby: &mut Lobby,
-    session: u32,
-    moment: u64,
-    act: &LobbyAct,
-) -> Result<Reply, NoMemory>
-    requires { FitsLobby act.now }
-    ensures reply { IfOk result (λ reply. reply ≡ lobby_reply (lobby_answer lobby.old session act.now)) }
-    ensures after { OnOk result (lobby.new ≡ lobby_after lobby.old session act.now) }
-    ensures err { OnErr result (lobby.new ≡ lobby.old) }
-    ensures sure { LobbyNeedsNoMemory act.now → IsOk result }
-{
-    let mut reply = Reply::blank();
-    match put_lobby(lobby, session, moment, act, &mut reply) {
-        Ok(()) => Ok(reply),
-        Err(NoMemory) => Err(NoMemory),
-    }
-}
-
-/// The same, and the reply is written over what stands in its place.
+/// Makes an act that needs the lobby alone, and writes its reply over what stands in its place. Running out of memory
+/// changes nothing else, and acts that need none don't meet it.
 pub(crate) fn put_lobby(
     lobby: &mut Lobby,
     session: u32,
@@ -64,29 +44,8 @@ pub(crate) fn put_lobby(
     }
 }
 
-/// Makes an act at the game of that serial that needs its desk alone. Running out of memory, which only acts that tell
-/// boards or items can meet, changes nothing.
-pub fn desk_step(
-    desk: &mut Desk,
-    session: u32,
-    moment: Moment,
-    serial: u64,
-    act: &DeskAct,
-) -> Result<Reply, NoMemory>
-    requires fits { FitsDeskAct act.now }
-    ensures reply { IfOk result (λ reply. reply ≡ desk_reply (desk_answer desk.old session moment serial act.now)) }
-    ensures after { OnOk result (desk.new ≡ desk_after desk.old session moment serial act.now) }
-    ensures err { OnErr result (desk.new ≡ desk.old) }
-    ensures memory { OnErr result (needs_memory act.now ≡ true) }
-{
-    let mut reply = Reply::blank();
-    match put_desk(desk, session, moment, serial, act, &mut reply) {
-        Ok(()) => Ok(reply),
-        Err(NoMemory) => Err(NoMemory),
-    }
-}
-
-/// The same, and the reply is written over what stands in its place.
+/// Makes an act at the game of that serial that needs its desk alone, and writes its reply over what stands in its
+/// place. Running out of memory, which only acts that tell boards or items can meet, changes nothing else.
 pub(crate) fn put_desk(
     desk: &mut Desk,
     session: u32,
@@ -116,16 +75,16 @@ pub(crate) fn put_desk(
 
 /// Carries out a plan with its lobby and its desk: a game starts there, or goes on that leaves the shelf, or the caller
 /// gives up its place. Want of memory changes neither.
-pub fn pair_step(
+pub(crate) fn pair_step(
     alloc: Global,
     lobby: &mut Lobby,
     desk: &mut Desk,
     moment: Moment,
     plan: &Plan,
-) -> Result<Reply, NoMemory>
+) -> Result<PairReply, NoMemory>
     requires planned { IsPlanned lobby.old plan.now }
     requires ready { CanCarry lobby.old plan.now desk.old }
-    ensures reply { IfOk result (λ reply. reply ≡ Reply.Pair (plan_reply plan.now desk.old)) }
+    ensures reply { IfOk result (λ reply. reply ≡ plan_reply plan.now desk.old) }
     ensures lobby { OnOk result (lobby.new ≡ plan_lobby lobby.old plan.now desk.old) }
     ensures desk { OnOk result (desk.new ≡ plan_desk lobby.old plan.now desk.old moment) }
     ensures err_lobby { OnErr result (lobby.new ≡ lobby.old) }
@@ -140,7 +99,7 @@ pub fn pair_step(
         } => {
             desk.start(alloc, *serial, *terms, seats, moment)?;
             lobby.commit(plan, Ready::Nothing, true);
-            Ok(Reply::Pair(PairReply::Started))
+            Ok(PairReply::Started)
         }
         Plan::Resume {
             serial,
@@ -151,13 +110,9 @@ pub fn pair_step(
             let ready = lobby.reserve(plan, None)?;
             restore(alloc, lobby, desk, moment, *serial, *number, seats)?;
             lobby.commit(plan, ready, true);
-            Ok(Reply::Pair(PairReply::Started))
+            Ok(PairReply::Started)
         }
-        Plan::Clear {
-            by,
-            desk: number,
-            serial,
-        } => Ok(Reply::Pair(clear_step(alloc, lobby, desk, *by, *number, *serial)?)),
-        Plan::Ask { .. } => Ok(Reply::Pair(alone_step(lobby, plan)?)),
+        Plan::Clear { .. } => clear_step(alloc, lobby, desk, plan),
+        Plan::Ask { .. } => alone_step(lobby, plan),
     }
 }

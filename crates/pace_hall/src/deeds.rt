@@ -4,7 +4,7 @@ ghost use Rattle.lobby_state.specs.Acts.{FitsLobby};
 
 use crate::full_hall::{FullHall, TERMS, account_name};
 use crate::shelf::{adjourns, game_of};
-use fics_words::{Fail, Line, Refusal};
+use fics_words::{DeskNumber, Fail, Line, Refusal};
 use lobby_state::{LobbyAct, PairAct};
 use std::alloc::Global;
 
@@ -95,7 +95,8 @@ fn round(hall: &mut FullHall, deed: Deed) -> Result<(), Fail> {
             challenge(hall)?;
             let name = hall.key(DOER)?;
             hall.pair(OTHER, PairAct::Accept(Some(name)))?;
-            let clear = PairAct::Clear { desk: 1, serial: 1 };
+            let desk = DeskNumber::new(1);
+            let clear = PairAct::Clear { desk, serial: 1 };
             hall.pair(DOER, clear)?;
         }
         Deed::Post => {

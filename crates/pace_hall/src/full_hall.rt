@@ -4,12 +4,11 @@
 ghost use Rattle.std.specs.Prelude.{IfOk};
 ghost use Rattle.lobby_state.specs.Acts.{FitsLobby};
 ghost use Rattle.lobby_state.specs.Planned.{IsPlanned};
-ghost use Rattle.lobby_state.specs.Plans.{NamesDesk};
 
 use crate::shelf::{game_of, put};
 use chess_model::{Terms, Variant};
-use fics_words::{Account, Digest, Fail, Handle, HandleKey, Refusal};
-use lobby_state::{Lobby, LobbyAct, LobbyReply, PairAct, Plan, Var};
+use fics_words::{Account, Digest, Fail, Handle, HandleKey, Refusal, Variable};
+use lobby_state::{Lobby, LobbyAct, LobbyReply, PairAct, Plan};
 use std::alloc::Global;
 
 /// The terms of all offers.
@@ -70,7 +69,7 @@ impl FullHall {
         for session in 1..=MEMBERS {
             let key = hall.enter(session)?;
             hall.keys.push(key)?;
-            let which = Var::Seek;
+            let which = Variable::Seek;
             hall.act(session, LobbyAct::Var { which, on: false })?;
         }
         for session in 1..=MEMBERS {
@@ -90,9 +89,7 @@ impl FullHall {
     }
 
     /// Makes an act whose plan is carried out, a Clear so that its desk is free.
-    pub fn pair(&mut self, session: u32, act: PairAct) -> Result<(), Fail>
-        requires { NamesDesk act }
-    {
+    pub fn pair(&mut self, session: u32, act: PairAct) -> Result<(), Fail> {
         let planned = self.lobby.plan(session, &act);
         carry_out(&mut self.lobby, &planned)
     }

@@ -1,23 +1,20 @@
 //! What two players do at their table.
 
 ghost use Rattle.linked_desk.specs.Acts.{FitsDeskAct};
-ghost use Rattle.lobby_state.specs.Desks.{IsDesk};
 
 use crate::job::What;
 use crate::table::Table;
 use chess_model::{Colour, MoveWord, Square, Terms, Variant};
 use clock_ledger::Moment;
-use fics_words::{Fail, Handle, Refusal};
+use fics_words::{DeskNumber, Fail, Handle, Refusal};
 use linked_desk::DeskAct;
 use lobby_state::{LobbyAct, PairAct};
 use one_server::Act;
 use std::alloc::Global;
 
 /// The desk of a table, by the table's number from 0. The game there has the desk's number for its serial.
-pub fn desk_of(table: u8) -> u8
-    ensures { IsDesk result }
-{
-    table % 128 + 1
+pub fn desk_of(table: u8) -> DeskNumber {
+    DeskNumber::new(table % 128 + 1)
 }
 
 /// The two players enter and start a game, at the least free desk.
@@ -63,11 +60,9 @@ pub fn round<T: Table>(
     alloc: Global,
     table: &mut T,
     what: What,
-    desk: u8,
+    desk: DeskNumber,
     number: u32,
-) -> Result<(), Fail>
-    requires { IsDesk desk }
-{
+) -> Result<(), Fail> {
     match what {
         What::Looks => {
             look(alloc, table, Colour::White, desk, number)?;
@@ -92,11 +87,9 @@ fn look<T: Table>(
     alloc: Global,
     table: &mut T,
     colour: Colour,
-    desk: u8,
+    desk: DeskNumber,
     number: u32,
-) -> Result<(), Fail>
-    requires { IsDesk desk }
-{
+) -> Result<(), Fail> {
     at_desk(alloc, table, colour, desk, number, DeskAct::Flag)?;
     at_desk(alloc, table, colour, desk, number, DeskAct::Fetch)
 }
@@ -105,11 +98,9 @@ fn play<T: Table>(
     alloc: Global,
     table: &mut T,
     colour: Colour,
-    desk: u8,
+    desk: DeskNumber,
     number: u32,
-) -> Result<(), Fail>
-    requires { IsDesk desk }
-{
+) -> Result<(), Fail> {
     let (home, out) = match colour {
         Colour::White => (6, 21),
         Colour::Black => (62, 45),
@@ -133,16 +124,15 @@ fn at_desk<T: Table>(
     alloc: Global,
     table: &mut T,
     colour: Colour,
-    desk: u8,
+    desk: DeskNumber,
     number: u32,
     act: DeskAct,
 ) -> Result<(), Fail>
-    requires desk { IsDesk desk }
-    requires fits { FitsDeskAct act }
+    requires { FitsDeskAct act }
 {
     let act = Act::Desk {
         desk,
-        serial: u64::from(desk),
+        serial: u64::from(desk.get()),
         act,
     };
     let _reply = table.run(alloc, colour, Moment::new(u64::from(number)), act)?;

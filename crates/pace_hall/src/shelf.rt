@@ -8,7 +8,7 @@ ghost use Rattle.game_records.specs.Replays.{Replays};
 
 use chess_model::{Terms, Variant};
 use collections::Listed;
-use fics_words::{Fail, Handle, HandleKey, Refusal};
+use fics_words::{DeskNumber, Fail, Handle, HandleKey, Refusal};
 use game_records::{HalfList, StoredGame, played_by_steps};
 use lobby_state::{Lobby, LobbyAct, PairAct, Plan};
 use memory::NoMemory;
@@ -164,17 +164,18 @@ fn starts(lobby: &mut Lobby, to: HandleKey) -> bool {
 pub fn adjourns(lobby: &mut Lobby, game: StoredGame) -> bool
     requires { Replays game }
 {
-    let serial = match lobby.game(1) {
+    let desk = DeskNumber::new(1);
+    let serial = match lobby.game(desk) {
         Some(started) => started.serial,
         None => 0,
     };
-    let Ok(plan) = lobby.plan(1, &PairAct::Clear { desk: 1, serial }) else {
+    let Ok(plan) = lobby.plan(1, &PairAct::Clear { desk, serial }) else {
         return false;
     };
     let Plan::Clear { desk, .. } = plan else {
         return false;
     };
-    if desk < 1 || desk > 128 || lobby.game(desk).is_none() {
+    if lobby.game(desk).is_none() {
         return false;
     }
     let Ok(ready) = lobby.reserve(&plan, Some(game)) else {

@@ -6,7 +6,7 @@
 #![tactic(auto)]
 
 use edge_traits::{Keeper, KeeperFail, Kept};
-use file_keeper::{SqliteKeeper, StoreReader};
+use file_keeper::{AnyKeeper, SqliteKeeper, StoreReader};
 use std::alloc::{AllocError, Global};
 use std::io::Read;
 use std::{env, io};
@@ -22,11 +22,10 @@ fn main(rt: HostRuntime) -> io::Result<()> {
         return println!(rt; "the words are WHAT PATH COUNT");
     };
     let path = String::from_str(rt.alloc(), path)?;
+    let mut keeper = keeper_for(rt, what.as_str(), path);
     if what.as_str() == "read" {
-        return say_read(&rt, StoreReader::new(rt, path));
-    }
-    let mut keeper = SqliteKeeper::new(rt, path);
-    if what.as_str() == "put" {
+        say_count(&rt, &mut keeper)
+    } else if what.as_str() == "put" {
         put_all(&rt, &mut keeper, count_of(words.get(2)))
     } else if what.as_str() == "hold" {
         hold(&rt, &mut keeper)
@@ -43,6 +42,14 @@ fn words_of(rt: &HostRuntime) -> Result<Vec<String>, AllocError> {
     }
 }
 
+fn keeper_for(rt: HostRuntime, what: &str, path: String) -> AnyKeeper {
+    if what == "read" {
+        AnyKeeper::Read(StoreReader::new(rt, path))
+    } else {
+        AnyKeeper::Held(SqliteKeeper::new(rt, path))
+    }
+}
+
 fn count_of(word: Option<&String>) -> u64 {
     match word {
         Some(text) => text.parse().unwrap_or(0),
@@ -51,7 +58,7 @@ fn count_of(word: Option<&String>) -> u64 {
 }
 
 /// Puts records one after another, each under its number, up to the first that isn't kept; then lets the store go.
-fn put_all(rt: &HostRuntime, keeper: &mut SqliteKeeper, count: u64) -> io::Result<()> {
+fn put_all(rt: &HostRuntime, keeper: &mut AnyKeeper, count: u64) -> io::Result<()> {
     for number in 0..count {
         let Ok(kept) = put_one(rt.alloc(), keeper, number) else {
             return println!(*rt; "out of memory");
@@ -65,7 +72,7 @@ fn put_all(rt: &HostRuntime, keeper: &mut SqliteKeeper, count: u64) -> io::Resul
     println!(*rt; "closed: {}", name_of(kept))
 }
 
-fn put_one(alloc: Global, keeper: &mut SqliteKeeper, number: u64) -> Result<Kept, AllocError> {
+fn put_one(alloc: Global, keeper: &mut AnyKeeper, number: u64) -> Result<Kept, AllocError> {
     let key = format!(in alloc; "record {number:08}")?;
     let bytes = vec![in alloc; 120u8; LENGTH]?;
     Ok(keeper.put(key.as_bytes(), &bytes))
@@ -79,18 +86,13 @@ fn name_of(kept: Kept) -> &'static str {
     }
 }
 
-fn say_loaded(rt: &HostRuntime, keeper: &mut SqliteKeeper) -> io::Result<()> {
+fn say_loaded(rt: &HostRuntime, keeper: &mut AnyKeeper) -> io::Result<()> {
     say_count(rt, keeper)?;
     let kept = keeper.close();
     println!(*rt; "closed: {}", name_of(kept))
 }
 
-fn say_read(rt: &HostRuntime, reader: StoreReader) -> io::Result<()> {
-    let mut reader = reader;
-    say_count(rt, &mut reader)
-}
-
-fn say_count<K: Keeper>(rt: &HostRuntime, keeper: &mut K) -> io::Result<()> {
+fn say_count(rt: &HostRuntime, keeper: &mut AnyKeeper) -> io::Result<()> {
     match keeper.load() {
         Ok(pairs) => println!(*rt; "{} records", pairs.len()),
         Err(KeeperFail::Failed) => println!(*rt; "failed"),
@@ -99,7 +101,7 @@ fn say_count<K: Keeper>(rt: &HostRuntime, keeper: &mut K) -> io::Result<()> {
 }
 
 /// Loads, and keeps the store until the input ends.
-fn hold(rt: &HostRuntime, keeper: &mut SqliteKeeper) -> io::Result<()> {
+fn hold(rt: &HostRuntime, keeper: &mut AnyKeeper) -> io::Result<()> {
     say_count(rt, keeper)?;
     let mut byte = [0; 1];
     let _ended = rt.reader().read(&mut byte)?;

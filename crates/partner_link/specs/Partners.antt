@@ -40,18 +40,18 @@ abbrev pub names : ℕ → PartnerRequest → Bool
 names who request = (request.from == who) || (request.to == who)
 
 -- a request by this player to that one stands
-abbrev pub stands : List PartnerRequest → ℕ → ℕ → Bool
-stands requests from to = list_any (is_request from to) requests
+abbrev pub request_stands : List PartnerRequest → ℕ → ℕ → Bool
+request_stands requests from to = list_any (is_request from to) requests
 
 -- the other has a request to this player standing; nobody is other than itself
 abbrev pub has_asked : List PartnerRequest → ℕ → ℕ → Bool
-has_asked requests other who = not (who == other) && stands requests other who
+has_asked requests other who = not (who == other) && request_stands requests other who
 
 -- a player asks another: the request stands behind the others, or where it stands already
-abbrev pub asked : PartnerLists → ℕ → ℕ → PartnerLists
-asked lists from to = record lists {
+abbrev pub requested : PartnerLists → ℕ → ℕ → PartnerLists
+requested lists from to = record lists {
   requests =
-      if stands lists.requests from to
+      if request_stands lists.requests from to
       then lists.requests
       else lists.requests ++ record { from = from; to = to } ∷ [];
 }
@@ -69,7 +69,7 @@ asking lists from to = record {
   causes = (is_some (partner_of lists.links from) || is_some (partner_of lists.links to), HasPartner) ∷ [];
   memory = true;
   reply = has_asked lists.requests to from;
-  after = if has_asked lists.requests to from then linked lists from to else asked lists from to;
+  after = if has_asked lists.requests to from then linked lists from to else requested lists from to;
 }
 
 -- the player's link is gone
@@ -77,8 +77,8 @@ abbrev pub parted : PartnerLists → ℕ → PartnerLists
 parted lists who = record lists { links = filter (λ link. not (is_of who link)) lists.links }
 
 -- every request and link that names the player is gone
-abbrev pub without : PartnerLists → ℕ → PartnerLists
-without lists who = record {
+abbrev pub without_naming : PartnerLists → ℕ → PartnerLists
+without_naming lists who = record {
   requests = filter (λ request. not (names who request)) lists.requests;
   links = filter (λ link. not (is_of who link)) lists.links;
 }

@@ -2,7 +2,7 @@
 ghost use Rattle.std.specs.Prelude.{◌≡◌, None, true};
 ghost use Rattle.fics_words.specs.Effect.{first_cause};
 ghost use Rattle.partner_link.specs.Laws.{ArePartnersAlone, AreMutual, IsNamedByNobody};
-ghost use Rattle.partner_link.specs.Partners.{asking, without};
+ghost use Rattle.partner_link.specs.Partners.{asking, without_naming};
 
 use crate::partners::Partners;
 
@@ -15,7 +15,7 @@ pub fn partners_are_mutual(partners: &Partners)
 
 /// After a `forget` the player has no partner, and nobody's partner or request names it.
 pub fn forgotten_is_named_by_nobody(partners: &Partners, who: u32)
-    ensures { IsNamedByNobody (without partners.now who) who }
+    ensures { IsNamedByNobody (without_naming partners.now who) who }
 {
     let _ = &partners.links;
 }

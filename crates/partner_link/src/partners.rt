@@ -1,7 +1,7 @@
 //! Who asks whom to be its partner, and who are partners.
 ghost use Rattle.std.specs.Prelude.{◌≡◌, option_copied};
 ghost use Rattle.std.specs.List.{filter, find};
-ghost use Rattle.partner_link.specs.Partners.{is_of, partner_of, stands};
+ghost use Rattle.partner_link.specs.Partners.{is_of, partner_of, request_stands};
 
 use crate::pairs::{LinkOfOthers, PartnerLink, PartnerRequest, RequestOfNeither, RequestOfOthers};
 use collections::{Listed, Predicate};
@@ -34,7 +34,7 @@ impl Partners {
     ghost use Rattle.std.specs.Prelude.{◌≡◌, ok_or, OnErr, OnOk, []};
     ghost use Rattle.fics_words.specs.Effect.{Takes};
     ghost use Rattle.fics_words.specs.declared.refusal.Refusal.TheVariants.{NoPartner};
-    ghost use Rattle.partner_link.specs.Partners.{asking, has_asked, parted, partner_of, without};
+    ghost use Rattle.partner_link.specs.Partners.{asking, has_asked, parted, partner_of, without_naming};
 
     /// No requests and no links; takes no memory.
     pub fn new(alloc: Global) -> Partners
@@ -101,7 +101,7 @@ impl Partners {
 
     /// Takes away every request and every link that names this player. It takes no memory.
     pub fn forget(&mut self, who: u32)
-        ensures { self.new ≡ without self.old who }
+        ensures { self.new ≡ without_naming self.old who }
     {
         keep_requests(&mut self.requests, &RequestOfOthers(who));
         keep_links(&mut self.links, &LinkOfOthers(who));
@@ -127,7 +127,7 @@ fn find_link<'a>(links: &'a [PartnerLink], who: u32) -> Option<&'a PartnerLink>
 
 /// Whether a request by this player to that one is among these.
 fn stands(requests: &Table<PartnerRequest, PartnerRequest>, from: u32, to: u32) -> bool
-    ensures { result ≡ stands requests.now from to }
+    ensures { result ≡ request_stands requests.now from to }
 {
     requests.has(PartnerRequest { from, to })
 }

@@ -16,7 +16,7 @@ use Rattle.fics_words.specs.Handle.{IsHandle}
 use Rattle.game_records.specs.declared.stored_game.Half.{Half}
 use Rattle.game_records.specs.declared.stored_game.StoredGame.{StoredGame}
 use Rattle.game_records.specs.Bounds.{AreHalves, IsHalf}
-use Rattle.game_records.specs.Replays.{CanBePlayed, MayCome, half_moves}
+use Rattle.game_records.specs.Replays.{CanBePlayed, MayCome, without_charges}
 use Rattle.pgn_book.specs.declared.game.PgnResult.TheVariants.{Open}
 use Rattle.pgn_book.specs.declared.game.TagRow.{TagRow}
 use Rattle.pgn_book.specs.Lexing.{IsText, is_of_text}
@@ -27,28 +27,28 @@ use Rattle.pgn_book.specs.Stored.{IsStoredChess, names_row}
 -- ---- half-moves that can be played are legal
 
 moves-end : (halves : List Half) (h : Half)
-    → half_moves (halves ++ h ∷ []) ≡ half_moves halves ++ record { board = h.board; what = h.what } ∷ []
+    → without_charges (halves ++ h ∷ []) ≡ without_charges halves ++ record { board = h.board; what = h.what } ∷ []
 moves-end [] h = refl
 moves-end (x ∷ halves) h =
     ap (λ (l : List HalfMove). record { board = x.board; what = x.what } ∷ l) (moves-end halves h)
 
-legal_behind : (t : Terms) (before rest : List Half) → IsLegal t.variant (half_moves before)
+legal_behind : (t : Terms) (before rest : List Half) → IsLegal t.variant (without_charges before)
     → CanBePlayed t (before ++ rest) →
-    IsLegal t.variant (half_moves (before ++ rest))
+    IsLegal t.variant (without_charges (before ++ rest))
 legal_behind t before [] legal played =
-    subst (λ (l : List Half). IsLegal t.variant (half_moves l)) (sym (append-nil before)) legal
+    subst (λ (l : List Half). IsLegal t.variant (without_charges l)) (sym (append-nil before)) legal
 legal_behind t before (h ∷ rest) legal played =
     let come : MayCome t before h = played.each before rest h refl in
     let half : HalfMove = record { board = h.board; what = h.what } in
-    let grown : IsLegal t.variant (half_moves before ++ half ∷ []) =
-    legal_lists.grows t.variant (half_moves before) half legal come.follows.allowed in
-    let longer : IsLegal t.variant (half_moves (before ++ h ∷ [])) =
+    let grown : IsLegal t.variant (without_charges before ++ half ∷ []) =
+    legal_lists.grows t.variant (without_charges before) half legal come.follows.allowed in
+    let longer : IsLegal t.variant (without_charges (before ++ h ∷ [])) =
     subst (IsLegal t.variant) (sym (moves-end before h)) grown in
     let same : (before ++ h ∷ []) ++ rest ≡ before ++ h ∷ rest = append_assoc before (h ∷ []) rest in
-    subst (λ (l : List Half). IsLegal t.variant (half_moves l)) same
+    subst (λ (l : List Half). IsLegal t.variant (without_charges l)) same
     (legal_behind t (before ++ h ∷ []) rest longer (subst (CanBePlayed t) (sym same) played))
 
-legal : (t : Terms) (halves : List Half) → CanBePlayed t halves → IsLegal t.variant (half_moves halves)
+legal : (t : Terms) (halves : List Half) → CanBePlayed t halves → IsLegal t.variant (without_charges halves)
 legal t halves played = legal_behind t [] halves (legal_lists.none t.variant) played
 
 -- ---- exports
@@ -74,10 +74,10 @@ on_one : (h : Half) → IsHalf Chess h → h.board ≡ 1
 on_one h is = omega (arith, is.first, is.last)
 
 one_board : (halves : List Half) → AllByRecursion (IsHalf Chess) halves
-    → half_moves halves ≡ map on_board (map (λ h. h.what) halves)
+    → without_charges halves ≡ map on_board (map (λ h. h.what) halves)
 one_board [] each = refl
 one_board (h ∷ halves) each =
-    ap (λ (b : ℕ). record { board = b; what = h.what } ∷ half_moves halves) (on_one h each.0)
+    ap (λ (b : ℕ). record { board = b; what = h.what } ∷ without_charges halves) (on_one h each.0)
     ∙ ap (λ (l : List HalfMove). on_board h.what ∷ l) (one_board halves each.1)
 
 same_length : (halves : List Half) → length (map (λ (h : Half). h.what) halves) ≡ length halves
@@ -91,8 +91,8 @@ pub exportable : (g : StoredGame) (moves : List Move) (tags : TagRow) (white bla
 exportable g moves tags white black stored are is w b =
     let halves : AreHalves Chess g.halves =
     subst (λ (v : Variant). AreHalves v g.halves) stored.variant stored.replays.spelled.halves in
-    let lawful : IsLegal Chess (half_moves g.halves) =
-    subst (λ (v : Variant). IsLegal v (half_moves g.halves)) stored.variant
+    let lawful : IsLegal Chess (without_charges g.halves) =
+    subst (λ (v : Variant). IsLegal v (without_charges g.halves)) stored.variant
     (legal g.terms g.halves stored.replays.played) in
     subst (λ (l : List Move). IsExportable (record { tags = tags; moves = l; result = Open })) (sym are)
     (subst

@@ -11,7 +11,8 @@ use Rattle.std.proofs.lemmas.List.Quantifiers.{position-Some}
 use Rattle.std.proofs.lemmas.List.Sums.{fails_before_first, prefix_len-le-length}
 use Rattle.std.proofs.lemmas.Grind.{common_steps}
 use Rattle.fics_words.specs.Handle.{IsHandle}
-use Rattle.replay_core.specs.Words.{blank, is_blank, IsWord}
+use Rattle.fics_words.specs.Blank.{blank, is_blank}
+use Rattle.replay_core.specs.Words.{IsWord}
 use Rattle.fics_words.proofs.Each.{each-weaker}
 use Rattle.fics_words.proofs.Digits.{IsDigit, digits_of_decimal}
 

@@ -2,7 +2,7 @@
 use Rattle.std.proofs.Common.{◌≡◌, ℕ, ◌<◌, List, [], ◌∷◌, ◌++◌, refl, sym, ◌∙◌, ap, subst, arith}
 use Rattle.std.specs.Prelude.{decimal}
 use Rattle.std.proofs.lemmas.Fmt.{decimal_injective}
-use Rattle.replay_core.specs.Words.{blank}
+use Rattle.fics_words.specs.Blank.{blank}
 use Rattle.replay_core.specs.Script.{IsScriptEvent, IsScriptLine, event_text, script_text}
 use Rattle.replay_core.specs.declared.script.ScriptEvent.{ScriptEvent}
 use Rattle.replay_core.specs.declared.script.ScriptEvent.TheVariants.{Connect, Cut, Quiet, Plain, Stamped, Ack}

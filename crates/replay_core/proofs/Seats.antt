@@ -16,7 +16,8 @@ use Rattle.replay_core.specs.declared.script.ScriptLine.{ScriptLine}
 use Rattle.replay_core.specs.declared.seat_line.SeatLine.{SeatLine}
 use Rattle.replay_core.specs.Script.{IsScriptLine, event_text, script_text}
 use Rattle.replay_core.specs.SeatLine.{AreSeatTerms, IsSeatLine, terms_text, seat_text}
-use Rattle.replay_core.specs.Words.{blank, IsWord, words_before}
+use Rattle.fics_words.specs.Blank.{blank}
+use Rattle.replay_core.specs.Words.{IsWord, words_before}
 use Rattle.replay_core.proofs.Cuts.{one_cut, one_number, decimal_is_word, handle_is_word}
 use Rattle.fics_words.proofs.Digits.{IsDigit, digits_of_decimal}
 

@@ -4,7 +4,7 @@ use Rattle.std.specs.List.{join_with_byte}
 use Rattle.clock_ledger.specs.Charges.{last_moment}
 use Rattle.clock_ledger.specs.Span.{IsStamp}
 use Rattle.fics_words.specs.Line.{IsLine}
-use Rattle.replay_core.specs.Words.{blank}
+use Rattle.fics_words.specs.Blank.{blank}
 use Rattle.replay_core.specs.declared.script.ScriptEvent.{ScriptEvent}
 use Rattle.replay_core.specs.declared.script.ScriptEvent.TheVariants.{Connect, Cut, Quiet, Plain, Stamped, Ack}
 use Rattle.replay_core.specs.declared.script.ScriptLine.{ScriptLine}

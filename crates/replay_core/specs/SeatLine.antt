@@ -8,7 +8,7 @@ use Rattle.chess_model.specs.declared.variant.Variant.{Variant}
 use Rattle.chess_model.specs.declared.variant.Variant.TheVariants.{Chess, Crazyhouse, Bughouse, Fischer}
 use Rattle.chess_model.specs.VariantWord.{IsNumbered, word_of}
 use Rattle.fics_words.specs.Handle.{IsHandle, key_of}
-use Rattle.replay_core.specs.Words.{blank}
+use Rattle.fics_words.specs.Blank.{blank}
 use Rattle.replay_core.specs.declared.seat_line.SeatLine.{SeatLine}
 
 -- how many players a game has: two at each board, and bughouse has two boards

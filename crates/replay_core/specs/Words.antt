@@ -1,13 +1,7 @@
 -- Words that single blanks part: this server's own grammar.
-use Rattle.std.specs.Prelude.{◌≢◌, ◌==◌, ℕ, Bool, List, [], ◌∷◌, ◌++◌}
+use Rattle.std.specs.Prelude.{◌≢◌, ℕ, List, [], ◌∷◌, ◌++◌}
 use Rattle.std.specs.List.{AllByRecursion}
-
--- the blank, which parts the words of a line
-abbrev pub blank : ℕ
-blank = 0x20
-
-abbrev pub is_blank : ℕ → Bool
-is_blank byte = byte == blank
+use Rattle.fics_words.specs.Blank.{blank}
 
 -- no byte is a blank
 abbrev pub IsWord : List ℕ → Type 0

@@ -4,7 +4,7 @@ ghost use Rattle.std.specs.Prelude.{◌≡◌, ◌≢◌, ◌∷◌, IfOk, IfSom
 ghost use Rattle.fics_words.specs.Line.{IsLine};
 ghost use Rattle.clock_ledger.specs.Span.{IsStamp};
 ghost use Rattle.replay_core.specs.Script.{IsScriptEvent, IsScriptLine, event_text, script_text};
-ghost use Rattle.replay_core.specs.Words.{blank};
+ghost use Rattle.fics_words.specs.Blank.{blank};
 ghost use Rattle.replay_core.specs.declared.script.ScriptEvent.{ScriptEvent};
 
 use crate::words::cut_number;

@@ -4,7 +4,8 @@ ghost use Rattle.std.specs.Prelude.{◌≡◌, ◌≢◌, ◌↔◌, ◌∷◌, 
 ghost use Rattle.chess_model.specs.declared.variant.Terms.{Terms};
 ghost use Rattle.fics_words.specs.Handle.{IsHandle, key_of};
 ghost use Rattle.replay_core.specs.SeatLine.{AreDifferent, AreSeatTerms, IsSeatLine, NamesMayPlay, players_wanted, seat_text, terms_text};
-ghost use Rattle.replay_core.specs.Words.{blank, words_before};
+ghost use Rattle.fics_words.specs.Blank.{blank};
+ghost use Rattle.replay_core.specs.Words.{words_before};
 ghost use Rattle.replay_core.specs.declared.seat_line.SeatLine.{SeatLine};
 
 use crate::words::{cut_handle, cut_number};

@@ -2,7 +2,8 @@
 
 ghost use Rattle.std.specs.Prelude.{◌≡◌, ◌≢◌, ◌<◌, ◌≤◌, ◌∷◌, ◌++◌, ℕ, List, IfSome, IfNone, decimal, length, position};
 ghost use Rattle.fics_words.specs.Handle.{IsHandle};
-ghost use Rattle.replay_core.specs.Words.{IsWord, blank, is_blank};
+ghost use Rattle.fics_words.specs.Blank.{blank, is_blank};
+ghost use Rattle.replay_core.specs.Words.{IsWord};
 
 use fics_words::{Handle, read_number};
 

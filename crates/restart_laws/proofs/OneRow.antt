@@ -13,7 +13,7 @@ use Rattle.game_records.specs.Replays.{Replays}
 use Rattle.game_records.specs.Spelling.{IsSpelled, account_text, game_text, spelling}
 use Rattle.game_records.specs.declared.records.Record.TheVariants as a
 use Rattle.game_records.proofs.KeysBack.{one_game}
-use Rattle.lobby_shelf.specs.Numbers.{RiseAbove, game_in, has_number, stored_game}
+use Rattle.lobby_shelf.specs.Numbers.{RiseAbove, row_game, has_number, stored_game}
 use Rattle.lobby_shelf.specs.Wanted.{account_record, either_record, game_record, is_game_at, wanted}
 use Rattle.lobby_shelf.specs.declared.shelved.Shelved.{Shelved}
 use Rattle.lobby_shelf.proofs.Leading.{account_not_game, no_account, other_key, same_key, small_numbers}
@@ -83,7 +83,7 @@ under_number accounts games number fits rise =
 
 one_game_in : (one other : Option Shelved) → IfSome one (λ row. Replays row.game) → IfSome other IsOwn
     → game_record one ≡ game_record other
-    → game_in one ≡ game_in other
+    → row_game one ≡ row_game other
 one_game_in None None replays own e = refl
 one_game_in None (Some row) replays own e = absurd cc
 one_game_in (Some row) None replays own e = absurd cc

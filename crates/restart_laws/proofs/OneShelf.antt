@@ -3,19 +3,19 @@ use Rattle.std.proofs.Common.{◌≡◌, ℕ, ◌^◌, ◌<◌, ◌≤◌, ◌�
 use Rattle.std.specs.List.{find}
 use Rattle.std.proofs.lemmas.Bool.{eq-eqb, ne_eqb}
 use Rattle.game_records.specs.declared.stored_game.StoredGame.{StoredGame}
-use Rattle.lobby_shelf.specs.Numbers.{RiseAbove, game_in, has_number, stored_game}
+use Rattle.lobby_shelf.specs.Numbers.{RiseAbove, row_game, has_number, stored_game}
 use Rattle.lobby_shelf.specs.declared.shelved.Shelved.{Shelved}
 
 -- a game that is found first, and one that is no other's
 here : (row : Shelved) (games : List Shelved) (number : ℕ) → row.number ≡ number
     → stored_game (row ∷ games) number ≡ Some row.game
 here row games number same =
-    ap (λ t. game_in (cond t (Some row) (find (has_number number) games))) (eq-eqb row.number number same)
+    ap (λ t. row_game (cond t (Some row) (find (has_number number) games))) (eq-eqb row.number number same)
 
 there : (row : Shelved) (games : List Shelved) (number : ℕ) → (row.number ≡ number → ⊥)
     → stored_game (row ∷ games) number ≡ stored_game games number
 there row games number other =
-    ap (λ t. game_in (cond t (Some row) (find (has_number number) games))) (ne_eqb row.number number other)
+    ap (λ t. row_game (cond t (Some row) (find (has_number number) games))) (ne_eqb row.number number other)
 
 -- none has a number that lies below them all
 none_below : (low : ℕ) (games : List Shelved) (number : ℕ) → RiseAbove low games → number ≤ low

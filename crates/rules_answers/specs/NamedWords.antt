@@ -10,8 +10,8 @@ use Rattle.chess_model.specs.Allowed.{IsMove, IsSafeAfter, Allowed}
 use Rattle.chess_model.specs.Answer.{promotion_of, IsNamed}
 
 -- the word
-abbrev pub word_of : NamedWord → MoveWord
-word_of w = word.Named w.kind w.file w.rank w.to w.promo
+abbrev pub move_word_of : NamedWord → MoveWord
+move_word_of w = word.Named w.kind w.file w.rank w.to w.promo
 
 -- the move of the word from a
 abbrev pub move_from : Position → NamedWord → ℕ → Move

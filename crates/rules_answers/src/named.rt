@@ -2,7 +2,7 @@
 ghost use Rattle.std.specs.Prelude.{◌≡◌, ℕ, ◌<◌, ◌≤◌, ◌↔◌, IsTrue, IsFalse, ◌+◌, IfOk, IfErr, IfSome, IfNone};
 ghost use Rattle.chess_model.specs.Answer.{IsAsGiven, IsAnswer, IsRefusal};
 ghost use Rattle.chess_model.specs.Allowed.{Allowed};
-ghost use Rattle.rules_answers.specs.NamedWords.{word_of, move_from, IsOrigin, IsChoiceFrom, IsExposedFrom};
+ghost use Rattle.rules_answers.specs.NamedWords.{move_word_of, move_from, IsOrigin, IsChoiceFrom, IsExposedFrom};
 
 use crate::asked::AskedBoard;
 use crate::men::is_held_as_kind;
@@ -125,8 +125,8 @@ fn has_origin<B: AskedBoard>(board: &B, w: &NamedWord) -> bool
 /// The answer to a word with a kind and a target.
 #[tactic(auto, using(crate::proofs::NamedAnswers::named_leaves_king, crate::proofs::NamedAnswers::named_out_of_reach))]
 pub(crate) fn named_answer<B: AskedBoard>(board: &B, w: &NamedWord) -> Result<Move, Rejection>
-    ensures answered { IfOk result (IsAnswer (B.position board.now) (word_of w.now)) }
-    ensures refused { IfErr result (IsRefusal (B.position board.now) (word_of w.now)) }
+    ensures answered { IfOk result (IsAnswer (B.position board.now) (move_word_of w.now)) }
+    ensures refused { IfErr result (IsRefusal (B.position board.now) (move_word_of w.now)) }
 {
     match first_choice(board, w, 0) {
         Some(a) => match first_choice(board, w, a.number() + 1) {

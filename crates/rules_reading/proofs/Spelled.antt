@@ -10,8 +10,8 @@ use Rattle.chess_model.specs.declared.states.State.{State}
 use Rattle.chess_model.specs.declared.states.State.TheVariants.{Safe, Check, Mate, Stalemate}
 use Rattle.chess_model.specs.Squares.{file_of, rank_of}
 use Rattle.chess_model.specs.Allowed.{IsPromotion}
-use Rattle.move_reader.specs.Spellings.{Text, OneOf, MadeOf, Spells, square_names, man_letters, origin_files, origin_ranks, captures, marks, promotion_and, drop_letters}
-use Rattle.move_reader.specs.Reading.{file_of_letter, rank_of_digit, squared, leading_square, behind, is_empty, target_of, coordinate_from, coordinate_of, named_of, castle_of, drop_of, first_of_two, reading}
+use Rattle.move_reader.specs.Spellings.{Text, OneOf, MadeOf, Spells, square_names, man_letters, origin_files, origin_ranks, capture_marks, marks, promotion_and, drop_letters}
+use Rattle.move_reader.specs.Reading.{file_of_letter, rank_of_digit, squared, leading_square, behind_byte, is_empty, target_of, coordinate_from, coordinate_of, named_of, castle_of, drop_of, first_of_two, reading}
 use Rattle.move_reader.proofs.ByteMeanings.{OneOf-if, is_below, file_again, rank_again}
 use Rattle.move_reader.proofs.SpelledWords.{named-again, drop-again}
 use Rattle.move_writer.specs.Letters.{letter_of, file_letter, rank_digit, square_text}
@@ -42,7 +42,7 @@ rank_given : (marked : Bool) (a : ℕ) → a < 64
 rank_given true a h = OneOf-if (nat_lt (rank_of a) 8) ((49 + rank_of a) ∷ []) (is_below (rank_of a) 8 (omega arith))
 rank_given false a h = inl refl
 
-capture_given : (takes : Bool) → OneOf captures (only_if takes 120)
+capture_given : (takes : Bool) → OneOf capture_marks (only_if takes 120)
 capture_given true = inr (inl refl)
 capture_given false = inl refl
 
@@ -95,7 +95,7 @@ capital_first k (x ∷ rest) = ap (λ (o : Option ℕ). coordinate_from (squared
 capture_second : (f : ℕ) (rest : Text) → f < 8 → coordinate_of ((97 + f) ∷ 120 ∷ rest) ≡ None
 capture_second f rest h = ap (λ (o : Option ℕ). coordinate_from (squared o None rest)) (file_again f h)
 
-no_second : (promo : Option Kind) (s : State) → leading_square (behind 45 (ending promo (mark_text s))) ≡ None
+no_second : (promo : Option Kind) (s : State) → leading_square (behind_byte 45 (ending promo (mark_text s))) ≡ None
 no_second None Safe = refl
 no_second None Check = refl
 no_second None Mate = refl

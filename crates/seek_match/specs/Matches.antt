@@ -2,6 +2,7 @@
 use Rattle.std.specs.Prelude.{◌≡◌, ℕ, ◌==◌, Bool, false, not, ◌&&◌, ◌||◌, List, [], ◌∷◌, ◌++◌, Option, None, Some}
 use Rattle.std.specs.List.{filter, find, list_any}
 use Rattle.seek_match.specs.declared.challenge.Challenge.{Challenge}
+use Rattle.seek_match.specs.declared.challenge.ChallengeKey.{ChallengeKey}
 
 -- the challenge is by the first player to the second
 abbrev pub is_between : ℕ → ℕ → Challenge → Bool
@@ -27,6 +28,18 @@ without_between from to challenges = filter (λ challenge. not (is_between from 
 -- the challenge is by this player or to it
 abbrev pub concerns : ℕ → Challenge → Bool
 concerns who challenge = (challenge.from == who) || (challenge.to == who)
+
+-- whose challenge it is
+abbrev pub whose : Challenge → ChallengeKey
+whose challenge = record { from = challenge.from; to = challenge.to }
+
+-- a challenge stays that is neither by this player nor to it, or whose key passes the test
+abbrev pub stays : (ChallengeKey → Bool) → ℕ → ChallengeKey → Bool
+stays test who key = not ((key.from == who) || (key.to == who)) || test key
+
+-- there is a challenge by the first player to the second
+abbrev pub has_challenge : List Challenge → ℕ → ℕ → Bool
+has_challenge challenges from to = list_any (is_between from to) challenges
 
 -- the challenges without those by this player and to it
 abbrev pub without_challenges_of : ℕ → List Challenge → List Challenge

@@ -66,9 +66,9 @@ posting seeks by terms = record {
   after = insert seeks (next_number seeks - 1) (record { number = next_number seeks; by = by; terms = terms });
 }
 
--- removing: refused where the player has no such seek
-abbrev pub removing : List Seek → ℕ → Option ℕ → Effect (List Seek) ℕ
-removing seeks by number = record {
+-- withdrawing: refused where the player has no such seek
+abbrev pub withdrawing : List Seek → ℕ → Option ℕ → Effect (List Seek) ℕ
+withdrawing seeks by number = record {
   causes = (count_by (is_by by number) seeks == 0, NoSuchSeek) ∷ [];
   memory = false;
   reply = count_by (is_by by number) seeks;

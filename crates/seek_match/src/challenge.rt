@@ -1,6 +1,5 @@
 //! A challenge, and between whom it is.
-ghost use Rattle.std.specs.Prelude.{◌≡◌, ◌==◌, not};
-ghost use Rattle.seek_match.specs.Matches.{concerns};
+ghost use Rattle.std.specs.Prelude.{◌≡◌, ◌==◌, false, not};
 
 use chess_model::Terms;
 use collections::Predicate;
@@ -16,9 +15,9 @@ pub struct Challenge {
 
 /// Who challenges whom.
 #[derive(Clone, Copy, PartialEq, Eq, Hash)]
-pub(crate) struct ChallengeKey {
-    pub(crate) from: u32,
-    pub(crate) to: u32,
+pub struct ChallengeKey {
+    pub from: u32,
+    pub to: u32,
 }
 
 /// A challenge is found by whose it is.
@@ -57,14 +56,50 @@ impl Predicate<Challenge> for ByPlayer {
     }
 }
 
-/// A challenge that is neither by this player nor to it.
+/// No challenge, whosever it is.
 #[derive(Clone, Copy)]
-pub(crate) struct WithoutPlayer(pub(crate) u32);
+pub(crate) struct Nobodys;
 
-impl Predicate<Challenge> for WithoutPlayer {
-    ghost passes = { λ test challenge. not (concerns test.0 challenge) };
+impl Predicate<ChallengeKey> for Nobodys {
+    ghost passes = { λ _ _. false };
 
-    fn passes(&self, challenge: &Challenge) -> bool {
-        !(challenge.from == self.0 || challenge.to == self.0)
+    fn passes(&self, _key: &ChallengeKey) -> bool {
+        false
+    }
+}
+
+/// A player to whom the challenge of this one doesn't pass `test`.
+#[derive(Clone, Copy)]
+pub(crate) struct FailsTo<'a, P> {
+    pub(crate) from: u32,
+    pub(crate) test: &'a P,
+}
+
+impl<'a, P: Predicate<ChallengeKey>> Predicate<u32> for FailsTo<'a, P> {
+    ghost passes = { λ fails to. not (P.passes fails.test.now (record { from = fails.from; to = to })) };
+
+    fn passes(&self, to: &u32) -> bool {
+        !self.test.passes(&ChallengeKey {
+            from: self.from,
+            to: *to,
+        })
+    }
+}
+
+/// A player whose challenge to this one doesn't pass `test`.
+#[derive(Clone, Copy)]
+pub(crate) struct FailsFrom<'a, P> {
+    pub(crate) to: u32,
+    pub(crate) test: &'a P,
+}
+
+impl<'a, P: Predicate<ChallengeKey>> Predicate<u32> for FailsFrom<'a, P> {
+    ghost passes = { λ fails from. not (P.passes fails.test.now (record { from = from; to = fails.to })) };
+
+    fn passes(&self, from: &u32) -> bool {
+        !self.test.passes(&ChallengeKey {
+            from: *from,
+            to: self.to,
+        })
     }
 }

@@ -8,10 +8,11 @@
 mod challenge;
 mod laws;
 mod match_book;
+mod opponents;
 mod seek;
 mod seek_book;
 
-pub use challenge::Challenge;
+pub use challenge::{Challenge, ChallengeKey};
 pub use laws::next_number_is_least;
 pub use match_book::MatchBook;
 pub use seek::Seek;

@@ -36,7 +36,7 @@ impl SeekBook {
     ghost use Rattle.std.specs.Prelude.{◌≡◌, ◌<◌, [], length};
     ghost use Rattle.std.specs.List.{filter};
     ghost use Rattle.fics_words.specs.Effect.{Takes, answer_of, state_of};
-    ghost use Rattle.seek_match.specs.Seeks.{AreSeeks, posting, removing, seek_of, without_number, without_seeks_of};
+    ghost use Rattle.seek_match.specs.Seeks.{AreSeeks, posting, withdrawing, seek_of, without_number, without_seeks_of};
 
     /// No seeks; takes no memory.
     pub fn new(alloc: Global) -> SeekBook
@@ -80,8 +80,8 @@ impl SeekBook {
     /// Takes away this player's seek of that number, or without a number all seeks of this player, and gives how many
     /// it took away. Refuses with `NoSuchSeek` where there is none.
     pub fn remove(&mut self, by: u32, number: Option<u16>) -> Result<u16, Refusal>
-        ensures answer { result ≡ answer_of (removing self.old by number) }
-        ensures after { self.new ≡ state_of self.old (removing self.old by number) }
+        ensures answer { result ≡ answer_of (withdrawing self.old by number) }
+        ensures after { self.new ≡ state_of self.old (withdrawing self.old by number) }
     {
         let count = count_by(self.rows.as_slice(), by, number);
         if count == 0 {

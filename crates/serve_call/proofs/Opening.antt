@@ -1,5 +1,5 @@
 -- A hall that opened with what was loaded, and what was promised of it from the load on.
-use Rattle.std.proofs.Common.{◌≡◌, ℕ, inl, inr, Bool, List, [], take, refl, sym, ap, subst, ◌∙◌}
+use Rattle.std.proofs.Common.{◌≡◌, ℕ, ◌⊎◌, inl, inr, Bool, List, [], take, refl, sym, ap, subst, ◌∙◌}
 use Rattle.std.specs.Prelude.{IfSome, slice_get}
 use Rattle.std.specs.declared.option.Option.{Option}
 use Rattle.std.specs.declared.option.Option.TheVariants.{None, Some}
@@ -30,13 +30,17 @@ use Rattle.one_server.specs.House.{house}
 use Rattle.one_server.specs.Whole.{opened_server}
 use Rattle.hall_core.specs.Passes.{PassState}
 use Rattle.steward_core.proofs.StatesLead.{one_lobby}
+use Rattle.serve_turn.specs.Stopping.{serving_status}
 use Rattle.serve_turn.specs.declared.end.ServeEnd.{ServeEnd}
+use Rattle.serve_turn.specs.declared.end.ServeEnd.TheVariants.{DoorFault, WriteFault}
 use Rattle.steward_core.specs.declared.turn.StewardEnd.{StewardEnd}
-use Rattle.serve_call.specs.Opening.{IsLoaded}
+use Rattle.serve_call.specs.Opening.{HasServedFrom, IsLoaded}
+use Rattle.serve_core.specs.Ends.{EndsServing}
 use Rattle.serve_core.specs.Serving.{AgreesIn, HasServedAll, TellsAgreed}
-use Rattle.serve_core.specs.Text.{Says, SaysText, ready_text}
+use Rattle.serve_core.specs.Text.{Says, SaysText, ready_text, whole_text}
 use Rattle.serve_core.specs.Outside.{Sheet}
 use Rattle.edge_traits.specs.Calls.{Store}
+use Rattle.cmd_lines.proofs.Rounds.{Rose-since}
 
 -- ---- nothing was written at the load
 
@@ -96,22 +100,6 @@ agrees_from (Some table) None now opening parts stays p = absurd stays
 agrees_from (Some table) (Some table') now opening parts stays p =
     subst (λ (t : Records). AgreesIn t opening → TellsAgreed now parts) stays p
 
--- what was promised once the hall was open is promised from before the load on
-pub served_from : (shows : ℕ → Bool) (opening : List Part) (end : ServeEnd) (door : Option DoorTale)
-    (before mid later : Sheet) (loaded new : Store) (pass : PassState)
-    → Appends before.written mid.written [] → mid.faults ≡ before.faults
-    → HasServedAll shows opening end door mid later loaded new pass
-    → HasServedAll shows opening end door before later loaded new pass
-served_from shows opening end door before mid later loaded new pass none same p =
-    record {
-      last = p.last;
-      hall = p.hall;
-      links = p.links;
-      steward = p.steward;
-      store = p.store;
-      text = text_from end p.last before mid later none same pass.short pass.splits door p.text;
-    }
-
 -- ---- what was loaded agrees
 
 first_part : (lobby : LobbyState) → slice_get (opened_server lobby) 0 ≡ Some (TheLobby lobby)
@@ -146,11 +134,66 @@ table_agrees shows lobby end door before later old loaded new pass loads p =
     agreed_by old.table new.table lobby pass.opening parts loads.opening loads.holds p.hall.opens
     (agrees_from old.table loaded.table new.table pass.opening parts loads.stays p.store)
 
+-- ---- what was promised once the hall was open is promised from before the load on
+
+-- the load of a store that was opened: this lobby was loaded, and nothing was written
+pub record Opens (lobby : LobbyState) (old loaded : Store) (before mid : Sheet) : Type 0 where
+  pub loads : IsLoaded old loaded lobby
+  pub silent : Appends before.written mid.written []
+  pub calm : mid.faults ≡ before.faults
+
+module _ {lobby : LobbyState} {old loaded : Store} {before mid : Sheet}
+    (opens : Opens lobby old loaded before mid) where
+  served_on : {shows : ℕ → Bool} {end : ServeEnd} {door : Option DoorTale} {later : Sheet} {new : Store}
+      {pass : PassState}
+      → HasServedAll shows (opened_server lobby) end door mid later loaded new pass
+      → HasServedAll shows (opened_server lobby) end door before later loaded new pass
+  served_on {end} {door} {later} {pass} p =
+      record {
+        last = p.last;
+        hall = p.hall;
+        links = p.links;
+        steward = p.steward;
+        store = p.store;
+        text = text_from end p.last before mid later opens.silent opens.calm pass.short pass.splits door p.text;
+      }
+
+  pub has_served : {shows : ℕ → Bool} {status : ℕ} {end : ServeEnd} {door : Option DoorTale} {later : Sheet}
+      {new : Store} {pass : PassState}
+      → status ≡ serving_status end → HasServedAll shows (opened_server lobby) end door mid later loaded new pass
+      → HasServedFrom shows status door before later old new pass
+  has_served {end} ends p = (lobby, loaded, opens.loads, end, ends, served_on p)
+
+  pub leaves_agreed : {shows : ℕ → Bool} {end : ServeEnd} {door : Option DoorTale} {later : Sheet} {new : Store}
+      {pass : PassState}
+      → HasServedAll shows (opened_server lobby) end door mid later loaded new pass
+      → IfSome old.table (λ table. TellsAgreed new.table (state house pass.opening pass.seen))
+  leaves_agreed {shows} {end} {door} {later} {new} {pass} p =
+      table_agrees shows lobby end door before later old loaded new pass opens.loads (served_on p)
+
+  pub ends_on : {end : ServeEnd} {door door' : ℕ} {later : Sheet} {new : Store}
+      → EndsServing end door door' mid later loaded new → EndsServing end door door' before later old new
+  ends_on {end} {later} {new} p =
+      let sink : Rose mid.faults later.faults → Rose before.faults later.faults =
+      subst (λ n. Rose n later.faults) opens.calm in
+      let keeper = Rose-since old.faults loaded.faults new.faults opens.loads.counted in
+      record {
+        door_fault = p.door_fault;
+        write_fault = λ e. sink (p.write_fault e);
+        keeper_fault = λ e. keeper (p.keeper_fault e);
+        write_told =
+            subst (λ n. (later.faults ≡ n) ⊎ ((end ≡ WriteFault) ⊎ (end ≡ DoorFault))) opens.calm p.write_told;
+        complete = λ door none_written none_kept.
+            p.complete door (λ rose. none_written (sink rose)) (λ rose. none_kept (keeper rose));
+        text = λ clean. appends_from before.written mid.written later.written opens.silent whole_text (p.text clean);
+        text_part = front_from before.written mid.written later.written opens.silent whole_text p.text_part;
+      }
+
 -- ---- a hall, if there is one
 
-pub some_as : {H : Type 0} (o : Option H) (P Q : H → Type 0) → ((h : H) → P h → Q h) → IfSome o P → IfSome o Q
-some_as None P Q f p = tt
-some_as (Some h) P Q f p = f h p
+pub some_as : {H : Type 0} (o : Option H) (P Q : H → Type 0) → IfSome o P → ((h : H) → P h → Q h) → IfSome o Q
+some_as None P Q p f = tt
+some_as (Some h) P Q p f = f h p
 
 -- the load of a store that was opened
 pub load_done : (old new : Calls) → LoadsOnce old new (λ answer. answer ≡ Done) → new ≡ noted old Load Done

@@ -20,7 +20,7 @@ use Rattle.lobby_load.specs.declared.refusals.StoreFault.{StoreFault}
 use Rattle.lobby_load.specs.declared.refusals.StoreFault.TheVariants as unopened
 use Rattle.lobby_state.specs.Lobby.{LobbyState}
 use Rattle.lobby_load.specs.Refused.{unopened_status}
-use Rattle.serve_call.specs.ServeEnds.{EndsCall, Counts, OneRose}
+use Rattle.serve_call.specs.ServeEnds.{EndsCall}
 use Rattle.serve_call.specs.Opening.{StaysUnopened}
 use Rattle.serve_core.specs.Outside.{Sheet}
 use Rattle.edge_traits.specs.Calls.{Store}
@@ -141,17 +141,11 @@ usage_front written written' status (inl p) =
     (length usage_line, subst (λ (bs : List ℕ). Appends written written' bs) (sym (take-length usage_line)) p.1)
 usage_front written written' status (inr p) = p.1
 
--- the sink counted no fault, unless a fault of the last write is told, or one of the door, as from before the load on
-pub told_from : (before mid after : ℕ) (end : ServeEnd) → mid ≡ before
-    → (after ≡ mid) ⊎ ((end ≡ WriteFault) ⊎ (end ≡ DoorFault))
-    → (after ≡ before) ⊎ ((end ≡ WriteFault) ⊎ (end ≡ DoorFault))
-told_from before mid after end same (inl e) = inl (e ∙ same)
-told_from before mid after end same (inr f) = inr f
-
-status_told : (end : ServeEnd) → (end ≡ WriteFault) ⊎ (end ≡ DoorFault)
-    → (serving_status end ≡ 3) ⊎ (serving_status end ≡ 8)
-status_told end (inl e) = inl (ap serving_status e)
-status_told end (inr e) = inr (ap serving_status e)
+status_told : {same : Type 0} (end : ServeEnd) → same ⊎ ((end ≡ WriteFault) ⊎ (end ≡ DoorFault))
+    → same ⊎ ((serving_status end ≡ 3) ⊎ (serving_status end ≡ 8))
+status_told end (inl e) = inl e
+status_told end (inr (inl e)) = inr (inl (ap serving_status e))
+status_told end (inr (inr e)) = inr (inr (ap serving_status e))
 
 -- ---- a call that opened a hall, or none
 
@@ -161,93 +155,46 @@ pub first_bad : (told : Option Records) (key : List ℕ) → IsFirstBad told key
 first_bad None key first = tt
 first_bad (Some table) key first = λ good. good.none_bad key first.bad
 
-module _ (old new : Store) (before after : Sheet) (door door' : ℕ) where
-  abbrev pub counts : Counts
-  counts = record { door = door; sink = before.faults; keeper = old.faults }
+unopened_write : (fault : StoreFault) → unopened_status fault ≡ 3 → fault ≡ unopened.WriteFault
+unopened_write unopened.WriteFault e = refl
+unopened_write unopened.KeeperFault e = absurd (omega (arith, e))
+unopened_write unopened.BadRecord e = absurd (omega (arith, e))
+unopened_write unopened.Memory e = absurd (omega (arith, e))
 
-  abbrev pub counts' : Counts
-  counts' = record { door = door'; sink = after.faults; keeper = new.faults }
+unopened_keeper : (fault : StoreFault) → unopened_status fault ≡ 4 → fault ≡ unopened.KeeperFault
+unopened_keeper unopened.WriteFault e = absurd (omega (arith, e))
+unopened_keeper unopened.KeeperFault e = refl
+unopened_keeper unopened.BadRecord e = absurd (omega (arith, e))
+unopened_keeper unopened.Memory e = absurd (omega (arith, e))
 
-  unopened_write : (fault : StoreFault) → unopened_status fault ≡ 3 → fault ≡ unopened.WriteFault
-  unopened_write unopened.WriteFault e = refl
-  unopened_write unopened.KeeperFault e = absurd (omega (arith, e))
-  unopened_write unopened.BadRecord e = absurd (omega (arith, e))
-  unopened_write unopened.Memory e = absurd (omega (arith, e))
+unopened_bad : (fault : StoreFault) → unopened_status fault ≡ 5 → fault ≡ unopened.BadRecord
+unopened_bad unopened.WriteFault e = absurd (omega (arith, e))
+unopened_bad unopened.KeeperFault e = absurd (omega (arith, e))
+unopened_bad unopened.BadRecord e = refl
+unopened_bad unopened.Memory e = absurd (omega (arith, e))
 
-  unopened_keeper : (fault : StoreFault) → unopened_status fault ≡ 4 → fault ≡ unopened.KeeperFault
-  unopened_keeper unopened.WriteFault e = absurd (omega (arith, e))
-  unopened_keeper unopened.KeeperFault e = refl
-  unopened_keeper unopened.BadRecord e = absurd (omega (arith, e))
-  unopened_keeper unopened.Memory e = absurd (omega (arith, e))
+unopened_else : (fault : StoreFault)
+    → (unopened_status fault ≡ 1)
+    ⊎ ((unopened_status fault ≡ 8) ⊎ ((unopened_status fault ≡ 0) ⊎ (unopened_status fault ≡ 9)))
+    → ⊥
+unopened_else unopened.WriteFault e = omega (arith, e)
+unopened_else unopened.KeeperFault e = omega (arith, e)
+unopened_else unopened.BadRecord e = omega (arith, e)
+unopened_else unopened.Memory e = omega (arith, e)
 
-  unopened_bad : (fault : StoreFault) → unopened_status fault ≡ 5 → fault ≡ unopened.BadRecord
-  unopened_bad unopened.WriteFault e = absurd (omega (arith, e))
-  unopened_bad unopened.KeeperFault e = absurd (omega (arith, e))
-  unopened_bad unopened.BadRecord e = refl
-  unopened_bad unopened.Memory e = absurd (omega (arith, e))
+unopened_listed : (fault : StoreFault) → AllStatuses (unopened_status fault)
+unopened_listed unopened.WriteFault = (2, omega arith, refl)
+unopened_listed unopened.KeeperFault = (3, omega arith, refl)
+unopened_listed unopened.BadRecord = (4, omega arith, refl)
+unopened_listed unopened.Memory = (5, omega arith, refl)
 
-  unopened_else : (fault : StoreFault)
-      → (unopened_status fault ≡ 1)
-      ⊎ ((unopened_status fault ≡ 8) ⊎ ((unopened_status fault ≡ 0) ⊎ (unopened_status fault ≡ 9)))
-      → ⊥
-  unopened_else unopened.WriteFault e = omega (arith, e)
-  unopened_else unopened.KeeperFault e = omega (arith, e)
-  unopened_else unopened.BadRecord e = omega (arith, e)
-  unopened_else unopened.Memory e = omega (arith, e)
-
-  unopened_listed : (fault : StoreFault) → AllStatuses (unopened_status fault)
-  unopened_listed unopened.WriteFault = (2, omega arith, refl)
-  unopened_listed unopened.KeeperFault = (3, omega arith, refl)
-  unopened_listed unopened.BadRecord = (4, omega arith, refl)
-  unopened_listed unopened.Memory = (5, omega arith, refl)
-
-  unopened_calm : (fault : StoreFault) → StaysUnopened fault old new before after → (OneRose counts counts' → ⊥)
-      → CalmStatuses (unopened_status fault)
-  unopened_calm unopened.WriteFault p calm = absurd (calm (inr (inl (p.write_fault refl))))
-  unopened_calm unopened.KeeperFault p calm = absurd (calm (inr (inr (p.keeper_fault refl))))
-  unopened_calm unopened.BadRecord p calm = (1, omega arith, refl)
-  unopened_calm unopened.Memory p calm = (2, omega arith, refl)
-
-  pub call_write : (status : ℕ) → EndsCall status old new before after counts counts' → status ≡ 3
-      → Rose before.faults after.faults
-  call_write status (inl (fault, is, p)) e = p.write_fault (unopened_write fault (sym is ∙ e))
-  call_write status (inr (end, is, p)) e = p.write_fault (is_write_fault end (sym is ∙ e))
-
-  pub call_keeper : (status : ℕ) → EndsCall status old new before after counts counts' → status ≡ 4
-      → Rose old.faults new.faults
-  call_keeper status (inl (fault, is, p)) e = p.keeper_fault (unopened_keeper fault (sym is ∙ e))
-  call_keeper status (inr (end, is, p)) e = p.keeper_fault (is_keeper_fault end (sym is ∙ e))
-
-  pub call_door : (status : ℕ) → EndsCall status old new before after counts counts' → status ≡ 8 → Rose door door'
-  call_door status (inl (fault, is, p)) e = absurd (unopened_else fault (inr (inl (sym is ∙ e))))
-  call_door status (inr (end, is, p)) e = p.door_fault (is_door_fault end (sym is ∙ e))
-
-  pub call_usage : (status : ℕ) → EndsCall status old new before after counts counts' → status ≡ 1 → ⊥
-  call_usage status (inl (fault, is, p)) e = unopened_else fault (inl (sym is ∙ e))
-  call_usage status (inr (end, is, p)) e = is_no_usage end (sym is ∙ e)
-
-  pub call_text : (status : ℕ) → EndsCall status old new before after counts counts' → (status ≡ 0) ⊎ (status ≡ 9)
-      → Appends before.written after.written whole_text
-  call_text status (inl (fault, is, p)) (inl e) = absurd (unopened_else fault (inr (inr (inl (sym is ∙ e)))))
-  call_text status (inl (fault, is, p)) (inr e) = absurd (unopened_else fault (inr (inr (inr (sym is ∙ e)))))
-  call_text status (inr (end, is, p)) (inl e) = p.text (is_whole end (inl (sym is ∙ e)))
-  call_text status (inr (end, is, p)) (inr e) = p.text (is_whole end (inr (sym is ∙ e)))
-
-  pub call_bad : (status : ℕ) → EndsCall status old new before after counts counts' → status ≡ 5
-      → (key : List ℕ) × IsFirstBad old.table key × Appends before.written after.written (bad_record_line key)
-  call_bad status (inl (fault, is, p)) e =
-      subst (λ (f : StoreFault). TellsBadRecord {A = LobbyState} old.table before.written after.written (Err f))
-      (unopened_bad fault (sym is ∙ e)) p.wrote
-  call_bad status (inr (end, is, p)) e = absurd (is_no_bad_record end (sym is ∙ e))
-
-  pub call_listed : (status : ℕ) → EndsCall status old new before after counts counts' → AllStatuses status
-  call_listed status (inl (fault, is, p)) = subst AllStatuses (sym is) (unopened_listed fault)
-  call_listed status (inr (end, is, p)) = subst AllStatuses (sym is) (is_listed end)
-
-  pub call_calm : (status : ℕ) → EndsCall status old new before after counts counts' → (OneRose counts counts' → ⊥)
-      → CalmStatuses status
-  call_calm status (inl (fault, is, p)) calm = subst CalmStatuses (sym is) (unopened_calm fault p calm)
-  call_calm status (inr (end, is, p)) calm = subst CalmStatuses (sym is) (is_complete end (p.complete calm))
+module _ {before after : Sheet} {old new : Store} where
+  unopened_calm : (fault : StoreFault) → StaysUnopened fault old new before after → ¬ Rose before.faults after.faults
+      → ¬ Rose old.faults new.faults → CalmStatuses (unopened_status fault)
+  unopened_calm unopened.WriteFault p sink keeper = absurd (sink (p.write_fault refl))
+  unopened_calm unopened.KeeperFault p sink keeper = absurd (keeper (p.keeper_fault refl))
+  unopened_calm unopened.BadRecord p sink keeper = (1, omega arith, refl)
+  unopened_calm unopened.Memory p sink keeper = (2, omega arith, refl)
 
   unopened_told : (fault : StoreFault) → StaysUnopened fault old new before after
       → (after.faults ≡ before.faults) ⊎ ((unopened_status fault ≡ 3) ⊎ (unopened_status fault ≡ 8))
@@ -256,23 +203,54 @@ module _ (old new : Store) (before after : Sheet) (door door' : ℕ) where
   unopened_told unopened.BadRecord p = inl p.write_calm
   unopened_told unopened.Memory p = inl p.write_calm
 
-  served_told : (end : ServeEnd) → (after.faults ≡ before.faults) ⊎ ((end ≡ WriteFault) ⊎ (end ≡ DoorFault))
-      → (after.faults ≡ before.faults) ⊎ ((serving_status end ≡ 3) ⊎ (serving_status end ≡ 8))
-  served_told end (inl e) = inl e
-  served_told end (inr f) = inr (status_told end f)
+module _ {status door door' : ℕ} {before after : Sheet} {old new : Store} where
+  pub call_write : EndsCall status door door' before after old new → status ≡ 3 → Rose before.faults after.faults
+  call_write (inl (fault, is, p)) e = p.write_fault (unopened_write fault (sym is ∙ e))
+  call_write (inr (end, is, p)) e = p.write_fault (is_write_fault end (sym is ∙ e))
 
-  abbrev pub IsWriteTold : ℕ → Type 0
-  IsWriteTold status = (after.faults ≡ before.faults) ⊎ ((status ≡ 3) ⊎ (status ≡ 8))
+  pub call_keeper : EndsCall status door door' before after old new → status ≡ 4 → Rose old.faults new.faults
+  call_keeper (inl (fault, is, p)) e = p.keeper_fault (unopened_keeper fault (sym is ∙ e))
+  call_keeper (inr (end, is, p)) e = p.keeper_fault (is_keeper_fault end (sym is ∙ e))
 
-  pub call_told : (status : ℕ) → EndsCall status old new before after counts counts' → IsWriteTold status
-  call_told status (inl (fault, is, p)) = subst IsWriteTold (sym is) (unopened_told fault p)
-  call_told status (inr (end, is, p)) = subst IsWriteTold (sym is) (served_told end p.write_told)
+  pub call_door : EndsCall status door door' before after old new → status ≡ 8 → Rose door door'
+  call_door (inl (fault, is, p)) e = absurd (unopened_else fault (inr (inl (sym is ∙ e))))
+  call_door (inr (end, is, p)) e = p.door_fault (is_door_fault end (sym is ∙ e))
 
-  pub call_good : (status : ℕ) → EndsCall status old new before after counts counts' → status ≡ 5
+  pub call_usage : EndsCall status door door' before after old new → status ≡ 1 → ⊥
+  call_usage (inl (fault, is, p)) e = unopened_else fault (inl (sym is ∙ e))
+  call_usage (inr (end, is, p)) e = is_no_usage end (sym is ∙ e)
+
+  pub call_text : EndsCall status door door' before after old new → (status ≡ 0) ⊎ (status ≡ 9)
+      → Appends before.written after.written whole_text
+  call_text (inl (fault, is, p)) (inl e) = absurd (unopened_else fault (inr (inr (inl (sym is ∙ e)))))
+  call_text (inl (fault, is, p)) (inr e) = absurd (unopened_else fault (inr (inr (inr (sym is ∙ e)))))
+  call_text (inr (end, is, p)) (inl e) = p.text (is_whole end (inl (sym is ∙ e)))
+  call_text (inr (end, is, p)) (inr e) = p.text (is_whole end (inr (sym is ∙ e)))
+
+  pub call_bad : EndsCall status door door' before after old new → status ≡ 5
+      → (key : List ℕ) × IsFirstBad old.table key × Appends before.written after.written (bad_record_line key)
+  call_bad (inl (fault, is, p)) e =
+      subst (λ (f : StoreFault). TellsBadRecord {A = LobbyState} old.table before.written after.written (Err f))
+      (unopened_bad fault (sym is ∙ e)) p.wrote
+  call_bad (inr (end, is, p)) e = absurd (is_no_bad_record end (sym is ∙ e))
+
+  pub call_good : EndsCall status door door' before after old new → status ≡ 5
       → IfSome old.table (λ table. IsGoodStore table → ⊥)
-  call_good status ends e = let bad = call_bad status ends e in first_bad old.table bad.0 bad.1
+  call_good ends e = let bad = call_bad ends e in first_bad old.table bad.0 bad.1
 
-pub one_rose : {one two three : Type 0} → (one → ⊥) → (two → ⊥) → (three → ⊥) → one ⊎ (two ⊎ three) → ⊥
-one_rose f g h (inl p) = f p
-one_rose f g h (inr (inl p)) = g p
-one_rose f g h (inr (inr p)) = h p
+  pub call_listed : EndsCall status door door' before after old new → AllStatuses status
+  call_listed (inl (fault, is, p)) = subst AllStatuses (sym is) (unopened_listed fault)
+  call_listed (inr (end, is, p)) = subst AllStatuses (sym is) (is_listed end)
+
+  pub call_calm : EndsCall status door door' before after old new → ¬ Rose door door'
+      → ¬ Rose before.faults after.faults → ¬ Rose old.faults new.faults → CalmStatuses status
+  call_calm (inl (fault, is, p)) calm sink keeper = subst CalmStatuses (sym is) (unopened_calm fault p sink keeper)
+  call_calm (inr (end, is, p)) calm sink keeper =
+      subst CalmStatuses (sym is) (is_complete end (p.complete calm sink keeper))
+
+  pub call_told : EndsCall status door door' before after old new
+      → (after.faults ≡ before.faults) ⊎ ((status ≡ 3) ⊎ (status ≡ 8))
+  call_told (inl (fault, is, p)) =
+      subst (λ n. (after.faults ≡ before.faults) ⊎ ((n ≡ 3) ⊎ (n ≡ 8))) (sym is) (unopened_told fault p)
+  call_told (inr (end, is, p)) =
+      subst (λ n. (after.faults ≡ before.faults) ⊎ ((n ≡ 3) ⊎ (n ≡ 8))) (sym is) (status_told end p.write_told)

@@ -8,14 +8,15 @@ use Rattle.std.proofs.KnownBytes.{Appends-nil}
 use Rattle.edge_traits.specs.Faults.{Rose}
 use Rattle.edge_traits.specs.Keeper.{Stays}
 use Rattle.edge_traits.specs.Pairs.{Records}
-use Rattle.edge_traits.specs.declared.keeper.Kept.{Kept}
-use Rattle.edge_traits.specs.declared.keeper.Kept.TheVariants.{Done, Failed}
+use Rattle.edge_traits.specs.declared.keeper.Kept.TheVariants.{Done}
 use Rattle.lobby_load.specs.Calling.{FailsAt, LoadsOnce}
-use Rattle.lobby_load.specs.Refused.{OnReadFault, OnWriteFault, UnlessWriteFault, unopened_status}
+use Rattle.lobby_load.specs.Refused.{OnReadFault, OnWriteFault, UnlessWriteFault}
 use Rattle.lobby_load.specs.Telling.{TellsBadRecord}
 use Rattle.lobby_load.specs.declared.refusals.StoreFault.{StoreFault}
 use Rattle.lobby_load.specs.declared.refusals.StoreFault.TheVariants as unopened
-use Rattle.serve_call.specs.Opening.{CallsUnopened, StaysUnopened}
+use Rattle.serve_call.proofs.Opening.{Opens}
+use Rattle.serve_call.specs.Opening.{CallsUnopened, IsUnopened, StaysUnopened}
+use Rattle.serve_core.specs.Ends.{EndsServing}
 use Rattle.lobby_state.specs.Lobby.{LobbyState}
 use Rattle.serve_core.specs.Outside.{Sheet}
 use Rattle.edge_traits.specs.Calls.{Calls, Store}
@@ -33,40 +34,32 @@ nothing_written (Some x) None new none kept = absurd none
 nothing_written (Some x) (Some y) None none kept = absurd kept
 nothing_written (Some x) (Some y) (Some z) none kept = kept ∙ none
 
-stays_so : (old loaded new : Option Records) → Stays old loaded → new ≡ loaded → Stays old new
-stays_so old loaded new stays same = subst (Stays old) (sym same) stays
-
 no_fault : (end : ServeEnd) (before mid later : ℕ) → end ≡ Memory → mid ≡ before
     → (later ≡ mid) ⊎ ((end ≡ WriteFault) ⊎ (end ≡ DoorFault)) → later ≡ before
 no_fault end before mid later is same (inl e) = e ∙ same
 no_fault end before mid later is same (inr (inl e)) = (let bad : Memory ≡ WriteFault = sym is ∙ e in cc)
 no_fault end before mid later is same (inr (inr e)) = (let bad : Memory ≡ DoorFault = sym is ∙ e in cc)
 
-no_failure : (answer : Kept) → answer ≡ Done → answer ≡ Failed → ⊥
-no_failure answer done failed = (let bad : Done ≡ Failed = sym done ∙ failed in cc)
-
 -- what was promised of no hall is promised from before the load on
-pub none_opened : {H : Type 0} (hall : Option H) (end : ServeEnd) (status : ℕ) (old loaded new : Store)
-    (before mid later : Sheet)
-    → status ≡ serving_status end → Appends before.written mid.written [] → mid.faults ≡ before.faults
-    → Stays old.table loaded.table
-    → LoadsOnce old.calls loaded.calls (λ answer. answer ≡ Done)
+pub none_opened : {H : Type 0} {lobby : LobbyState} {old loaded new : Store} {before mid later : Sheet}
+    {end : ServeEnd} {door door' status : ℕ} (hall : Option H)
+    → Opens lobby old loaded before mid → status ≡ serving_status end
+    → EndsServing end door door' mid later loaded new
     → IfNone hall ((end ≡ Memory) × Keeps mid.written later.written) → IfNone hall (new ≡ loaded)
-    → (later.faults ≡ mid.faults) ⊎ ((end ≡ WriteFault) ⊎ (end ≡ DoorFault))
-    → IfNone hall ((fault : StoreFault) × (status ≡ unopened_status fault) × StaysUnopened fault old new before later)
-none_opened None end status old loaded new before mid later ends none same stays called p kept told = (
+    → IfNone hall (IsUnopened status old new before later)
+none_opened {old} {loaded} {new} {before} {mid} {later} {end} None opens ends serves p kept = (
   unopened.Memory,
   ends ∙ ap serving_status p.0,
   record {
-    wrote = inl (nothing_written before.written mid.written later.written none p.1);
+    wrote = inl (nothing_written before.written mid.written later.written opens.silent p.1);
     keeper_fault = λ e. cc;
     write_fault = λ e. cc;
-    write_calm = no_fault end before.faults mid.faults later.faults p.0 same told;
-    table = stays_so old.table loaded.table new.table stays (ap (λ (s : Store). s.table) kept);
-    called = inr (called.0, ap (λ (s : Store). s.calls) kept ∙ called.1, no_failure called.0 called.2);
+    write_calm = no_fault end before.faults mid.faults later.faults p.0 opens.calm serves.write_told;
+    table = subst (Stays old.table) (sym (ap (λ (s : Store). s.table) kept)) opens.loads.stays;
+    called = inr (Done, ap (λ (s : Store). s.calls) kept ∙ opens.loads.called, λ failed. cc);
   },
 )
-none_opened (Some h) end status old loaded new before mid later ends none same stays called p kept told = tt
+none_opened (Some h) opens ends serves p kept = tt
 
 -- a store that wasn't opened
 calls_unopened : (fault : StoreFault) (old new : Calls) → LoadsOnce old new (FailsAt fault)

@@ -142,12 +142,10 @@ where
         (store_of P.table P.faults P.calls keeper.old)
         (store_of P.table P.faults P.calls keeper.new)
         (sheet_of K.written K.faults sink.old) (sheet_of K.written K.faults sink.new)) }
-    ensures ends { EndsCall result.0
-        (store_of P.table P.faults P.calls keeper.old)
-        (store_of P.table P.faults P.calls keeper.new)
+    ensures ends { EndsCall result.0 (D.faults door.old) (D.faults door.new)
         (sheet_of K.written K.faults sink.old) (sheet_of K.written K.faults sink.new)
-        (record { door = D.faults door.old; sink = K.faults sink.old; keeper = P.faults keeper.old })
-        (record { door = D.faults door.new; sink = K.faults sink.new; keeper = P.faults keeper.new }) }
+        (store_of P.table P.faults P.calls keeper.old)
+        (store_of P.table P.faults P.calls keeper.new) }
     ensures text_part { IfSome result.1 (λ h. AppendsFront (K.written sink.old) (K.written sink.new) whole_text) }
     ensures keeper_counted { P.faults keeper.old ≤ P.faults keeper.new }
 {

@@ -1,5 +1,5 @@
 -- What is promised of the hall that is given back, once the last turn was made.
-use Rattle.std.proofs.Common.{◌≡◌, ℕ, ◌+◌, ◌<◌, ◌≤◌, ◌⊎◌, inl, inr, Bool, true, List, [], ◌++◌, length, map, refl, sym, ap, subst, ◌∙◌, arith}
+use Rattle.std.proofs.Common.{◌≡◌, ◌≢◌, ℕ, ◌+◌, ◌<◌, ◌≤◌, ◌⊎◌, inl, inr, Bool, true, List, [], ◌++◌, length, map, refl, sym, ap, subst, ◌∙◌, arith}
 use Rattle.std.specs.Prelude.{IfSome}
 use Rattle.std.specs.declared.option.Option.{Option}
 use Rattle.std.specs.declared.option.Option.TheVariants.{None, Some}
@@ -8,6 +8,8 @@ use Rattle.atomic_table.specs.Seated.{TableId}
 use Rattle.edge_traits.specs.Faults.{Rose}
 use Rattle.edge_traits.specs.Door.{DoorTale}
 use Rattle.edge_traits.specs.Pairs.{Records}
+use Rattle.edge_traits.specs.declared.sink.Sent.{Sent}
+use Rattle.edge_traits.specs.declared.sink.Sent.TheVariants as sent
 use Rattle.histories.specs.History.{calls_of, state}
 use Rattle.turn_table.specs.declared.view.Joined.{Joined}
 use Rattle.turn_table.specs.Views.{In, joined_number}
@@ -25,24 +27,29 @@ use Rattle.steward_core.proofs.AgreedStill.{agreed_then, agreed_unsaved}
 use Rattle.one_server.proofs.Made.{made_then}
 use Rattle.session_laws.specs.WhoSaves.{OthersServe}
 use Rattle.session_laws.proofs.OfHistories.{others_never_save}
+use Rattle.serve_turn.specs.Stopping.{end_of, is_short}
+use Rattle.serve_turn.specs.declared.end.DoorEnd.TheVariants as door_end
 use Rattle.serve_turn.specs.declared.end.ServeEnd.{ServeEnd}
 use Rattle.serve_turn.specs.declared.supply.Supply.{Supply}
 use Rattle.serve_turn.specs.declared.supply.Supply.TheVariants.{Enough, Short}
+use Rattle.serve_core.specs.Ends.{EndsServing}
 use Rattle.serve_core.specs.Keeping.{Underway}
 use Rattle.serve_core.specs.Sessions.{CameAs, CameBack, HadSession}
 use Rattle.serve_core.specs.Serving.{AgreesIn, EachHadSession, HasOneHistory, HasServedAll, IsUnused, TellsAgreed}
-use Rattle.serve_core.specs.Text.{SaysText}
+use Rattle.serve_core.specs.Text.{Says, SaysText, ready_text}
 use Rattle.serve_core.specs.Outside.{Sheet}
 use Rattle.edge_traits.specs.Calls.{Store}
 use Rattle.serve_core.specs.Stewarding.{AreTurns, HasTended, MayEnd}
 use Rattle.serve_core.specs.Tending.{GivesQuiets, Tended, stand}
 use Rattle.serve_turn.specs.Turns.{TurnsLast}
 use Rattle.serve_core.proofs.Among.{in_map_from}
-use Rattle.serve_core.proofs.Keeping.{served_then}
+use Rattle.serve_core.proofs.Ending.{closes_unready, ends_by, short_made}
+use Rattle.serve_core.proofs.Keeping.{kept_first, served_then}
 use Rattle.serve_core.proofs.LastTurn.{last_home, last_is, last_joined, last_leaves, last_made, last_number, last_opening, last_seen, last_splits, own_last}
 use Rattle.serve_core.proofs.Telling.{where_same, told_and, told_as, told_then}
-use Rattle.serve_core.proofs.Tending.{looked_made, tended_looked, tended_then}
+use Rattle.serve_core.proofs.Tending.{looked_made, tended_looked, tended_same, tended_then}
 use Rattle.serve_core.proofs.Turning.{may_end, turns_as}
+use Rattle.serve_core.proofs.Writing.{says_unready}
 
 -- ---- the table
 
@@ -259,3 +266,27 @@ all_served shows hall clock supply opens door opening first pass new old mid aft
     (served_all shows hall clock supply opens door opening pass new old mid after last made k
     (subst (λ (p : PassState). Tended (stand p Enough opens old) (stand pass supply door mid)) is tended) unused
     (subst IsWhole at whole) t fault counted b short short_last end before later leaves)
+
+-- `ready` couldn't be written, so no link was taken
+pub unready_served : {C : Type 0} (shows : C → ℕ → Bool) (clock : C) (door : Option DoorTale) (s : Sent)
+    (before later : Sheet) {hall : TableId} {opening : List Part} {first new : PassState} {old after : Store}
+    {last : StewardEnd} {made : Supply}
+    → first ≡ first_pass hall opening → IfSome door IsUnused → IsWhole first.opening
+    → TurnsLast last made old after first new → (last ≡ steward.KeeperFault → Rose old.faults after.faults)
+    → old.faults ≤ after.faults → s ≢ sent.All → Says ready_text s before later
+    → HasServedAll (shows clock) first.opening (end_of door_end.Closed s last made) door before later old after
+    (pass_noted (is_short made s) new)
+unready_served shows clock door s before later {hall} {opening} {first} {new} {old} {after} {last} {made} is unused
+    whole t fault counted unwritten ready =
+    all_served shows hall clock Enough door door opening first first new old old after last made
+    (kept_first shows hall clock door opening first is unused) is (tended_same (stand first Enough door old)) unused
+    whole t fault counted (is_short made s) (λ e. absurd cc) (λ e. short_made made s e)
+    (end_of door_end.Closed s last made) before later
+    (closes_unready s last made door first.splits before later (ap (λ (p : PassState). p.splits) is) unwritten ready)
+
+pub unready_ends : (s : Sent) (last : StewardEnd) (made : Supply) (door : ℕ) (before later : Sheet) (old after : Store)
+    → s ≢ sent.All → Says ready_text s before later → (last ≡ steward.KeeperFault → Rose old.faults after.faults)
+    → EndsServing (end_of door_end.Closed s last made) door door before later old after
+unready_ends s last made door before later old after unwritten ready fault =
+    ends_by door_end.Closed s last made door door before later old old after (λ e. absurd cc)
+    (says_unready s before later unwritten ready) (omega arith) fault

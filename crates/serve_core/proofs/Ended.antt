@@ -3,7 +3,7 @@ use Rattle.std.proofs.Common.{◌≡◌, ℕ, ◌<◌, ◌^◌, Bool, List, subs
 use Rattle.std.specs.declared.option.Option.{Option}
 use Rattle.atomic_table.specs.Seated.{TableId}
 use Rattle.edge_traits.specs.Calls.{Store}
-use Rattle.edge_traits.specs.Door.{DoorTale, Gives, KeepsLinks, OnDoorFailed}
+use Rattle.edge_traits.specs.Door.{DoorTale, DoorGives, KeepsLinks, OnDoorFailed}
 use Rattle.edge_traits.specs.Faults.{Rose}
 use Rattle.edge_traits.specs.Link.{Tale}
 use Rattle.edge_traits.specs.WhereTold.{WhereTold}
@@ -26,7 +26,7 @@ use Rattle.serve_core.proofs.Tending.{door_then}
 
 -- what that answer does to what the door tells
 abbrev pub GivesEnd : {L : Type 0} → (L → Option Tale) → DoorEnd → Option DoorTale → Option DoorTale → Type 0
-GivesEnd {L} tells end one two = OfAnswer (Ended end) (λ (answer : Came L). WhereTold one two (Gives tells answer))
+GivesEnd {L} tells end one two = OfAnswer (Ended end) (λ (answer : Came L). WhereTold one two (DoorGives tells answer))
 
 pub ended_tended : {L : Type 0} (tells : L → Option Tale) (end : DoorEnd) (start : Stand) (pass : PassState)
     (supply : Supply) (door door' : Option DoorTale) (store : Store)
@@ -60,7 +60,8 @@ pub ended_kept : {C L : Type 0} (shows : C → ℕ → Bool) (hall : TableId) (c
     → Underway shows hall clock supply door' pass waiting
 ended_kept shows hall clock supply tells Closed door door' pass waiting k goes =
     kept_answered shows hall clock supply answered.Closed door door' pass waiting k
-    (where_as door door' (Gives tells came.Closed) (λ a b. b ≡ record a { last = answered.Closed }) (λ a b e. e.1) goes)
+    (where_as door door' (DoorGives tells came.Closed) (λ a b. b ≡ record a { last = answered.Closed }) (λ a b e. e.1)
+    goes)
 ended_kept shows hall clock supply tells Failed door door' pass waiting k goes =
     kept_answered shows hall clock supply answered.Failed door door' pass waiting k goes
 ended_kept shows hall clock supply tells Spent door door' pass waiting k goes = absurd goes

@@ -16,10 +16,11 @@ use Rattle.hall_core.specs.Pass.{PassState}
 use Rattle.steward_core.specs.declared.turn.StewardEnd.{StewardEnd}
 use Rattle.steward_core.specs.declared.turn.StewardEnd.TheVariants as steward
 use Rattle.steward_core.specs.Saving.{most_answers}
-use Rattle.serve_core.specs.EndLaws.{GoodEndsHadEnough, HoldsAll, LeavesNoGame, NoneLeftOver, ShortEndsHadNot, StoresAll}
+use Rattle.serve_core.specs.EndLaws.{GoodEndsHadEnough, HoldsAll, LeavesNoGame, NoneLeftOver, OfEveryServer, ShortEndsHadNot, StoresAll}
 use Rattle.serve_core.specs.Serving.{AgreesIn, RanShort, TellsAgreed}
 use Rattle.serve_core.specs.StewardLaws.{IsDone}
 use Rattle.serve_core.specs.Stewarding.{LeavesNoOrders, NoOrders}
+use Rattle.serve_turn.specs.Stopping.{IsClean}
 use Rattle.serve_core.proofs.DesksOver.{turn_leaves_none}
 use Rattle.serve_core.proofs.Ending.{clean_last, text_enough, text_last, text_short}
 
@@ -39,17 +40,20 @@ short_ends_had_not shows opening end door before after old new pass p is =
     short_by pass p.last (λ e. p.steward.ends.memory (p.steward.ended ∙ e))
     (text_short end pass.short p.last door pass.splits before after p.text is)
 
+last_done : OfEveryServer (λ end last old new pass. IsClean end → IsDone last)
+last_done shows opening end door before after old new pass p clean =
+    clean_last end p.last (text_last end pass.short p.last door pass.splits before after p.text) clean
+
 pub leaves_no_game : LeavesNoGame
 leaves_no_game shows opening end door before after old new pass p clean =
     let s = p.steward in
-    let done : IsDone p.last =
-    clean_last end p.last (text_last end pass.short p.last door pass.splits before after p.text) clean in
     let all : Legal house pass.opening (s.earlier ++ s.turn.entries) =
     subst (Legal house pass.opening) s.stands_last p.hall.legal in
     let front : Legal house pass.opening s.earlier = legal_front house pass.opening s.earlier s.turn.entries all in
     let mid = state house pass.opening s.earlier in
     let over : NoneLeftOver (state house mid s.turn.entries) =
-    turn_leaves_none s.turn.end s.turn.moment s.turn.entries s.turn.carried mid (subst IsDone (sym s.ended) done)
+    turn_leaves_none s.turn.end s.turn.moment s.turn.entries s.turn.carried mid
+    (subst IsDone (sym s.ended) (last_done shows opening end door before after old new pass p clean))
     (stays_whole house house_lawful pass.opening s.earlier p.hall.opens_whole front)
     (legal_back house pass.opening s.earlier s.turn.entries all) s.turn.turn in
     subst NoneLeftOver
@@ -88,7 +92,6 @@ stores_by (Some table) told' opening parts last left kept = λ agrees. holds_by 
 
 pub stores_all : StoresAll
 stores_all shows opening end door before after old new pass p clean =
-    let done : IsDone p.last =
-    clean_last end p.last (text_last end pass.short p.last door pass.splits before after p.text) clean in
     let parts = state house pass.opening pass.seen in
-    stores_by old.table new.table pass.opening parts p.last (left_by p.last parts done p.steward.orders) p.store
+    stores_by old.table new.table pass.opening parts p.last
+    (left_by p.last parts (last_done shows opening end door before after old new pass p clean) p.steward.orders) p.store

@@ -94,22 +94,25 @@ module _ {C : Type 0} (shows : C → ℕ → Bool) (hall : TableId) (clock : C) 
             (λ tale u. omega (arith, ap length u.0, ap length u.1)) unused;
       }
 
+  owed_then : (door door' : Option DoorTale) (R : DoorTale → DoorTale → Type 0)
+      → ((m : ℕ) (link : Option Tale) (a b : DoorTale) → R a b → CameAs m link a → CameAs m link b)
+      → WhereTold door door' R
+      → (due : Due C) → IsOwed shows hall clock door due → IsOwed shows hall clock door' due
+  owed_then door door' R came goes due o = record {
+    home = o.home;
+    number = o.number;
+    same = o.same;
+    fresh = o.fresh;
+    came =
+        told_then door door' R (CameAs due.pass.number due.link) (CameAs due.pass.number due.link)
+        (came due.pass.number due.link) goes o.came;
+  }
+
   -- a link came, and has a pass
   module _ (supply : Supply) (door door' : Option DoorTale) (pass : PassState) (waiting : List (Due C)) (d : Due C)
       (k : Underway shows hall clock supply door pass waiting) (goes : WhereTold door door' (Comes d.link))
       (home : d.pass.home ≡ hall) (number : d.pass.number ≡ pass.splits + 1) (same : d.clock ≡ clock)
       (fresh : IfSome d.link IsFresh) where
-    owed_stays : (due : Due C) → IsOwed shows hall clock door due → IsOwed shows hall clock door' due
-    owed_stays due p = record {
-      home = p.home;
-      number = p.number;
-      same = p.same;
-      fresh = p.fresh;
-      came =
-          told_then door door' (Comes d.link) (CameAs due.pass.number due.link) (CameAs due.pass.number due.link)
-          (came_stays d.link due.pass.number due.link) goes p.came;
-    }
-
     owed_new : IsOwed shows hall clock door' d
     owed_new = record {
       home = home;
@@ -123,7 +126,7 @@ module _ {C : Type 0} (shows : C → ℕ → Bool) (hall : TableId) (clock : C) 
     }
 
     owed_came : (due : Due C) → In due waiting ⊎ In due (d ∷ []) → IsOwed shows hall clock door' due
-    owed_came due (inl p) = owed_stays due (k.owed due p)
+    owed_came due (inl p) = owed_then door door' (Comes d.link) (came_stays d.link) goes due (k.owed due p)
     owed_came due (inr (inl e)) = subst (λ (x : Due C). IsOwed shows hall clock door' x) (sym e) owed_new
     owed_came due (inr (inr p)) = absurd p
 
@@ -159,6 +162,39 @@ module _ {C : Type 0} (shows : C → ℕ → Bool) (hall : TableId) (clock : C) 
           goes k.out;
     }
 
+  -- the door goes on, and what came and came back stays
+  kept_still : (supply supply' : Supply) (door door' : Option DoorTale) (pass : PassState) (waiting : List (Due C))
+      (R : DoorTale → DoorTale → Type 0)
+      → ((a b : DoorTale) → R a b → (b.came ≡ a.came) × (b.back ≡ a.back)) → (supply ≡ Short → supply' ≡ Short)
+      → Underway shows hall clock supply door pass waiting → WhereTold door door' R
+      → Underway shows hall clock supply' door' pass waiting
+  kept_still supply supply' door door' pass waiting R same short k goes =
+      let came : (m : ℕ) (link : Option Tale) (a b : DoorTale) → R a b → CameAs m link a
+      → CameAs m link b = λ m link a b e p.
+      subst (λ (xs : List (Option Tale)). CameAs m link (record a { came = xs })) (sym (same a b e).0) p in
+      let back : (m : ℕ) (link : Handed) (a b : DoorTale) → R a b → CameBack m link a
+      → CameBack m link b = λ m link a b e p.
+      subst (λ (xs : List (ℕ × Handed)). CameBack m link (record a { back = xs })) (sym (same a b e).1) p in
+      record {
+        here = k.here;
+        first = k.first;
+        owed = λ due p. owed_then door door' R came goes due (k.owed due p);
+        served = λ j p.
+            served_then (shows clock) j.number j.calls (supply ≡ Short) (supply' ≡ Short) door door' R goes came back
+            short (k.served j p);
+        numbers = k.numbers;
+        came =
+            told_then door door' R (λ tale. length tale.came ≡ pass.splits) (λ tale. length tale.came ≡ pass.splits)
+            (λ a b e n. ap (λ (xs : List (Option Tale)). length xs) (same a b e).0 ∙ n) goes k.came;
+        out =
+            told_then door door' R (λ tale. length tale.back + length waiting ≡ length tale.came)
+            (λ tale. length tale.back + length waiting ≡ length tale.came)
+            (λ a b e n.
+            ap (λ (xs : List (ℕ × Handed)). length xs + length waiting) (same a b e).1 ∙ n
+            ∙ sym (ap (λ (xs : List (Option Tale)). length xs) (same a b e).0))
+            goes k.out;
+      }
+
   -- a Quiet, and a turn of the steward
   pub kept_quiet : (supply : Supply) (end : StewardEnd) (made : Supply) (before after : Store)
       (door door' : Option DoorTale) (pass new : PassState) (waiting : List (Due C))
@@ -167,48 +203,24 @@ module _ {C : Type 0} (shows : C → ℕ → Bool) (hall : TableId) (clock : C) 
       (λ before after. after ≡ record before { quiets = before.quiets + 1; last = answered.Quiet })
       → MadeTurn end made before after pass new → Underway shows hall clock (supply_then made supply) door' new waiting
   kept_quiet supply end made before after door door' pass new waiting k goes turn =
-      let R : DoorTale → DoorTale → Type 0 = λ before after.
-      after ≡ record before { quiets = before.quiets + 1; last = answered.Quiet } in
       let joined : new.joined ≡ pass.joined = ap (λ p. p.joined) turn.shared in
       let splits = turn_splits end made before after pass new turn in
-      let came : (m : ℕ) (link : Option Tale) (a b : DoorTale) → R a b → CameAs m link a
-      → CameAs m link b = λ m link a b e p.
-      subst (λ (xs : List (Option Tale)). CameAs m link (record a { came = xs }))
-      (sym (ap (λ (t : DoorTale). t.came) e)) p in
-      let back : (m : ℕ) (link : Handed) (a b : DoorTale) → R a b → CameBack m link a
-      → CameBack m link b = λ m link a b e p.
-      subst (λ (xs : List (ℕ × Handed)). CameBack m link (record a { back = xs }))
-      (sym (ap (λ (t : DoorTale). t.back) e)) p in
+      let still =
+      kept_still supply (supply_then made supply) door door' pass waiting
+      (λ before after. after ≡ record before { quiets = before.quiets + 1; last = answered.Quiet })
+      (λ a b e. (ap (λ (t : DoorTale). t.came) e, ap (λ (t : DoorTale). t.back) e)) (then_short made supply) k goes in
       record {
-        here = turn_home end made before after pass new turn ∙ k.here;
-        first = turn_number end made before after pass new turn ∙ k.first;
-        owed = λ due p.
-            let o = k.owed due p in
-            record {
-              home = o.home;
-              number = o.number;
-              same = o.same;
-              fresh = o.fresh;
-              came =
-                  told_then door door' R (CameAs due.pass.number due.link) (CameAs due.pass.number due.link)
-                  (came due.pass.number due.link) goes o.came;
-            };
-        served = λ j p.
-            served_then (shows clock) j.number j.calls (supply ≡ Short) (supply_then made supply ≡ Short) door door' R
-            goes came back (then_short made supply)
-            (k.served j (subst (λ (xs : List (Joined Timed Reply)). In j xs) joined p));
+        here = turn_home end made before after pass new turn ∙ still.here;
+        first = turn_number end made before after pass new turn ∙ still.first;
+        owed = still.owed;
+        served = λ j p. still.served j (subst (λ (xs : List (Joined Timed Reply)). In j xs) joined p);
         numbers = λ m low high.
             subst (λ (xs : List (Joined Timed Reply)). In m (map joined_number xs) ⊎ In m (map due_number waiting))
-            (sym joined) (k.numbers m low (omega (arith, high, splits)));
+            (sym joined) (still.numbers m low (omega (arith, high, splits)));
         came =
-            told_then door door' R (λ tale. length tale.came ≡ pass.splits) (λ tale. length tale.came ≡ new.splits)
-            (λ a b e n. ap (λ (t : DoorTale). length t.came) e ∙ n ∙ sym splits) goes k.came;
-        out =
-            told_then door door' R (λ tale. length tale.back + length waiting ≡ length tale.came)
-            (λ tale. length tale.back + length waiting ≡ length tale.came)
-            (λ a b e n.
-            ap (λ (t : DoorTale). length t.back + length waiting) e ∙ n ∙ sym (ap (λ (t : DoorTale). length t.came) e))
-            goes k.out;
+            told_as door' (λ tale. length tale.came ≡ pass.splits) (λ tale. length tale.came ≡ new.splits)
+            (λ tale n. n ∙ sym splits) still.came;
+        out = still.out;
       }
 
   -- an answer of the door that gives nothing
@@ -218,43 +230,8 @@ module _ {C : Type 0} (shows : C → ℕ → Bool) (hall : TableId) (clock : C) 
       → WhereTold door door' (λ before after. after ≡ record before { last = answer })
       → Underway shows hall clock supply door' pass waiting
   kept_answered supply answer door door' pass waiting k goes =
-      let R : DoorTale → DoorTale → Type 0 = λ before after. after ≡ record before { last = answer } in
-      let came : (m : ℕ) (link : Option Tale) (a b : DoorTale) → R a b → CameAs m link a
-      → CameAs m link b = λ m link a b e p.
-      subst (λ (xs : List (Option Tale)). CameAs m link (record a { came = xs }))
-      (sym (ap (λ (t : DoorTale). t.came) e)) p in
-      let back : (m : ℕ) (link : Handed) (a b : DoorTale) → R a b → CameBack m link a
-      → CameBack m link b = λ m link a b e p.
-      subst (λ (xs : List (ℕ × Handed)). CameBack m link (record a { back = xs }))
-      (sym (ap (λ (t : DoorTale). t.back) e)) p in
-      record {
-        here = k.here;
-        first = k.first;
-        owed = λ due p.
-            let o = k.owed due p in
-            record {
-              home = o.home;
-              number = o.number;
-              same = o.same;
-              fresh = o.fresh;
-              came =
-                  told_then door door' R (CameAs due.pass.number due.link) (CameAs due.pass.number due.link)
-                  (came due.pass.number due.link) goes o.came;
-            };
-        served = λ j p.
-            served_then (shows clock) j.number j.calls (supply ≡ Short) (supply ≡ Short) door door' R goes came back
-            (λ e. e) (k.served j p);
-        numbers = k.numbers;
-        came =
-            told_then door door' R (λ tale. length tale.came ≡ pass.splits) (λ tale. length tale.came ≡ pass.splits)
-            (λ a b e n. ap (λ (t : DoorTale). length t.came) e ∙ n) goes k.came;
-        out =
-            told_then door door' R (λ tale. length tale.back + length waiting ≡ length tale.came)
-            (λ tale. length tale.back + length waiting ≡ length tale.came)
-            (λ a b e n.
-            ap (λ (t : DoorTale). length t.back + length waiting) e ∙ n ∙ sym (ap (λ (t : DoorTale). length t.came) e))
-            goes k.out;
-      }
+      kept_still supply supply door door' pass waiting (λ before after. after ≡ record before { last = answer })
+      (λ a b e. (ap (λ (t : DoorTale). t.came) e, ap (λ (t : DoorTale). t.back) e)) (λ e. e) k goes
 
   -- a worker has paid
   module _ (supply : Supply) (end : LinkEnd) (door door' : Option DoorTale) (pass new given : PassState)
@@ -285,17 +262,6 @@ module _ {C : Type 0} (shows : C → ℕ → Bool) (hall : TableId) (clock : C) 
           ∙ ap
           (λ (xs : List (Joined Timed Reply)). pass.joined ++ record { number = given.number; calls = given.made } ∷ xs)
           paid.none_joined
-
-      owed_still : (due : Due C) → IsOwed shows hall clock door due → IsOwed shows hall clock door' due
-      owed_still due o = record {
-        home = o.home;
-        number = o.number;
-        same = o.same;
-        fresh = o.fresh;
-        came =
-            told_then door door' (TakesBack given.number link) (CameAs due.pass.number due.link)
-            (CameAs due.pass.number due.link) (back_came given.number link due.pass.number due.link) goes o.came;
-      }
 
       serves_new : HadSession (shows clock) (supply_after end supply ≡ Short) door' given.number given.made
       serves_new = record {
@@ -357,7 +323,9 @@ module _ {C : Type 0} (shows : C → ℕ → Bool) (hall : TableId) (clock : C) 
           record {
             here = ap (λ (p : PassState). p.home) joins.same ∙ k.here;
             first = ap (λ (p : PassState). p.number) joins.same ∙ k.first;
-            owed = λ due p. owed_still due (k.owed due (in_rest due d one two p));
+            owed = λ due p.
+                owed_then door door' (TakesBack given.number link) (back_came given.number link) goes due
+                (k.owed due (in_rest due d one two p));
             served = λ j p.
                 served_still j
                 (in_append j pass.joined (record { number = given.number; calls = given.made } ∷ [])

@@ -7,7 +7,7 @@ use Rattle.histories.specs.History.{calls_of}
 use Rattle.one_server.specs.declared.part.Part.{Part}
 use Rattle.one_server.specs.Running.{Log}
 use Rattle.steward_core.specs.declared.turn.StewardEnd.{StewardEnd}
-use Rattle.serve_core.specs.StewardLaws.{HasTurns, IsDone, MakesEachTurn, MakesStewardsActs, MakesTurns, times_asked}
+use Rattle.serve_core.specs.StewardLaws.{AreStewards, HasTurns, IsDone, MakesEachTurn, MakesStewardsActs, MakesTurns, times_asked}
 use Rattle.serve_core.specs.Stewarding.{AreTurns, HasTended, MayEnd}
 use Rattle.serve_core.proofs.Telling.{told_as}
 use Rattle.serve_core.proofs.Turning.{turns_asked, turns_done, turns_stewards}
@@ -26,10 +26,12 @@ module _ (lack : Type 0) (last : StewardEnd) (door : Option DoorTale) (before no
         p.quiets,
   )
 
+  are_stewards : AreStewards (calls_of 0 seen)
+  are_stewards = turns_stewards (MayEnd lack) (suc p.count) before now (calls_of 0 seen) all_turns
+
 pub makes_stewards_acts : MakesStewardsActs
 makes_stewards_acts short last door before now opening seen p =
-    let turns = has_turns (short ≡ true) last door before now opening seen p in
-    turns_stewards (MayEnd (short ≡ true)) turns.0 before now (calls_of 0 seen) turns.1
+    are_stewards (short ≡ true) last door before now opening seen p
 
 pub makes_turns : MakesTurns
 makes_turns short last door before now opening seen p = has_turns (short ≡ true) last door before now opening seen p

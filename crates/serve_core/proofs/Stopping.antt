@@ -4,7 +4,7 @@ use Rattle.std.specs.Prelude.{IfSome, MatchOption}
 use Rattle.std.specs.declared.option.Option.{Option}
 use Rattle.std.specs.declared.option.Option.TheVariants.{None, Some}
 use Rattle.edge_traits.specs.Link.{Tale}
-use Rattle.edge_traits.specs.Door.{DoorTale, Gives}
+use Rattle.edge_traits.specs.Door.{DoorTale, DoorGives}
 use Rattle.edge_traits.specs.WhereTold.{WhereTold}
 use Rattle.edge_traits.specs.declared.doorway.Came.TheVariants.{Link, Closed, Failed}
 use Rattle.serve_turn.specs.declared.end.DoorEnd.{DoorEnd}
@@ -22,15 +22,15 @@ told_since (Some a) None R P f p = absurd p
 told_since (Some a) (Some b) R P f p = f a b p
 
 pub stops_closed : {L : Type 0} (tells : L → Option Tale) (one two : Option DoorTale)
-    → WhereTold one two (Gives tells Closed) → IfSome two (StopsAt door_end.Closed)
+    → WhereTold one two (DoorGives tells Closed) → IfSome two (StopsAt door_end.Closed)
 stops_closed tells one two p =
-    told_since one two (Gives tells Closed) (StopsAt door_end.Closed)
+    told_since one two (DoorGives tells Closed) (StopsAt door_end.Closed)
     (λ a b e. (ap (λ (t : DoorTale). t.last) e.1, ap (λ (t : DoorTale). t.left) e.1 ∙ e.0)) p
 
 pub stops_failed : {L : Type 0} (tells : L → Option Tale) (one two : Option DoorTale)
-    → WhereTold one two (Gives tells Failed) → IfSome two (StopsAt door_end.Failed)
+    → WhereTold one two (DoorGives tells Failed) → IfSome two (StopsAt door_end.Failed)
 stops_failed tells one two p =
-    told_since one two (Gives tells Failed) (StopsAt door_end.Failed) (λ a b e. ap (λ (t : DoorTale). t.last) e) p
+    told_since one two (DoorGives tells Failed) (StopsAt door_end.Failed) (λ a b e. ap (λ (t : DoorTale). t.last) e) p
 
 stays_last : (why : DoorEnd) (a b : DoorTale) → KeepsLeft a b → StopsAt why a → StopsAt why b
 stays_last door_end.Closed a b e p = (e.2 ∙ p.0, e.0 ∙ p.1)
@@ -45,13 +45,14 @@ stops_still why one two p s = told_then one two KeepsLeft (StopsAt why) (StopsAt
 -- the last of all links came, or another
 pub stops_spent : {L : Type 0} (tells : L → Option Tale) (link : L) (one two three : Option DoorTale)
     (before now count : ℕ) (end : Option DoorEnd)
-    → WhereTold one two (Gives tells (Link link)) → WhereTold two three KeepsLeft
+    → WhereTold one two (DoorGives tells (Link link)) → WhereTold two three KeepsLeft
     → MatchOption end (count < 2 ^ 31) (λ why. (why ≡ door_end.Spent) × (count ≡ 2 ^ 31))
     → MatchOption end (count < 2 ^ 31) (λ why. Stopped why count three before now)
 stops_spent tells link one two three before now count None p q is = is
 stops_spent tells link one two three before now count (Some why) p q is =
     let here : IfSome two (StopsAt door_end.Spent) =
-    told_since one two (Gives tells (Link link)) (StopsAt door_end.Spent) (λ a b e. ap (λ (t : DoorTale). t.last) e.1)
+    told_since one two (DoorGives tells (Link link)) (StopsAt door_end.Spent)
+    (λ a b e. ap (λ (t : DoorTale). t.last) e.1)
     p in
     subst (λ (w : DoorEnd). Stopped w count three before now) (sym is.0)
     ((stops_still door_end.Spent two three q here, is.1), λ bad. cc)

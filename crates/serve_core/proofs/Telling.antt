@@ -6,7 +6,7 @@ use Rattle.std.specs.List.{Contains, slice_get}
 use Rattle.std.specs.declared.option.Option.{Option}
 use Rattle.std.specs.declared.option.Option.TheVariants.{None, Some}
 use Rattle.edge_traits.specs.Link.{Handed, Tale}
-use Rattle.edge_traits.specs.Door.{DoorTale, Gives, KeepsLinks, TakesBack}
+use Rattle.edge_traits.specs.Door.{DoorTale, DoorGives, KeepsLinks, TakesBack}
 use Rattle.edge_traits.specs.WhereTold.{WhereTold}
 use Rattle.edge_traits.specs.declared.doorway.Came.{Came}
 use Rattle.edge_traits.specs.declared.doorway.Came.TheVariants.{Link, Quiet, Closed, Failed}
@@ -130,7 +130,7 @@ pub keeps_links : (old new : DoorTale) → KeepsLeft old new → KeepsLinks old 
 keeps_links old new e = links_same old new e.0 e.1
 
 -- an answer of the door
-gives_links : {L : Type 0} (tells : L → Option Tale) (came : Came L) (old new : DoorTale) → Gives tells came old new
+gives_links : {L : Type 0} (tells : L → Option Tale) (came : Came L) (old new : DoorTale) → DoorGives tells came old new
     → KeepsLinks old new
 gives_links tells (Link link) old new p =
     ap (λ (xs : List (Option Tale)). old.came ++ xs) p.0
@@ -154,9 +154,9 @@ links_then one two three p q = where_then one two three KeepsLinks KeepsLinks Ke
 
 -- what one answer of the door gave, once the door's thread had settled with some workers before
 pub links_came : {L : Type 0} (tells : L → Option Tale) (came : Came L) (one two three : Option DoorTale)
-    → WhereTold one two KeepsLeft → WhereTold two three (Gives tells came) → WhereTold one three KeepsLinks
+    → WhereTold one two KeepsLeft → WhereTold two three (DoorGives tells came) → WhereTold one three KeepsLinks
 links_came tells came one two three p q =
-    where_then one two three KeepsLeft (Gives tells came) KeepsLinks
+    where_then one two three KeepsLeft (DoorGives tells came) KeepsLinks
     (λ a b c e f. keeps_links a b e ∙ gives_links tells came b c f) p q
 
 pub left_stays : (one two three : Option DoorTale) → WhereTold one two KeepsLeft → WhereTold two three KeepsLeft

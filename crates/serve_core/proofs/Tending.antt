@@ -1,7 +1,7 @@
 -- What the door's thread does for the store, from one step to the next.
 use Rattle.std.proofs.Common.{◌≡◌, ℕ, ◌+◌, ◌≤◌, [], ◌++◌, refl, sym, ap, subst, ◌∙◌, arith, append-nil}
 use Rattle.std.specs.declared.option.Option.{Option}
-use Rattle.edge_traits.specs.Door.{DoorTale, Gives, TakesBack}
+use Rattle.edge_traits.specs.Door.{DoorTale, DoorGives, TakesBack}
 use Rattle.edge_traits.specs.WhereTold.{WhereTold}
 use Rattle.edge_traits.specs.Answers.{IsQuiet}
 use Rattle.edge_traits.specs.Faults.{Rose}
@@ -24,7 +24,7 @@ use Rattle.edge_traits.specs.Calls.{Store}
 use Rattle.serve_turn.specs.Turns.{MadeTurn, supply_then}
 use Rattle.serve_core.proofs.Keeping.{stays_short, then_short}
 use Rattle.serve_core.proofs.Telling.{where_as, where_same, where_then}
-use Rattle.serve_core.proofs.Turning.{may_end, turn_is, turns_append, turns_as}
+use Rattle.serve_core.proofs.Turning.{may_end, turn_is, turns_append, turns_as, turns_counted}
 
 -- ---- one thing after another
 
@@ -55,6 +55,11 @@ tended_then one two three p q =
           agreed_then one.store.table two.store.table three.store.table (runs_of one.pass) (runs_of two.pass)
           (runs_of three.pass) p.entries q.entries grew (q.grew grew.known) (p.agrees known) (q.agrees grew.known);
     }
+
+-- the keeper's count never falls
+pub tended_counted : {old new : Stand} → Tended old new → old.store.faults ≤ new.store.faults
+tended_counted {old} {new} t =
+    turns_counted (MayEnd (new.supply ≡ Short)) t.count old.store new.store t.entries t.turns
 
 -- ---- no turn at all
 
@@ -88,30 +93,28 @@ tended_door pass supply door door' store quiets =
 
 -- a pass was joined
 joined_made : (old other new : PassState) → IsPassJoined old other new → Made (runs_of old) [] (runs_of new)
-joined_made old other new j =
-    let made : new.made ≡ old.made = ap (λ (p : PassState). p.made) j.same in
-    record {
-      same = ap (λ (p : PassState). record (runs_of p) { seen = new.seen; made = new.made }) j.same;
-      begins = j.seen;
-      known = j.known;
-      more = made ∙ sym (append-nil old.made);
-      only = λ e. absurd cc;
-    }
+joined_made old other new j = record {
+  same = ap (λ (p : PassState). record (runs_of p) { seen = new.seen; made = new.made }) j.same;
+  begins = j.seen;
+  known = j.known;
+  more = ap (λ (p : PassState). p.made) j.same ∙ sym (append-nil old.made);
+  only = λ e. absurd cc;
+}
 
 pub looked_made : (old new : PassState) → HasLooked old new → Made (runs_of old) [] (runs_of new)
-looked_made old new j =
-    let made : new.made ≡ old.made = ap (λ (p : PassState). p.made) j.same in
-    record {
-      same = ap (λ (p : PassState). record (runs_of p) { seen = new.seen; made = new.made }) j.same;
-      begins = j.seen;
-      known = j.known;
-      more = made ∙ sym (append-nil old.made);
-      only = λ e. absurd cc;
-    }
+looked_made old new j = record {
+  same = ap (λ (p : PassState). record (runs_of p) { seen = new.seen; made = new.made }) j.same;
+  begins = j.seen;
+  known = j.known;
+  more = ap (λ (p : PassState). p.made) j.same ∙ sym (append-nil old.made);
+  only = λ e. absurd cc;
+}
+
+quiets_stay : (a b : DoorTale) → b.quiets ≡ a.quiets → GivesQuiets 0 a b
+quiets_stay a b same = omega (arith, same)
 
 quiets_back : (number : ℕ) (link : Handed) (a b : DoorTale) → TakesBack number link a b → GivesQuiets 0 a b
-quiets_back number link a b e =
-    let same : b.quiets ≡ a.quiets = ap (λ (t : DoorTale). t.quiets) e in omega (arith, same)
+quiets_back number link a b e = quiets_stay a b (ap (λ (t : DoorTale). t.quiets) e)
 
 pub tended_settled : (supply supply' : Supply) (end : LinkEnd) (door door' : Option DoorTale)
     (pass given new : PassState) (link : Handed)
@@ -153,19 +156,16 @@ tended_served pass mid given new supply supply' end door door' link is joins goe
 
 -- an answer of the door
 no_quiet : {L : Type 0} (tells : L → Option Tale) (answer : Came L) (a b : DoorTale) → (IsQuiet answer → ⊥)
-    → Gives tells answer a b → GivesQuiets 0 a b
-no_quiet tells (came.Link link) a b other e =
-    let same : b.quiets ≡ a.quiets = ap (λ (t : DoorTale). t.quiets) e.1 in omega (arith, same)
+    → DoorGives tells answer a b → GivesQuiets 0 a b
+no_quiet tells (came.Link link) a b other e = quiets_stay a b (ap (λ (t : DoorTale). t.quiets) e.1)
 no_quiet tells came.Quiet a b other e = absurd (other tt)
-no_quiet tells came.Closed a b other e =
-    let same : b.quiets ≡ a.quiets = ap (λ (t : DoorTale). t.quiets) e.1 in omega (arith, same)
-no_quiet tells came.Failed a b other e =
-    let same : b.quiets ≡ a.quiets = ap (λ (t : DoorTale). t.quiets) e in omega (arith, same)
+no_quiet tells came.Closed a b other e = quiets_stay a b (ap (λ (t : DoorTale). t.quiets) e.1)
+no_quiet tells came.Failed a b other e = quiets_stay a b (ap (λ (t : DoorTale). t.quiets) e)
 
 pub one_quiet : {L : Type 0} (tells : L → Option Tale) (door door' : Option DoorTale)
-    → WhereTold door door' (Gives tells came.Quiet) → WhereTold door door' (GivesQuiets 1)
+    → WhereTold door door' (DoorGives tells came.Quiet) → WhereTold door door' (GivesQuiets 1)
 one_quiet tells door door' goes =
-    where_as door door' (Gives tells came.Quiet) (GivesQuiets 1) (λ a b e. ap (λ (t : DoorTale). t.quiets) e) goes
+    where_as door door' (DoorGives tells came.Quiet) (GivesQuiets 1) (λ a b e. ap (λ (t : DoorTale). t.quiets) e) goes
 
 pub same_then : (start : Stand) (pass pass' : PassState) (supply supply' : Supply) (door : Option DoorTale)
     (store : Store)
@@ -178,12 +178,12 @@ same_then start pass pass' supply supply' door store so_far p s =
 pub door_then : {L : Type 0} (tells : L → Option Tale) (answer : Came L) (start : Stand) (pass : PassState)
     (supply : Supply) (door door' : Option DoorTale) (store : Store)
     → (IsQuiet answer → ⊥)
-    → Tended start (stand pass supply door store) → WhereTold door door' (Gives tells answer)
+    → Tended start (stand pass supply door store) → WhereTold door door' (DoorGives tells answer)
     → Tended start (stand pass supply door' store)
 door_then tells answer start pass supply door door' store other so_far goes =
     tended_then start (stand pass supply door store) (stand pass supply door' store) so_far
     (tended_door pass supply door door' store
-    (where_as door door' (Gives tells answer) (GivesQuiets 0) (λ a b. no_quiet tells answer a b other) goes))
+    (where_as door door' (DoorGives tells answer) (GivesQuiets 0) (λ a b. no_quiet tells answer a b other) goes))
 
 -- the pass looked at the history
 pub tended_looked : (pass new : PassState) (supply : Supply) (door : Option DoorTale) (store : Store)

@@ -6,7 +6,9 @@ use Rattle.edge_traits.specs.Faults.{Rose}
 use Rattle.edge_traits.specs.Calls.{Store}
 use Rattle.lobby_shelf.specs.declared.order.Order.{Order}
 use Rattle.lobby_state.specs.declared.desk_in_use.DeskInUse.{DeskInUse}
+use Rattle.histories.specs.declared.entry.Entry.{Entry}
 use Rattle.one_server.specs.declared.act.Timed.{Timed}
+use Rattle.one_server.specs.declared.reply.Reply.{Reply}
 use Rattle.one_server.specs.Running.{Log, RunnerState}
 use Rattle.hall_core.specs.Passes.{PassState, Fixed}
 use Rattle.steward_core.specs.declared.clearing.ClearingEnd.{ClearingEnd}
@@ -14,7 +16,7 @@ use Rattle.steward_core.specs.declared.clearing.ClearingEnd.TheVariants as clear
 use Rattle.steward_core.specs.declared.turn.StewardEnd.{StewardEnd}
 use Rattle.steward_core.specs.declared.turn.StewardEnd.TheVariants.{Done, KeeperFault, Memory}
 use Rattle.steward_core.specs.Clearing.{AreClears, AsksAndClears, IsPartOf, IsClearing, timed_acts_of, clears, rows_told}
-use Rattle.steward_core.specs.Saving.{AreFullRounds, EndsSaving, IsCutShort, IsSaveRound, IsSaving, last_number, says_saved, tells_upto}
+use Rattle.steward_core.specs.Saving.{AreFullRounds, EndsSaving, IsCutShort, IsSaveRound, IsSaving, asks_orders, last_number, says_saved, tells_upto}
 use Rattle.steward_core.specs.Turn.{end_of_turn}
 use Rattle.serve_turn.specs.declared.supply.Supply.{Supply}
 use Rattle.serve_core.specs.StewardLaws.{AreStewards, IsDone, IsStewards, times_asked, asks_once}
@@ -87,14 +89,18 @@ asks_told moment (Some upto) (e ∷ []) is =
     )
 asks_told moment (Some upto) (e ∷ (f ∷ es)) is = absurd cc
 
+-- a question for orders, and what is told behind it
+asks_behind : (moment : ℕ) (first : Entry Timed Reply) (rest : Log) → first.act ≡ asks_orders moment → Asks 0 rest
+    → Asks 0 (first ∷ rest)
+asks_behind moment first rest asks none = (
+  (subst (λ (t : Timed). IsStewards t.act) (sym asks) tt, none.0),
+  subst (λ (t : Timed). asks_once t.act + times_asked rest ≡ 0) (sym asks) (omega (arith, none.1)),
+)
+
 asks_round : (moment : ℕ) (es : Log) (orders : List Order) → IsSaveRound moment es orders → Asks 0 es
 asks_round moment es orders p =
-    let rest = asks_told moment (last_number orders) p.rest p.saved in
-    let both : Asks 0 (p.first ∷ p.rest) = (
-      (subst (λ (t : Timed). IsStewards t.act) (sym p.asks) tt, rest.0),
-      subst (λ (t : Timed). asks_once t.act + times_asked p.rest ≡ 0) (sym p.asks) (omega (arith, rest.1)),
-    ) in
-    subst (Asks 0) (sym p.all) both
+    subst (Asks 0) (sym p.all)
+    (asks_behind moment p.first p.rest p.asks (asks_told moment (last_number orders) p.rest p.saved))
 
 asks_cut_rest : (moment : ℕ) (upto : Option ℕ) (es : Log) → (timed_acts_of es ≡ tells_upto moment upto) ⊎ (es ≡ [])
     → Asks 0 es
@@ -103,12 +109,8 @@ asks_cut_rest moment upto es (inr is) = subst (Asks 0) (sym is) (tt, refl)
 
 asks_cut : (moment : ℕ) (es : Log) (carried : List Order) → IsCutShort moment es carried → Asks 0 es
 asks_cut moment es carried p =
-    let rest = asks_cut_rest moment (last_number carried) p.rest p.saved in
-    let both : Asks 0 (p.first ∷ p.rest) = (
-      (subst (λ (t : Timed). IsStewards t.act) (sym p.asks) tt, rest.0),
-      subst (λ (t : Timed). asks_once t.act + times_asked p.rest ≡ 0) (sym p.asks) (omega (arith, rest.1)),
-    ) in
-    subst (Asks 0) (sym p.all) both
+    subst (Asks 0) (sym p.all)
+    (asks_behind moment p.first p.rest p.asks (asks_cut_rest moment (last_number carried) p.rest p.saved))
 
 asks_full : (moment n : ℕ) (es : Log) (orders : List Order) → AreFullRounds moment n es orders → Asks 0 es
 asks_full moment zero es orders p = subst (Asks 0) (sym p.0) (tt, refl)

@@ -1,4 +1,5 @@
 pub mod EndLaws
+pub mod Ends
 pub mod Laws
 pub mod Outside
 pub mod Serving

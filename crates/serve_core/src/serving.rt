@@ -1,7 +1,7 @@
 //! Serving, from the opening of the hall to the last turn of the steward.
 
-ghost use Rattle.std.specs.Prelude.{◌≡◌, ◌≤◌, ◌⊎◌, ℕ, IfSome, IfNone, List, take};
-ghost use Rattle.std.specs.Io.KnownBytes.{Appends, Keeps};
+ghost use Rattle.std.specs.Prelude.{◌≡◌, ◌≤◌, IfSome, IfNone, List};
+ghost use Rattle.std.specs.Io.KnownBytes.{Keeps};
 ghost use Rattle.edge_traits.specs.Calls.{store_of};
 ghost use Rattle.edge_traits.specs.Door.{KeepsLinks};
 ghost use Rattle.edge_traits.specs.WhereTold.{WhereTold};
@@ -10,10 +10,11 @@ ghost use Rattle.edge_traits.specs.Sink.{OnWriteFailed, UnlessWriteFailed, Wrote
 ghost use Rattle.one_server.specs.declared.part.Part.{Part};
 ghost use Rattle.one_server.specs.Whole.{IsOpening, IsWhole, opened_server};
 ghost use Rattle.hall_core.specs.Passes.{first_pass, pass_noted};
+ghost use Rattle.serve_core.specs.Ends.{EndsServing};
 ghost use Rattle.serve_core.specs.Outside.{sheet_of};
 ghost use Rattle.serve_core.specs.Serving.{HasServedAll, IsUnused};
-ghost use Rattle.serve_core.specs.Text.{closed_text, ready_text, whole_text};
-ghost use Rattle.serve_turn.specs.Stopping.{IsClean, is_short};
+ghost use Rattle.serve_core.specs.Text.{closed_text, ready_text};
+ghost use Rattle.serve_turn.specs.Stopping.{is_short};
 ghost use Rattle.serve_turn.specs.declared.end.ServeEnd.{ServeEnd};
 
 use crate::hosting::host_links;
@@ -66,17 +67,11 @@ where
     ensures no_hall { IfNone result.1 ((result.0 ≡ ServeEnd.Memory) × Keeps (K.written sink.old) (K.written sink.new)) }
     ensures untouched { IfNone result.1 (D.tale door.new ≡ D.tale door.old) }
     ensures keeper_stays { IfNone result.1 (keeper.new ≡ keeper.old) }
-    ensures door_fault { result.0 ≡ ServeEnd.DoorFault → Rose (D.faults door.old) (D.faults door.new) }
-    ensures write_fault { result.0 ≡ ServeEnd.WriteFault → Rose (K.faults sink.old) (K.faults sink.new) }
-    ensures write_told { (K.faults sink.new ≡ K.faults sink.old)
-        ⊎ ((result.0 ≡ ServeEnd.WriteFault) ⊎ (result.0 ≡ ServeEnd.DoorFault)) }
-    ensures keeper_fault { result.0 ≡ ServeEnd.KeeperFault → Rose (P.faults keeper.old) (P.faults keeper.new) }
+    ensures ends { EndsServing result.0 (D.faults door.old) (D.faults door.new)
+        (sheet_of K.written K.faults sink.old) (sheet_of K.written K.faults sink.new)
+        (store_of P.table P.faults P.calls keeper.old)
+        (store_of P.table P.faults P.calls keeper.new) }
     ensures keeper_counted { P.faults keeper.old ≤ P.faults keeper.new }
-    ensures text { IsClean result.0 → Appends (K.written sink.old) (K.written sink.new) whole_text }
-    ensures text_part { (n : ℕ) × Appends (K.written sink.old) (K.written sink.new) (take n whole_text) }
-    ensures complete { ¬ (Rose (D.faults door.old) (D.faults door.new))
-        → ¬ (Rose (K.faults sink.old) (K.faults sink.new))
-        → ¬ (Rose (P.faults keeper.old) (P.faults keeper.new)) → IsClean result.0 ⊎ (result.0 ≡ ServeEnd.Memory) }
 {
     lobbies_are_well_formed(&lobby);
     every_state_agrees();
@@ -118,14 +113,11 @@ where
         (store_of P.table P.faults P.calls keeper.old)
         (store_of P.table P.faults P.calls keeper.new) result.0 }
     ensures links { WhereTold (D.tale door.old) (D.tale door.new) KeepsLinks }
-    ensures door_fault { result.1 ≡ ServeEnd.DoorFault → Rose (D.faults door.old) (D.faults door.new) }
-    ensures write_fault { result.1 ≡ ServeEnd.WriteFault → Rose (K.faults sink.old) (K.faults sink.new) }
-    ensures write_told { (K.faults sink.new ≡ K.faults sink.old)
-        ⊎ ((result.1 ≡ ServeEnd.WriteFault) ⊎ (result.1 ≡ ServeEnd.DoorFault)) }
-    ensures keeper_fault { result.1 ≡ ServeEnd.KeeperFault → Rose (P.faults keeper.old) (P.faults keeper.new) }
+    ensures ends { EndsServing result.1 (D.faults door.old) (D.faults door.new)
+        (sheet_of K.written K.faults sink.old) (sheet_of K.written K.faults sink.new)
+        (store_of P.table P.faults P.calls keeper.old)
+        (store_of P.table P.faults P.calls keeper.new) }
     ensures keeper_counted { P.faults keeper.old ≤ P.faults keeper.new }
-    ensures text { IsClean result.1 → Appends (K.written sink.old) (K.written sink.new) whole_text }
-    ensures text_part { (n : ℕ) × Appends (K.written sink.old) (K.written sink.new) (take n whole_text) }
 {
     match say_ready(sink) {
         Sent::All => {

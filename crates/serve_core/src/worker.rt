@@ -1,7 +1,7 @@
 //! A worker: it serves one connection as a session of the hall.
 
 ghost use Rattle.std.specs.Prelude.{◌≡◌, [], IfOk, IfErr};
-ghost use Rattle.edge_traits.specs.Link.{IsOpen};
+ghost use Rattle.edge_traits.specs.Link.{LinkIsOpen};
 ghost use Rattle.serve_core.specs.Working.{Due, IsPaid};
 
 use core::thread::Stack;
@@ -88,7 +88,7 @@ pub fn work<T: Threads + Wait, C: Clock, G: Gate, L: Link + Drop>(
     requires here { pass.home ≡ shared.now.hall.now }
     requires new { (pass.made ≡ []) × (pass.joined ≡ []) }
     requires faults { L.faults link ≡ 0 }
-    requires unclosed { IsOpen (L.tale link) }
+    requires unclosed { LinkIsOpen (L.tale link) }
     ensures { IsPaid C.shows (record { pass = pass; link = L.tale link; clock = shared.now.clock.now })
         result.end result.pass (record { tale = L.tale result.link; faults = L.faults result.link }) }
 {
@@ -119,7 +119,7 @@ where
     requires here { pass.home ≡ shared.now.hall.now }
     requires new { (pass.made ≡ []) × (pass.joined ≡ []) }
     requires faults { L.faults link ≡ 0 }
-    requires unclosed { IsOpen (L.tale link) }
+    requires unclosed { LinkIsOpen (L.tale link) }
     ensures started { IfOk result (λ w. w ≡ record {
       pass = pass;
       link = L.tale link;
@@ -141,7 +141,7 @@ where
         requires here { pass.home ≡ shared.now.hall.now }
         requires new { (pass.made ≡ []) × (pass.joined ≡ []) }
         requires faults { L.faults link ≡ 0 }
-        requires unclosed { IsOpen (L.tale link) }
+        requires unclosed { LinkIsOpen (L.tale link) }
         ensures { IsPaid C.shows (record { pass = pass; link = L.tale link; clock = shared.entry.now.clock.now })
             result.end result.pass (record { tale = L.tale result.link; faults = L.faults result.link }) }
     {

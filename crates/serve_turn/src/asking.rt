@@ -1,7 +1,7 @@
 //! The door's next answer, as the door's thread takes it.
 
 ghost use Rattle.std.specs.Prelude.{◌≤◌};
-ghost use Rattle.edge_traits.specs.Door.{Gives, IfCame, IsNew, OnDoorFailed};
+ghost use Rattle.edge_traits.specs.Door.{DoorGives, IfCame, IsNew, OnDoorFailed};
 ghost use Rattle.edge_traits.specs.Faults.{Rose};
 ghost use Rattle.edge_traits.specs.WhereTold.{WhereTold};
 ghost use Rattle.serve_turn.specs.Asking.{OfAnswer};
@@ -23,7 +23,8 @@ pub enum Asked<L> {
 /// Asks the door for the next link, which is fresh. That the door is closed is told only where it answered so, and a
 /// fault of it only where it failed.
 pub fn ask<D: Doorway>(door: &mut D) -> Asked<D::Link>
-    ensures gives { OfAnswer result (λ came. WhereTold (D.tale door.old) (D.tale door.new) (Gives D.Link.tale came)) }
+    ensures gives { OfAnswer result (λ came. WhereTold (D.tale door.old) (D.tale door.new)
+        (DoorGives D.Link.tale came)) }
     ensures fresh { OfAnswer result (λ came. IfCame came (λ link. IsNew (D.Link.faults link) (D.Link.tale link))) }
     ensures cause { OfAnswer result (λ came. OnDoorFailed came (Rose (D.faults door.old) (D.faults door.new))) }
     ensures counted { D.faults door.old ≤ D.faults door.new }

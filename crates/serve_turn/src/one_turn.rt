@@ -7,9 +7,9 @@ ghost use Rattle.serve_turn.specs.Turns.{MadeTurn, TurnsLast, supply_in};
 
 use crate::shared::Shared;
 use crate::supply::Supply;
-use clock_ledger::{LAST_MOMENT, Moment};
 use edge_traits::{Clock, Gate, Keeper};
 use hall_core::HallPass;
+use one_server::moment_of;
 use std::sync::Wait;
 use std::thread::Threads;
 use steward_core::{ClearingEnd, StewardEnd, end_of_turn, turn_by_halves};
@@ -27,7 +27,7 @@ pub fn turn<T: Threads + Wait, C: Clock, G: Gate, P: Keeper>(
     ensures fault { result.1 ≡ StewardEnd.KeeperFault → Rose (P.faults keeper.old) (P.faults keeper.new) }
     ensures counted { P.faults keeper.old ≤ P.faults keeper.new }
 {
-    let moment = present(shared.clock);
+    let moment = moment_of(shared.clock.now());
     let mut seat = shared.hall.seat(pass, shared.gate, shared.rt);
     let (cleared, saved) = turn_by_halves(shared.alloc, &mut seat, keeper, moment);
     let end = end_of_turn(cleared, saved);
@@ -63,9 +63,4 @@ fn supply_in(cleared: ClearingEnd, end: StewardEnd) -> Supply
         (ClearingEnd::Done, StewardEnd::Memory) => Supply::Short,
         (ClearingEnd::Done, _) => Supply::Enough,
     }
-}
-
-/// The present moment, cut to 2^48.
-fn present<C: Clock>(clock: &C) -> Moment {
-    Moment::new(clock.now().min(LAST_MOMENT))
 }

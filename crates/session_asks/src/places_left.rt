@@ -1,11 +1,10 @@
 //! Places, from the first to the last.
-ghost use Rattle.std.specs.Prelude.{◌≡◌, ◌≤◌, ◌∷◌, [], IfSome, IsNone, MatchOption, length};
-ghost use Rattle.lobby_state.specs.Desks.{IsDesk};
+ghost use Rattle.std.specs.Prelude.{◌≡◌, ◌≤◌, ◌∷◌, [], IsNone, MatchOption, length};
 
 use lobby_state::{Place, Places};
 use std::marker::Model;
 
-/// Places that are still to come, each at a desk from 1 to 128. Contracts see their list.
+/// Places that are still to come. Contracts see their list.
 #[derive(Drop)]
 pub(crate) struct PlacesLeft {
     places: Places,
@@ -41,7 +40,6 @@ impl PlacesLeft {
     pub(crate) fn pop(&mut self) -> Option<Place>
         ensures first { MatchOption result (self.old ≡ []) (λ place. self.old ≡ place ∷ self.new) }
         ensures same { IsNone result → self.new ≡ self.old }
-        ensures desk { IfSome result (λ place. IsDesk place.desk) }
     {
         if self.taken >= self.places.len() {
             return None;

@@ -2,13 +2,13 @@
 ghost use Rattle.std.specs.Prelude.{◌≡◌};
 ghost use Rattle.session_asks.specs.Visits.{looking, playing};
 
+use fics_words::DeskNumber;
 use lobby_state::Place;
 
 /// A game that a session plays or looks on at.
 #[derive(Clone, Copy)]
 pub struct Visit {
-    /// The desk, 1 to 128.
-    pub desk: u8,
+    pub desk: DeskNumber,
     /// The serial of the game at that desk.
     pub serial: u64,
     /// The session's seat; None where it looks on.

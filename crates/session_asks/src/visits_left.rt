@@ -1,6 +1,5 @@
 //! The games to which a session has still to go.
-ghost use Rattle.std.specs.Prelude.{◌≡◌, ◌≤◌, ◌∷◌, [], IfSome, MatchOption, length};
-ghost use Rattle.lobby_state.specs.Desks.{IsDesk};
+ghost use Rattle.std.specs.Prelude.{◌≡◌, ◌≤◌, ◌∷◌, [], MatchOption, length};
 ghost use Rattle.session_asks.specs.Visits.{all_visits};
 
 use crate::places_left::PlacesLeft;
@@ -9,8 +8,7 @@ use lobby_state::Places;
 use std::marker::Model;
 use std::mem::size_of;
 
-/// Games that come next, each at a desk from 1 to 128: those that the session plays, and then those at which it looks
-/// on. Contracts see their list.
+/// Games that come next: those that the session plays, and then those at which it looks on. Contracts see their list.
 #[derive(Drop)]
 pub struct VisitsLeft {
     places: PlacesLeft,
@@ -44,7 +42,6 @@ impl VisitsLeft {
     /// Takes the first game; none where there is no game left.
     pub fn pop(&mut self) -> Option<Visit>
         ensures first { MatchOption result (self.old ≡ []) (λ visit. self.old ≡ visit ∷ self.new) }
-        ensures desk { IfSome result (λ visit. IsDesk visit.desk) }
     {
         if let Some(place) = self.places.pop() {
             return Some(playing(&place));

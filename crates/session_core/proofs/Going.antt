@@ -11,7 +11,7 @@ use Rattle.session_core.specs.Going.{Answered, BrokeOff, Leads, Left, Went, Went
 use Rattle.session_core.specs.Memory.{MemoryState}
 use Rattle.session_core.specs.Remembering.{Remembers}
 use Rattle.session_core.specs.Stages.{Settles, onto, course_settled}
-use Rattle.session_core.proofs.Remembering.{remembers_none, remembers_then}
+use Rattle.session_core.proofs.Remembering.{remembers_still, remembers_then}
 use Rattle.one_server.proofs.Made.{made_none, made_then}
 
 -- ---- entries
@@ -185,7 +185,7 @@ module _ (moment : ℕ) where
       → WentOn course course moment old memory out old memory out
   unfolding went_none
   on_none course old memory out known =
-      record { went = went_none course old out known; remembers = remembers_none memory memory refl refl refl }
+      record { went = went_none course old out known; remembers = remembers_still memory }
 
   -- an act was made, and what follows its reply was written or ran out of memory
   pub on_asked : {T : Type 0} (act : Act) (rest : Reply → Course) (reply : Reply) (result : Result T NoMemory)
@@ -292,7 +292,7 @@ module _ (moment : ℕ) where
       → Made old [] new → OnErr result (BrokeOff course moment old before new before)
   broke_unasked (Ok next) course old before new m = tt
   broke_unasked (Err e) course old before new m =
-      broke_unmade course old before new before m (remembers_none before before refl refl refl)
+      broke_unmade course old before new before m (remembers_still before)
 
   -- running out of memory of what is written behind an act
   pub broke_asked : {T : Type 0} (act : Act) (rest : Reply → Course) (reply : Reply) (result : Result T NoMemory)

@@ -12,12 +12,13 @@ use Rattle.chess_model.specs.declared.variant.Variant.TheVariants.{Chess}
 use Rattle.fics_words.specs.declared.refusal.Refusal.{Refusal}
 use Rattle.fics_words.specs.declared.refusal.Refusal.TheVariants.{BadArguments, BadChannel, TooLong}
 use Rattle.lobby_state.specs.Terms.{AreTerms}
+use Rattle.move_reader.specs.Reading.{reading}
 use Rattle.command_words.specs.declared.aliases.Alias.{Alias}
 use Rattle.command_words.specs.declared.command.Command.{Command}
 use Rattle.command_words.specs.declared.command.Command.TheVariants as command
 use Rattle.command_words.specs.Aliases.{alias_of, expanded, is_alias_name}
 use Rattle.command_words.specs.Blanks.{Words, first_word, rest_behind_word, trimmed, words_of}
-use Rattle.command_words.specs.Commands.{arguments_of, command_asked, command_after, command_in, command_made, command_of, move_in, move_or}
+use Rattle.command_words.specs.Commands.{arguments_of, command_asked, command_after, command_in, command_made, command_of, move_or}
 use Rattle.command_words.specs.Match.{challenge, challenge_of, two_twelve}
 use Rattle.chess_model.specs.VariantWord.{IsNumbered}
 use Rattle.command_words.specs.Observe.{observe_from}
@@ -219,7 +220,7 @@ move_fits None text = asked_fits (takes_named_by (map to_ascii_lowercase (first_
 
 command_fits : (text : List ℕ) → FitsAnswer (command_of text)
 command_fits [] = tt
-command_fits (b ∷ text) = move_fits (move_in (b ∷ text)) (b ∷ text)
+command_fits (b ∷ text) = move_fits (reading (b ∷ text)) (b ∷ text)
 
 made_fits : (made : List ℕ) → FitsAnswer (command_made made)
 made_fits made =

@@ -30,7 +30,7 @@ use Rattle.session_asks.specs.declared.visit.Visit.{Visit}
 use Rattle.session_core.specs.Course.{act_at}
 use Rattle.session_core.specs.Laws.{LooksAway, acts_made, places_by}
 use Rattle.session_core.specs.Memory.{MemoryState, has_entered, memory_told, without_observed}
-use Rattle.session_core.specs.Remembering.{IsOver, LooksOn, Remembers, WasShown, any_entered, asks_places, is_entered, places_told, shows_game}
+use Rattle.session_core.specs.Remembering.{IsOver, LooksOn, Remembers, ToldNothing, WasShown, any_entered, asks_places, is_entered, places_told, shows_game}
 use Rattle.session_core.specs.Session.{at_game, at_place, behind_visit, forgets, says_over, watched}
 use Rattle.session_core.specs.Stages.{Suits, is_done, kept, kept_behind}
 use Rattle.session_core.proofs.Rounds.{told_keeps, told_places}
@@ -301,13 +301,15 @@ module _ (session moment : ℕ) (act : Act) (r : Reply) (memory : MemoryState) w
 
 -- ---- behind no entry, and behind some more
 
-pub remembers_none : (before after : MemoryState) → has_entered after ≡ has_entered before
-    → after.places ≡ before.places → after.observed ≡ before.observed → Remembers before [] after
-remembers_none before after inside places looks = record {
-  inside = inside ∙ sym (or-false (has_entered before));
-  places = places;
-  looks = looks_same before.observed.rows after.observed.rows [] (ap (λ (l : PlaceList). l.rows) looks);
+pub remembers_none : {before after : MemoryState} → ToldNothing before after → Remembers before [] after
+remembers_none {before = before} {after = after} same = record {
+  inside = same.inside ∙ sym (or-false (has_entered before));
+  places = same.places;
+  looks = looks_same before.observed.rows after.observed.rows [] (ap (λ (l : PlaceList). l.rows) same.looks);
 }
+
+pub remembers_still : (memory : MemoryState) → Remembers memory [] memory
+remembers_still memory = remembers_none (record { inside = refl; places = refl; looks = refl })
 
 pub remembers_then : (before there after : MemoryState) (one two : Log) → Remembers before one there
     → Remembers there two after → Remembers before (one ++ two) after

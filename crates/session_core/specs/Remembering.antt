@@ -62,3 +62,9 @@ pub record Remembers (before : MemoryState) (made : Log) (after : MemoryState) :
   pub inside : has_entered after ≡ (has_entered before || any_entered made)
   pub places : after.places ≡ places_told before.places made
   pub looks : LooksOn before.observed.rows made after.observed.rows
+
+-- a session that was told nothing has entered where it had, and its places and where it looks on are what they were
+pub record ToldNothing (old new : MemoryState) : Type 0 where
+  pub inside : has_entered new ≡ has_entered old
+  pub places : new.places ≡ old.places
+  pub looks : new.observed ≡ old.observed

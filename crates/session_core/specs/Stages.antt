@@ -5,7 +5,6 @@ use Rattle.linked_desk.specs.Acts.{FitsDeskAct}
 use Rattle.linked_desk.specs.declared.acts.DeskAct.TheVariants as desk_act
 use Rattle.lobby_state.specs.declared.acts.LobbyAct.TheVariants as lobby_act
 use Rattle.lobby_state.specs.Acts.{FitsLobby}
-use Rattle.lobby_state.specs.Desks.{IsDesk}
 use Rattle.memory.specs.declared.NoMemory.{NoMemory}
 use Rattle.fics_words.specs.Line.{most_text_bytes}
 use Rattle.one_server.specs.declared.act.Act.{Act}
@@ -147,14 +146,13 @@ way_asks_places (way.Server act) = asks_places act
 way_asks_places (way.Observe act) = asks_places (Lobby act)
 way_asks_places _ = false
 
--- a stage has what its next act needs, an act that a desk can take, a place at a desk, a stamp; and it is one of a
--- session that hasn't entered, or of one that has
+-- a stage has what its next act needs, an act that a desk can take, a stamp; and it is one of a session that hasn't
+-- entered, or of one that has
 abbrev pub IsSet : MemoryState → Stage → Type 0
 IsSet memory (stage.Entering name) = has_entered memory ≡ false
 IsSet memory (stage.Placing act) = (has_entered memory ≡ true) × FitsDeskAct act
 IsSet memory (stage.Moving word stamp) = (has_entered memory ≡ true) × FitsStamp stamp
 IsSet memory (stage.Remarking act) = (has_entered memory ≡ true) × FitsDeskAct act
-IsSet memory (stage.Watching place) = (has_entered memory ≡ true) × IsDesk place.desk
 IsSet memory (stage.AwaitingPlace stamp) = (has_entered memory ≡ true) × IsStamp stamp
 IsSet memory _ = has_entered memory ≡ true
 
@@ -176,13 +174,9 @@ IsPosed memory (Ask act at) = FitsAct act × IsSet memory at × Suits act at
 IsPosed memory Visits = has_entered memory ≡ true
 IsPosed memory End = Unit {0}
 
-abbrev pub LeavesDesk : LeavingStage → Type 0
-LeavesDesk (leaving_stage.Leaving visit rest) = IsDesk visit.desk
-LeavesDesk _ = Unit {0}
-
 -- the next act of leaving may be made
 abbrev pub MayLeave : LeavingNext → Type 0
-MayLeave (leaving_next.Ask act at) = FitsAct act × LeavesDesk at
+MayLeave (leaving_next.Ask act at) = FitsAct act
 MayLeave leaving_next.End = Unit {0}
 
 -- the course of what comes first

@@ -9,15 +9,11 @@ use Rattle.command_words.specs.declared.rows.ByNumber.TheVariants as by_number
 use Rattle.command_words.specs.declared.rows.MaybeByName.TheVariants as maybe
 use Rattle.command_words.specs.declared.rows.OnChannel.TheVariants as on_channel
 use Rattle.command_words.specs.declared.rows.WithText.TheVariants as with_text
-use Rattle.command_words.specs.declared.variables.Variable.{Variable}
-use Rattle.command_words.specs.declared.variables.Variable.TheVariants as variable
 use Rattle.fics_words.specs.Handle.{key_of}
 use Rattle.linked_desk.specs.declared.acts.DeskAct.TheVariants as desk_act
 use Rattle.lobby_state.specs.declared.acts.LobbyAct.TheVariants as lobby_act
 use Rattle.lobby_state.specs.declared.acts.PairAct.TheVariants as pair_act
 use Rattle.lobby_state.specs.declared.acts.name_list.WhichList.TheVariants.{Censor, Noplay}
-use Rattle.lobby_state.specs.declared.acts.var.Var.{Var}
-use Rattle.lobby_state.specs.declared.acts.var.Var.TheVariants as var
 use Rattle.offer_book.specs.declared.offer.Offer.TheVariants.{Draw, Abort, Adjourn, Takeback}
 use Rattle.one_server.specs.declared.act.Act.TheVariants.{Lobby, Pair}
 use Rattle.session_core.specs.declared.own_commands.OwnCommand.TheVariants as own
@@ -25,12 +21,6 @@ use Rattle.session_core.specs.declared.reaction.Reaction.TheVariants.{Accepting,
 use Rattle.session_core.specs.declared.way.Way.{Way}
 use Rattle.session_core.specs.declared.way.Way.TheVariants as way
 use Rattle.sha2.specs.Sha256.{sha256}
-
--- the variable as the lobby keeps it
-abbrev pub var_of : Variable → Var
-var_of variable.Open = var.Open
-var_of variable.Shout = var.Shout
-var_of variable.Seek = var.Seek
 
 -- the way of a command
 abbrev pub way_of : Command → Way
@@ -77,7 +67,7 @@ way_of (command.Match name terms) = way.Server (Lobby (lobby_act.Match (key_of n
 way_of (command.ObserveGame number) = way.Observe (lobby_act.FindGame number)
 way_of (command.ObservePlayer name) = way.Observe (lobby_act.Find (key_of name))
 way_of (command.Seek terms) = way.Server (Lobby (lobby_act.Post terms))
-way_of (command.Set variable on) = way.Server (Lobby (lobby_act.Var (var_of variable) on))
+way_of (command.Set which on) = way.Server (Lobby (lobby_act.Var which on))
 way_of (command.Style style) = way.Own (own.Style style)
 way_of (command.Takeback number) = way.Desk (desk_act.Make (Takeback number))
 way_of (command.Tell name text) = way.Server (Lobby (lobby_act.Tell (key_of name) text))

@@ -3,6 +3,7 @@ ghost use Rattle.std.specs.Prelude.{◌≡◌, IfOk, None, true};
 ghost use Rattle.session_core.specs.Inputs.{FitsInput, HasStamp, ack_course, asked_course, input_course, is_greeting};
 ghost use Rattle.session_core.specs.Inputs.{line_course, quiet_course, refusing, stamp_on, text_course};
 ghost use Rattle.session_core.specs.Memory.{has_entered};
+ghost use Rattle.session_core.specs.Remembering.{ToldNothing};
 ghost use Rattle.session_core.specs.Stages.{FitsStamp, IsPrepared, Settles, first_course};
 ghost use Rattle.clock_ledger.specs.Span.{IsStamp};
 ghost use Rattle.command_words.specs.Commands.{command_in};
@@ -37,9 +38,7 @@ pub(crate) fn begin(
     ensures settles { IfOk result (λ first. Settles (input_course input memory.old) (first_course first memory.new)
         out.old.items out.new.items) }
     ensures ready { IfOk result (IsPrepared memory.new) }
-    ensures inside { has_entered memory.new ≡ has_entered memory.old }
-    ensures places { memory.new.places ≡ memory.old.places }
-    ensures looks { memory.new.observed ≡ memory.old.observed }
+    ensures told_nothing { ToldNothing memory.old memory.new }
 {
     match input {
         Input::Quiet => Ok(begin_quiet(memory)),
@@ -69,9 +68,7 @@ fn begin_line(
     ensures settles { IfOk result (λ first. Settles (input_course (Input.Line line) memory.old)
         (first_course first memory.new) out.old.items out.new.items) }
     ensures ready { IfOk result (IsPrepared memory.new) }
-    ensures inside { has_entered memory.new ≡ has_entered memory.old }
-    ensures places { memory.new.places ≡ memory.old.places }
-    ensures looks { memory.new.observed ≡ memory.old.observed }
+    ensures told_nothing { ToldNothing memory.old memory.new }
 {
     if is_greeting(memory.link(), &line) {
         memory.mark(LinkMark::Stamped);
@@ -92,9 +89,7 @@ fn answer_line(
     ensures settles { IfOk result (λ first. Settles (line_course line memory.old) (first_course first memory.new)
         out.old.items out.new.items) }
     ensures ready { IfOk result (IsPrepared memory.new) }
-    ensures inside { has_entered memory.new ≡ has_entered memory.old }
-    ensures places { memory.new.places ≡ memory.old.places }
-    ensures looks { memory.new.observed ≡ memory.old.observed }
+    ensures told_nothing { ToldNothing memory.old memory.new }
 {
     match line {
         Incoming::Plain(text) => answer_text(alloc, memory, &text, None, out),
@@ -120,9 +115,7 @@ fn answer_text(
     ensures settles { IfOk result (λ first. Settles (text_course text.now stamp memory.old.standing memory.old)
         (first_course first memory.new) out.old.items out.new.items) }
     ensures ready { IfOk result (IsPrepared memory.new) }
-    ensures inside { has_entered memory.new ≡ has_entered memory.old }
-    ensures places { memory.new.places ≡ memory.old.places }
-    ensures looks { memory.new.observed ≡ memory.old.observed }
+    ensures told_nothing { ToldNothing memory.old memory.new }
 {
     match memory.standing() {
         Standing::Login => take_name(memory, text.bytes(), out),
@@ -146,9 +139,7 @@ fn read_text(
         (asked_course (command_in memory.old.aliases text.now) stamp memory.old)
         (first_course first memory.new) out.old.items out.new.items) }
     ensures ready { IfOk result (IsPrepared memory.new) }
-    ensures inside { has_entered memory.new ≡ true }
-    ensures places { memory.new.places ≡ memory.old.places }
-    ensures looks { memory.new.observed ≡ memory.old.observed }
+    ensures told_nothing { ToldNothing memory.old memory.new }
 {
     match read_command(alloc, text, memory.aliases()) {
         Ok(command) => begin_command(memory, way_of(command), stamp, out),
@@ -177,9 +168,7 @@ fn refuse(cause: Refusal, memory: &mut SessionMemory, out: &mut Vec<u8>) -> Resu
     ensures settles { IfOk result (λ first. Settles (refusing cause memory.old.standing memory.old)
         (first_course first memory.new) out.old.items out.new.items) }
     ensures ready { IfOk result (IsPrepared memory.new) }
-    ensures inside { has_entered memory.new ≡ has_entered memory.old }
-    ensures places { memory.new.places ≡ memory.old.places }
-    ensures looks { memory.new.observed ≡ memory.old.observed }
+    ensures told_nothing { ToldNothing memory.old memory.new }
 {
     match memory.standing() {
         Standing::In(_) => {

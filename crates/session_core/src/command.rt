@@ -1,6 +1,7 @@
 //! How a session begins to carry out a command, by the way that it goes.
 ghost use Rattle.std.specs.Prelude.{◌≡◌, IfOk, false, true};
 ghost use Rattle.session_core.specs.Memory.{has_entered};
+ghost use Rattle.session_core.specs.Remembering.{ToldNothing};
 ghost use Rattle.session_core.specs.Session.{way_course};
 ghost use Rattle.session_core.specs.Stages.{FitsStamp, FitsWay, IsPrepared, Settles, first_course, way_asks_places};
 
@@ -27,9 +28,7 @@ pub(crate) fn begin_command(
     ensures settles { IfOk result (λ first. Settles (way_course way stamp memory.old)
         (first_course first memory.new) out.old.items out.new.items) }
     ensures ready { IfOk result (IsPrepared memory.new) }
-    ensures inside { has_entered memory.new ≡ true }
-    ensures places { memory.new.places ≡ memory.old.places }
-    ensures looks { memory.new.observed ≡ memory.old.observed }
+    ensures told_nothing { ToldNothing memory.old memory.new }
 {
     let next = match way {
         Way::Round => ask_round(),

@@ -5,7 +5,7 @@ ghost use Rattle.session_core.specs.Course.{Asks, nothing_told};
 ghost use Rattle.session_core.specs.Going.{Left, LeftInPart, Passed, Went};
 ghost use Rattle.session_core.specs.Memory.{is_gone};
 ghost use Rattle.session_core.specs.Session.{leaving_course};
-ghost use Rattle.session_core.specs.Stages.{HasGone, LeavesDesk, MayLeave, acts_of_leaving, acts_to_leave};
+ghost use Rattle.session_core.specs.Stages.{HasGone, MayLeave, acts_of_leaving, acts_to_leave};
 ghost use Rattle.session_core.specs.Stages.{leaves, leaving_of};
 
 use crate::leaving_stage::{LeavingNext, LeavingStage, ask_going};
@@ -57,8 +57,7 @@ fn ask_or_pass<R: Runner>(
     act: Act,
     stage: LeavingStage,
 ) -> (Result<(), NoMemory>, LeavingNext)
-    requires fits { FitsAct act }
-    requires desk { LeavesDesk stage }
+    requires { FitsAct act }
     ensures home { R.home r.new ≡ R.home r.old }
     ensures went { OnOk result.0
         (Went (Asks act (leaves stage memory.old)) (leaving_of result.1 memory.new) moment

@@ -2,7 +2,7 @@
 ghost use Rattle.std.specs.Prelude.{◌≡◌, ◌≤◌, ◌*◌, ◌+◌, length};
 ghost use Rattle.session_core.specs.Memory.{MemoryState};
 ghost use Rattle.session_core.specs.Session.{leave_games};
-ghost use Rattle.session_core.specs.Stages.{HasGone, LeavesDesk, MayLeave, acts_of_leaving, acts_to_leave};
+ghost use Rattle.session_core.specs.Stages.{HasGone, MayLeave, acts_of_leaving, acts_to_leave};
 ghost use Rattle.session_core.specs.Stages.{leaves, leaving_of};
 
 use crate::game_acts::{at_game, clear_at};
@@ -35,7 +35,6 @@ pub(crate) enum LeavingNext {
 impl LeavingStage {
     /// Goes on by the reply to the next act or the end.
     pub(crate) fn next(self, memory: &mut SessionMemory, reply: &Reply) -> LeavingNext
-        requires { LeavesDesk self }
         ensures goes { leaving_of result memory.new ≡ leaves self memory.old reply.now }
         ensures ready { MayLeave result }
         ensures fewer { acts_to_leave result ≤ acts_of_leaving self }

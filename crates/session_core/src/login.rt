@@ -1,7 +1,7 @@
 //! How a session comes in.
 ghost use Rattle.std.specs.Prelude.{◌≡◌, IfOk, None, Some, false};
 ghost use Rattle.fics_words.specs.HandleTest.{handle_of};
-ghost use Rattle.session_core.specs.Remembering.{is_entered};
+ghost use Rattle.session_core.specs.Remembering.{ToldNothing, is_entered};
 ghost use Rattle.session_core.specs.Login.{admitted, entered_as, entering_named, is_guest, name_course};
 ghost use Rattle.session_core.specs.Login.{proving, turned_away};
 ghost use Rattle.session_core.specs.Memory.{has_entered, stands_at};
@@ -29,9 +29,7 @@ pub(crate) fn take_name(
     ensures settles { IfOk result (λ first. Settles (name_course text.now memory.old) (first_course first memory.new)
         out.old.items out.new.items) }
     ensures ready { IfOk result (IsPrepared memory.new) }
-    ensures outside { has_entered memory.new ≡ false }
-    ensures places { memory.new.places ≡ memory.old.places }
-    ensures looks { memory.new.observed ≡ memory.old.observed }
+    ensures told_nothing { ToldNothing memory.old memory.new }
 {
     let [_, ..] = text else {
         return Ok(First::Going(Next::End));
@@ -52,9 +50,7 @@ fn take_handle(
     ensures settles { IfOk result (λ first. Settles (entering_named name memory.old) (first_course first memory.new)
         out.old.items out.new.items) }
     ensures ready { IfOk result (IsPrepared memory.new) }
-    ensures outside { has_entered memory.new ≡ false }
-    ensures places { memory.new.places ≡ memory.old.places }
-    ensures looks { memory.new.observed ≡ memory.old.observed }
+    ensures told_nothing { ToldNothing memory.old memory.new }
 {
     match name {
         Some(name) => Ok(First::Going(ask_to_enter(&Some(name), None))),
@@ -103,9 +99,7 @@ pub(crate) fn turn_away(
     ensures settles { IfOk result (λ first. Settles (turned_away cause memory.old) (first_course first memory.new)
         out.old.items out.new.items) }
     ensures ready { IfOk result (IsPrepared memory.new) }
-    ensures outside { has_entered memory.new ≡ false }
-    ensures places { memory.new.places ≡ memory.old.places }
-    ensures looks { memory.new.observed ≡ memory.old.observed }
+    ensures told_nothing { ToldNothing memory.old memory.new }
 {
     memory.stand(Standing::Login);
     put_refusal(cause, out)?;

@@ -1,8 +1,7 @@
 //! What a session remembers from one input to the next.
-ghost use Rattle.std.specs.Prelude.{◌≡◌, ◌≤◌, IfSome, length, slice_get};
+ghost use Rattle.std.specs.Prelude.{◌≡◌, ◌≤◌, length, slice_get};
 ghost use Rattle.command_words.specs.Aliases.{setting, unsetting};
 ghost use Rattle.fics_words.specs.Effect.{Takes, answer_of, state_of};
-ghost use Rattle.lobby_state.specs.Desks.{IsDesk};
 ghost use Rattle.session_core.specs.Memory.{departed, looks_on_at_most, is_giving, is_gone, newcomer, observed_at};
 ghost use Rattle.session_core.specs.Memory.{past_first, present_in};
 ghost use Rattle.session_core.specs.Memory.{reader_in, remark_place, seated_memory, stands_at, memory_told, with_observed, without_observed};
@@ -10,7 +9,7 @@ ghost use Rattle.session_core.specs.Visits.{visits_in};
 
 use crate::reader::Reader;
 use command_words::{Aliases, Style};
-use fics_words::{Fail, Handle, Refusal};
+use fics_words::{DeskNumber, Fail, Handle, Refusal};
 use lobby_state::{LobbyReply, Place, Places};
 use one_server::Reply;
 use session_asks::{LinkMark, Standing, VisitsLeft};
@@ -171,8 +170,7 @@ impl SessionMemory {
 
     /// The present place, if there is any place.
     pub(crate) fn present(&self) -> Option<Place>
-        ensures place { result ≡ present_in self.now }
-        ensures desk { IfSome result (λ place. IsDesk place.desk) }
+        ensures { result ≡ present_in self.now }
     {
         self.places.present()
     }
@@ -219,7 +217,6 @@ impl SessionMemory {
 
     /// Looks on at the game of this place too.
     pub(crate) fn observe(&mut self, place: Place)
-        requires { IsDesk place.desk }
         ensures { self.new ≡ with_observed place self.old }
     {
         // the course asks first whether there is room
@@ -227,7 +224,7 @@ impl SessionMemory {
     }
 
     /// Looks on no longer at the game of this desk.
-    pub(crate) fn unobserve(&mut self, desk: u8)
+    pub(crate) fn unobserve(&mut self, desk: DeskNumber)
         ensures { self.new ≡ without_observed desk self.old }
     {
         self.observed.leave(desk);
@@ -235,12 +232,11 @@ impl SessionMemory {
 
     /// Where the session looks on at the game of this desk, if it does.
     pub(crate) fn observed_at(&self, desk: u32) -> Option<Place>
-        ensures place { result ≡ observed_at desk self.now }
-        ensures desk { IfSome result (λ place. IsDesk place.desk) }
+        ensures { result ≡ observed_at desk self.now }
     {
         for at in 0..self.observed.len() {
             let place = self.observed.place(at);
-            if u32::from(place.desk) == desk {
+            if u32::from(place.desk.get()) == desk {
                 return Some(place);
             }
         }
@@ -249,8 +245,7 @@ impl SessionMemory {
 
     /// The first game at which the session looks on, if there is one.
     fn first_observed(&self) -> Option<Place>
-        ensures place { result ≡ slice_get self.now.observed.rows 0 }
-        ensures desk { IfSome result (λ place. IsDesk place.desk) }
+        ensures { result ≡ slice_get self.now.observed.rows 0 }
     {
         self.observed.get(0)
     }
@@ -258,8 +253,7 @@ impl SessionMemory {
     /// Where the session can say something about a game: at its present place, or else at the first game at which it
     /// looks on.
     pub(crate) fn remark_place(&self) -> Option<Place>
-        ensures place { result ≡ remark_place self.now }
-        ensures desk { IfSome result (λ place. IsDesk place.desk) }
+        ensures { result ≡ remark_place self.now }
     {
         match self.present() {
             Some(place) => Some(place),

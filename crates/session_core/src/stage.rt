@@ -2,6 +2,7 @@
 ghost use Rattle.std.specs.Prelude.{◌≡◌, ◌≤◌, ◌||◌, true, IfOk, Some};
 ghost use Rattle.clock_ledger.specs.Span.{IsStamp};
 ghost use Rattle.linked_desk.specs.Acts.{FitsDeskAct};
+ghost use Rattle.lobby_state.specs.Desks.{IsDesk};
 ghost use Rattle.one_server.specs.Replies.{IsReply};
 ghost use Rattle.session_core.specs.Course.{Writes};
 ghost use Rattle.session_core.specs.Remembering.{is_entered};
@@ -20,7 +21,7 @@ use crate::session_memory::SessionMemory;
 use crate::texts::{put_refusal, put_reply, put_shown, put_waiting};
 use crate::watching::{found, watched};
 use chess_model::MoveWord;
-use fics_words::{Handle, Refusal};
+use fics_words::{DeskNumber, Handle, Refusal};
 use linked_desk::DeskAct;
 use lobby_state::{LobbyAct, Place};
 use memory::NoMemory;
@@ -176,7 +177,7 @@ fn shown(
 
 /// The session looks on no longer at the game of this desk: the reply is printed, and the round comes.
 fn unwatched(
-    desk: u8,
+    desk: DeskNumber,
     memory: &mut SessionMemory,
     reply: &Reply,
     out: &mut Vec<u8>,
@@ -301,8 +302,11 @@ pub(crate) fn ask_where(stage: Stage) -> Next
 
 /// An act at the game of a place.
 pub(crate) fn at_place(place: &Place, act: DeskAct) -> Act
-    ensures { result ≡ at_place place.now act }
+    ensures value { result ≡ at_place place.now act }
+    ensures desk { IsDesk place.now.desk }
 {
+    // the number is what says that there is such a desk
+    let _number = place.desk.get();
     Act::Desk {
         desk: place.desk,
         serial: place.serial,

@@ -191,7 +191,6 @@ fn put_item(style: Style, seat: Option<u8>, item: &Item, out: &mut Vec<u8>) -> R
     requires { NamesWinner item.now }
     ensures { OnOk result (out.new.items ≡ out.old.items ++ item_text style seat item.now) }
 {
-    let alloc = *out.allocator();
     match item {
         Item::Board(view) => put_board(style, seat, view, out),
         Item::Hold {
@@ -199,20 +198,14 @@ fn put_item(style: Style, seat: Option<u8>, item: &Item, out: &mut Vec<u8>) -> R
             white,
             black,
             came,
-        } => {
-            let line = line_b1(alloc, *game, white, black, *came)?;
-            put_line(&line, out)
-        }
+        } => put_ended(line_b1(*game, white, black, *came).bytes(), out),
         Item::Talk(line) => put_line(line, out),
         Item::End {
             view,
             why,
             winner,
             own: on_own,
-        } => {
-            let line = end_line(alloc, view, *why, *winner, *on_own)?;
-            put_line(&line, out)
-        }
+        } => put_ended(end_line(view, *why, *winner, *on_own).bytes(), out),
     }
 }
 
@@ -225,16 +218,12 @@ fn put_board(
 ) -> Result<(), NoMemory>
     ensures { OnOk result (out.new.items ≡ out.old.items ++ board_text style seat view.now) }
 {
-    let alloc = *out.allocator();
     match style {
         Style::One => {
-            let lines = board1(alloc, view)?;
+            let lines = board1(*out.allocator(), view)?;
             put_lines(lines.as_slice(), out)
         }
-        Style::Twelve => {
-            let line = line12(alloc, view, viewer_of(seat, view))?;
-            put_line(&line, out)
-        }
+        Style::Twelve => put_ended(line12(view, viewer_of(seat, view)).bytes(), out),
     }
 }
 

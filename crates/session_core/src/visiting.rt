@@ -1,6 +1,5 @@
 //! The visits of a round: each game of the session is asked for its news.
 ghost use Rattle.std.specs.Prelude.{◌≡◌, ◌++◌, ℕ, List, ◌∷◌, IfOk, OnErr, OnOk, true};
-ghost use Rattle.lobby_state.specs.Desks.{IsDesk};
 ghost use Rattle.one_server.specs.Replies.{IsReply};
 ghost use Rattle.session_core.specs.Course.{Course};
 ghost use Rattle.session_core.specs.Going.{Answered, BrokeOff, WentOn};
@@ -52,8 +51,7 @@ fn visit_game<R: Runner>(
     visit: &Visit,
     out: &mut Vec<u8>,
 ) -> Result<(), NoMemory>
-    requires inside { has_entered memory.old ≡ true }
-    requires desk { IsDesk visit.now.desk }
+    requires { has_entered memory.old ≡ true }
     ensures home { R.home r.new ≡ R.home r.old }
     ensures went { (rest : List Visit) → OnOk result
         (WentOn (visits (visit.now ∷ rest) memory.old) (visits rest memory.new) moment
@@ -78,8 +76,7 @@ fn ask_news<R: Runner>(
     visit: &Visit,
     out: &mut Vec<u8>,
 ) -> Result<bool, NoMemory>
-    requires inside { has_entered memory.old ≡ true }
-    requires desk { IsDesk visit.now.desk }
+    requires { has_entered memory.old ≡ true }
     ensures home { R.home r.new ≡ R.home r.old }
     ensures went { (rest : List Visit) → IfOk result (λ over.
         WentOn (visits (visit.now ∷ rest) memory.old) (given_up visit.now over (visits rest memory.new)) moment
@@ -101,7 +98,6 @@ fn give_up<R: Runner>(
     moment: Moment,
     visit: &Visit,
 ) -> Result<(), NoMemory>
-    requires desk { IsDesk visit.now.desk }
     ensures home { R.home r.new ≡ R.home r.old }
     ensures went { (rest : Course) (memory : MemoryState) (out : List ℕ) → has_entered memory ≡ true → OnOk result
         (WentOn (given_up visit.now true rest) rest moment (R.state r.old) memory out (R.state r.new) memory out) }

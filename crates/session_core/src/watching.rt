@@ -2,7 +2,6 @@
 ghost use Rattle.std.specs.Prelude.{◌≡◌, ◌≤◌, IfOk, false, length, true};
 ghost use Rattle.fics_words.specs.Line.{most_text_bytes};
 ghost use Rattle.lobby_state.specs.Acts.{FitsLobby};
-ghost use Rattle.lobby_state.specs.Desks.{IsDesk};
 ghost use Rattle.one_server.specs.Replies.{IsReply};
 ghost use Rattle.session_core.specs.Memory.{has_entered};
 ghost use Rattle.session_core.specs.Remembering.{asks_places};
@@ -129,7 +128,6 @@ pub(crate) fn watched(
 ) -> Result<Next, NoMemory>
     requires inside { has_entered memory.old ≡ true }
     requires fits { IsReply reply.now }
-    requires desk { IsDesk place.desk }
     ensures settles { IfOk result (λ next. Settles (watching place reply.now memory.old)
         (course_of next memory.new) out.old.items out.new.items) }
     ensures ready { IfOk result (IsPosed memory.new) }
@@ -145,7 +143,6 @@ pub(crate) fn watched(
 
 /// The session looks on where it is shown boards.
 fn look_on(place: Place, memory: &mut SessionMemory, reply: &Reply)
-    requires { IsDesk place.desk }
     ensures after { memory.new ≡ watched place reply.now memory.old }
     ensures stands { memory.new.standing ≡ memory.old.standing }
 {

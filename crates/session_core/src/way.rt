@@ -1,14 +1,14 @@
 //! The ways in which a session carries out commands, and which one each command goes.
 ghost use Rattle.std.specs.Prelude.{◌≡◌};
-ghost use Rattle.session_core.specs.Ways.{var_of, way_of};
+ghost use Rattle.session_core.specs.Ways.{way_of};
 
 use crate::own_commands::OwnCommand;
 use crate::reaction::Reaction;
 use chess_model::MoveWord;
-use command_words::{Bare, ByName, ByNumber, Command, MaybeByName, OnChannel, Variable, WithText};
+use command_words::{Bare, ByName, ByNumber, Command, MaybeByName, OnChannel, WithText};
 use fics_words::{Handle, HandleKey, Line};
 use linked_desk::{DeskAct, Offer};
-use lobby_state::{LobbyAct, PairAct, Var, WhichList};
+use lobby_state::{LobbyAct, PairAct, WhichList};
 use login_handles::digest_of;
 use one_server::Act;
 use std::mem::size_of;
@@ -61,10 +61,7 @@ pub(crate) fn way_of(command: Command) -> Way
         Command::ObserveGame(number) => Way::Observe(LobbyAct::FindGame { number }),
         Command::ObservePlayer(name) => Way::Observe(LobbyAct::Find { name: name.key() }),
         Command::Seek(terms) => lobby(LobbyAct::Post { terms }),
-        Command::Set(variable, on) => lobby(LobbyAct::Var {
-            which: var_of(variable),
-            on,
-        }),
+        Command::Set(which, on) => lobby(LobbyAct::Var { which, on }),
         Command::Style(style) => Way::Own(OwnCommand::Style(style)),
         Command::Takeback(number) => offering(Offer::Takeback(number)),
         Command::Tell(to, text) => lobby(LobbyAct::Tell { to: to.key(), text }),
@@ -183,17 +180,6 @@ fn on_channel(which: OnChannel, channel: u8) -> Way
         OnChannel::Ask => lobby(LobbyAct::InChannel { channel }),
         OnChannel::Join => lobby(LobbyAct::Channel { channel, on: true }),
         OnChannel::Leave => lobby(LobbyAct::Channel { channel, on: false }),
-    }
-}
-
-/// The variable as the lobby keeps it.
-fn var_of(variable: Variable) -> Var
-    ensures { result ≡ var_of variable }
-{
-    match variable {
-        Variable::Open => Var::Open,
-        Variable::Shout => Var::Shout,
-        Variable::Seek => Var::Seek,
     }
 }
 

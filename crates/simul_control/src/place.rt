@@ -1,10 +1,11 @@
 //! A place: a seat at a desk in use.
 
+use fics_words::DeskNumber;
+
 /// A seat that a member has at a desk in use.
-#[derive(Clone, Copy, PartialEq, Eq)]
+#[derive(Clone, Copy)]
 pub struct Place {
-    /// The desk, 1 to 128.
-    pub desk: u8,
+    pub desk: DeskNumber,
     /// The serial of the game at that desk.
     pub serial: u64,
     /// The seat, counted from 0: White's and then Black's.

@@ -1,12 +1,11 @@
 //! The places of a player, in columns of fixed room.
-ghost use Rattle.std.specs.Prelude.{◌≡◌, ◌-◌, ◌<◌, ◌≤◌, ◌==◌, IfSome, count_by, filter, get_or, length, slice_get, take, true};
+ghost use Rattle.std.specs.Prelude.{◌≡◌, ◌-◌, ◌<◌, ◌≤◌, ◌==◌, count_by, filter, get_or, length, slice_get, take, true};
 ghost use Rattle.std.specs.List.{list_any};
-ghost use Rattle.fics_words.specs.Desks.{IsDesk};
-ghost use Rattle.simul_control.specs.Places.{AreAtDesks, is_at, is_elsewhere, is_other, most_at_switch, turned_from};
+ghost use Rattle.simul_control.specs.Places.{is_at, is_elsewhere, is_other, most_at_switch, turned_from};
 
 use crate::direction::Direction;
 use crate::place::Place;
-use fics_words::Refusal;
+use fics_words::{DeskNumber, Refusal};
 use std::marker::Model;
 use std::mem::size_of;
 
@@ -69,7 +68,6 @@ impl Places {
         ensures count { result ≡ length self.now.rows }
         ensures most { length self.now.rows ≤ MOST }
         ensures present { self.now.at ≤ length self.now.rows - 1 }
-        ensures at_desks { AreAtDesks self.now.rows }
     {
         self.count
     }
@@ -77,11 +75,10 @@ impl Places {
     /// The place of this number, from 0, in the order in which they came.
     pub fn place(&self, at: usize) -> Place
         requires { at < length self.now.rows }
-        ensures place { (other : Place) → result ≡ get_or self.now.rows at other }
-        ensures at_desk { IsDesk result.desk }
+        ensures { (other : Place) → result ≡ get_or self.now.rows at other }
     {
         Place {
-            desk: self.desks[at],
+            desk: DeskNumber::new(self.desks[at]),
             serial: self.serials[at],
             seat: self.seats[at],
         }
@@ -89,8 +86,7 @@ impl Places {
 
     /// The same, if there is a place of this number.
     pub fn get(&self, at: usize) -> Option<Place>
-        ensures place { result ≡ slice_get self.now.rows at }
-        ensures at_desk { IfSome result (λ place. IsDesk place.desk) }
+        ensures { result ≡ slice_get self.now.rows at }
     {
         if at >= self.count {
             return None;
@@ -107,8 +103,7 @@ impl Places {
 
     /// The present place, if there is any place.
     pub fn present(&self) -> Option<Place>
-        ensures present { result ≡ slice_get self.now.rows self.now.at }
-        ensures at_desk { IfSome result (λ place. IsDesk place.desk) }
+        ensures { result ≡ slice_get self.now.rows self.now.at }
     {
         self.get(self.at)
     }
@@ -136,14 +131,13 @@ impl Places {
 
     /// Puts a place behind the others; the present one stays. Refuses with `SimulFull` where there are 32.
     pub fn add(&mut self, place: Place) -> Result<(), Refusal>
-        requires { IsDesk place.desk }
         ensures makes { Makes (adding_place place self.old) self.old self.new result }
         ensures after { self.new ≡ with_place place self.old }
     {
         if self.count >= MOST {
             return Err(Refusal::SimulFull);
         }
-        self.desks[self.count] = place.desk;
+        self.desks[self.count] = place.desk.get();
         self.seats[self.count] = place.seat;
         self.serials[self.count] = place.serial;
         self.count += 1;
@@ -151,7 +145,7 @@ impl Places {
     }
 
     /// Leaves the places at this desk. The present one stays, or becomes the first where it would be behind the last.
-    pub fn leave(&mut self, desk: u8)
+    pub fn leave(&mut self, desk: DeskNumber)
         ensures { self.new ≡ without_desk desk self.old }
     {
         if !self.is_at(desk) {
@@ -161,14 +155,14 @@ impl Places {
     }
 
     /// Whether one of the places is at this desk.
-    fn is_at(&self, desk: u8) -> bool
+    fn is_at(&self, desk: DeskNumber) -> bool
         ensures { result ≡ list_any (is_at desk) self.now.rows }
     {
         has_desk(&self.desks[..self.count], desk)
     }
 
     /// The places without those at this desk, where one is.
-    fn without(&self, desk: u8) -> Places
+    fn without(&self, desk: DeskNumber) -> Places
         requires { list_any (is_at desk) self.now.rows ≡ true }
         ensures { result ≡ without_desk desk self.now }
     {
@@ -214,15 +208,16 @@ impl Places {
 }
 
 /// The places that aren't at the desk, of a player that gives as before; the first of them is the present one.
-fn elsewhere(places: &Places, desk: u8) -> Places
+fn elsewhere(places: &Places, desk: DeskNumber) -> Places
     ensures { result ≡ record
         { giving = places.now.giving; at = 0; rows = filter (is_elsewhere desk) places.now.rows } }
 {
+    let number = desk.get();
     let mut kept = Places::none();
     kept.giving = places.giving;
     for at in 0..places.len() {
         let place = places.place(at);
-        if place.desk != desk {
+        if place.desk.get() != number {
             // no more than there were, so that there is room
             let _room = kept.add(place);
         }
@@ -231,7 +226,7 @@ fn elsewhere(places: &Places, desk: u8) -> Places
 }
 
 /// How many of the first so many places aren't at the desk.
-fn count_elsewhere(places: &Places, first: usize, desk: u8) -> usize
+fn count_elsewhere(places: &Places, first: usize, desk: DeskNumber) -> usize
     requires { first ≤ length places.now.rows }
     ensures { result ≡ count_by (is_elsewhere desk) (take first places.now.rows) }
 {
@@ -239,17 +234,19 @@ fn count_elsewhere(places: &Places, first: usize, desk: u8) -> usize
 }
 
 /// Whether the desk is one of these.
-fn has_desk(desks: &[u8], desk: u8) -> bool
+fn has_desk(desks: &[u8], desk: DeskNumber) -> bool
     ensures { result ≡ list_any (λ other. other == desk) desks.now }
 {
-    desks.iter().any(|other| *other == desk)
+    let number = desk.get();
+    desks.iter().any(|other| *other == number)
 }
 
 /// How many of these desks are other ones.
-fn count_others(desks: &[u8], desk: u8) -> usize
+fn count_others(desks: &[u8], desk: DeskNumber) -> usize
     ensures { result ≡ count_by (is_other desk) desks.now }
 {
-    desks.iter().filter(|other| **other != desk).count()
+    let number = desk.get();
+    desks.iter().filter(|other| **other != number).count()
 }
 
 /// How many places a player may have as it begins a simul, and as it ends one.

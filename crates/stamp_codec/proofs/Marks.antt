@@ -4,7 +4,7 @@ use Rattle.std.specs.Prelude.{◌==◌}
 use Rattle.std.specs.List.{AllByRecursion}
 use Rattle.std.proofs.lemmas.Bool.Decides.{nat_tests}
 use Rattle.std.proofs.Common.{arith}
-use Rattle.stamp_codec.specs.Opening.{before, behind}
+use Rattle.stamp_codec.specs.Opening.{before, behind_mark}
 
 -- bytes with a mark have one
 pub mark_within : (mark : ℕ) (front back : List ℕ) → AllByRecursion (λ b. b ≢ mark) (front ++ mark ∷ back) → ⊥
@@ -34,9 +34,9 @@ before-mark mark (byte ∷ front) back h =
     ap (λ (t : Bool). cond t [] (byte ∷ before mark (front ++ mark ∷ back))) (differ byte mark h.0)
     ∙ ap (λ (l : List ℕ). byte ∷ l) (before-mark mark front back h.1)
 
-pub behind-mark : (mark : ℕ) (front back : List ℕ) → AllByRecursion (λ c. c ≢ mark) front
-    → behind mark (front ++ mark ∷ back) ≡ back
-behind-mark mark [] back h = ap (λ (t : Bool). cond t back (behind mark back)) (eq-eqb mark mark refl)
-behind-mark mark (byte ∷ front) back h =
-    ap (λ (t : Bool). cond t (front ++ mark ∷ back) (behind mark (front ++ mark ∷ back))) (differ byte mark h.0)
-    ∙ behind-mark mark front back h.1
+pub behind_mark-first : (mark : ℕ) (front back : List ℕ) → AllByRecursion (λ c. c ≢ mark) front
+    → behind_mark mark (front ++ mark ∷ back) ≡ back
+behind_mark-first mark [] back h = ap (λ (t : Bool). cond t back (behind_mark mark back)) (eq-eqb mark mark refl)
+behind_mark-first mark (byte ∷ front) back h =
+    ap (λ (t : Bool). cond t (front ++ mark ∷ back) (behind_mark mark (front ++ mark ∷ back))) (differ byte mark h.0)
+    ∙ behind_mark-first mark front back h.1

@@ -7,13 +7,13 @@ use Rattle.std.proofs.lemmas.Option.{same_Some}
 use Rattle.std.proofs.lemmas.Bool.{and_parts, and_from}
 use Rattle.std.proofs.lemmas.Slice.Eq.{bytes_eq-Decides}
 use Rattle.stamp_codec.specs.Message.{Message, text_of, stamp_of, is_message, message_of}
-use Rattle.stamp_codec.specs.Spelling.{body, pads, written, swapped, by_place, cipher, spelling, IsSpelled}
-use Rattle.stamp_codec.specs.Opening.{decipher, before, behind, number, plain, candidate, if_spelled, opened}
+use Rattle.stamp_codec.specs.Spelling.{body, pads, written, swapped, by_place, cipher, stamped_line, IsStampedLine}
+use Rattle.stamp_codec.specs.Opening.{decipher, before, behind_mark, number, plain, candidate, if_spelled, opened}
 use Rattle.stamp_codec.specs.declared.sealed.Sealed.{Sealed}
 use Rattle.stamp_codec.specs.Sealed.{message as message_in, option_message}
 use Rattle.stamp_codec.proofs.Swaps.{swapped-swapped, AllByRecursion-swapped}
 use Rattle.stamp_codec.proofs.Places.{decipher-cipher_each, cipher-decipher_each}
-use Rattle.stamp_codec.proofs.Marks.{before-mark, behind-mark}
+use Rattle.stamp_codec.proofs.Marks.{before-mark, behind_mark-first}
 use Rattle.stamp_codec.proofs.Written.{letters_of, letters_unmarked, stamp_small, message_of-own, number-decimal, decimal_unmarked, written_parts, written_small}
 use Rattle.fics_words.proofs.Each.{each-front}
 
@@ -24,8 +24,9 @@ take-front xs x =
     ∙ take-append_seam xs (x ∷ [])
 
 -- the bytes of a line in the open
-pub plain-spelling : (message : Message) → is_message message ≡ true → plain (spelling message) ≡ written message
-plain-spelling message h =
+pub plain-stamped_line : (message : Message) → is_message message ≡ true
+    → plain (stamped_line message) ≡ written message
+plain-stamped_line message h =
     ap (λ (l : List ℕ). swapped (by_place decipher 0 l))
     (take-front (by_place cipher 0 (swapped (written message))) 0x80)
     ∙ ap swapped
@@ -34,60 +35,62 @@ plain-spelling message h =
     ∙ swapped-swapped (written message)
 
 -- the one message that a spelling may be of is its own
-candidate-spelling : (message : Message) → is_message message ≡ true → candidate (spelling message) ≡ message
-candidate-spelling message h =
-    let parts = plain-spelling message h ∙ written_parts message in
+candidate-stamped_line : (message : Message) → is_message message ≡ true → candidate (stamped_line message) ≡ message
+candidate-stamped_line message h =
+    let parts = plain-stamped_line message h ∙ written_parts message in
     let unmarked = letters_unmarked (text_of message) (letters_of message h) in
     let small : stamp_of message < 2 ^ 64 = omega (arith, stamp_small message h) in
     let rest =
     decimal (stamp_of message) ++ 0x19 ∷ replicate (pads (length (body (text_of message) (stamp_of message)))) 0x31 in
-    let front : before 0x18 (plain (spelling message)) ≡ text_of message =
+    let front : before 0x18 (plain (stamped_line message)) ≡ text_of message =
     ap (before 0x18) parts ∙ before-mark 0x18 (text_of message) rest unmarked in
-    let back : behind 0x18 (plain (spelling message)) ≡ rest =
-    ap (behind 0x18) parts ∙ behind-mark 0x18 (text_of message) rest unmarked in
-    let digits : before 0x19 (behind 0x18 (plain (spelling message))) ≡ decimal (stamp_of message) =
+    let back : behind_mark 0x18 (plain (stamped_line message)) ≡ rest =
+    ap (behind_mark 0x18) parts ∙ behind_mark-first 0x18 (text_of message) rest unmarked in
+    let digits : before 0x19 (behind_mark 0x18 (plain (stamped_line message))) ≡ decimal (stamp_of message) =
     ap (before 0x19) back
     ∙ before-mark 0x19 (decimal (stamp_of message))
     (replicate (pads (length (body (text_of message) (stamp_of message)))) 0x31)
     (decimal_unmarked (stamp_of message) small) in
-    ap (λ (text : List ℕ). message_of text (number (before 0x19 (behind 0x18 (plain (spelling message)))))) front
+    ap (λ (text : List ℕ). message_of text (number (before 0x19 (behind_mark 0x18 (plain (stamped_line message))))))
+    front
     ∙ ap (message_of (text_of message)) (ap number digits ∙ number-decimal (stamp_of message) small)
     ∙ message_of-own message h
 
-pub opened-spelling : (message : Message) → is_message message ≡ true → opened (spelling message) ≡ Some message
-opened-spelling message h =
-    ap (if_spelled (spelling message)) (candidate-spelling message h)
+pub opened-stamped_line : (message : Message) → is_message message ≡ true → opened (stamped_line message) ≡ Some message
+opened-stamped_line message h =
+    ap (if_spelled (stamped_line message)) (candidate-stamped_line message h)
     ∙ ap (λ (t : Bool). cond t (Some message) None)
-    (and_from (is_message message) (bytes_eq (spelling message) (spelling message)) h
-    ((bytes_eq-Decides (spelling message) (spelling message)).1 refl))
+    (and_from (is_message message) (bytes_eq (stamped_line message) (stamped_line message)) h
+    ((bytes_eq-Decides (stamped_line message) (stamped_line message)).1 refl))
 
-pub opened_is : (line : List ℕ) (message : Message) → IsSpelled message line → opened line ≡ Some message
-opened_is line message h = ap opened h.line ∙ opened-spelling message h.said
+pub opened_is : (line : List ℕ) (message : Message) → IsStampedLine message line → opened line ≡ Some message
+opened_is line message h = ap opened h.line ∙ opened-stamped_line message h.said
 
-if_spelled_is : (line : List ℕ) (one message : Message) → if_spelled line one ≡ Some message → IsSpelled message line
+if_spelled_is : (line : List ℕ) (one message : Message) → if_spelled line one ≡ Some message
+    → IsStampedLine message line
 if_spelled_is line one message e =
-    elim (is_message one && bytes_eq (spelling one) line)
+    elim (is_message one && bytes_eq (stamped_line one) line)
     as (λ t.
-    is_message one && bytes_eq (spelling one) line ≡ t → cond t (Some one) None ≡ Some message
-    → IsSpelled message line) [
+    is_message one && bytes_eq (stamped_line one) line ≡ t → cond t (Some one) None ≡ Some message
+    → IsStampedLine message line) [
       | true ↦ λ test some.
-          let parts = and_parts (is_message one) (bytes_eq (spelling one) line) test in
+          let parts = and_parts (is_message one) (bytes_eq (stamped_line one) line) test in
           let same : one ≡ message = cc in
-          subst (λ (m : Message). IsSpelled m line) same (record {
+          subst (λ (m : Message). IsStampedLine m line) same (record {
             said = parts.0;
-            line = sym ((bytes_eq-Decides (spelling one) line).0 parts.1);
+            line = sym ((bytes_eq-Decides (stamped_line one) line).0 parts.1);
           })
       | false ↦ λ test some. absurd cc
     ] refl e
 
-pub spelled_opened : (line : List ℕ) (message : Message) → opened line ≡ Some message → IsSpelled message line
+pub spelled_opened : (line : List ℕ) (message : Message) → opened line ≡ Some message → IsStampedLine message line
 spelled_opened line message e = if_spelled_is line (candidate line) message e
 
 none_or : (found : Option Message) → ((message : Message) → found ≡ Some message → ⊥) → found ≡ None
 none_or None h = refl
 none_or (Some message) h = absurd (h message refl)
 
-pub opened_none : (line : List ℕ) → ((message : Message) → IsSpelled message line → ⊥) → opened line ≡ None
+pub opened_none : (line : List ℕ) → ((message : Message) → IsStampedLine message line → ⊥) → opened line ≡ None
 opened_none line h = none_or (opened line) (λ message e. h message (spelled_opened line message e))
 
 -- ---- what the code has read
@@ -104,7 +107,7 @@ closed raw end some is last =
 -- a line that says a message in the open is its spelling
 pub spelled_by : (raw : List ℕ) (end : ℕ) (message : Message) → AllByRecursion (λ b. b < 256) raw
     → raw ≡ take end raw ++ 0x80 ∷ [] → is_message message ≡ true
-    → swapped (by_place decipher 0 (take end raw)) ≡ written message → IsSpelled message raw
+    → swapped (by_place decipher 0 (take end raw)) ≡ written message → IsStampedLine message raw
 spelled_by raw end message fits ends h says =
     let front = take end raw in
     let bytes : AllByRecursion (λ b. b < 256) front =
@@ -123,13 +126,13 @@ spelled_by raw end message fits ends h says =
     }
 
 -- a spelling says its message in the open
-pub says_written : (raw : List ℕ) (end : ℕ) (message : Message) → end ≡ length raw - 1 → IsSpelled message raw
+pub says_written : (raw : List ℕ) (end : ℕ) (message : Message) → end ≡ length raw - 1 → IsStampedLine message raw
     → swapped (by_place decipher 0 (take end raw)) ≡ written message
 says_written raw end message is h =
-    ap (λ (n : ℕ). swapped (by_place decipher 0 (take n raw))) is ∙ ap plain h.line ∙ plain-spelling message h.said
+    ap (λ (n : ℕ). swapped (by_place decipher 0 (take n raw))) is ∙ ap plain h.line ∙ plain-stamped_line message h.said
 
 -- a spelling ends in the closing byte
-pub spelled_closed : (raw : List ℕ) (message : Message) → IsSpelled message raw
+pub spelled_closed : (raw : List ℕ) (message : Message) → IsStampedLine message raw
     → (0 < length raw) × (get_or raw (length raw - 1) 0 ≡ 0x80)
 spelled_closed raw message h =
     let front = by_place cipher 0 (swapped (written message)) in
@@ -139,17 +142,18 @@ spelled_closed raw message h =
           ∙ get_or-append_seam front 0x80 [] 0,
     )
 
-pub opened_both : (found : Option Sealed) (raw : List ℕ) → IfSome found (λ sealed. IsSpelled (message_in sealed) raw)
-    → IfNone found ((message : Message) → IsSpelled message raw → ⊥)
+pub opened_both : (found : Option Sealed) (raw : List ℕ)
+    → IfSome found (λ sealed. IsStampedLine (message_in sealed) raw)
+    → IfNone found ((message : Message) → IsStampedLine message raw → ⊥)
     → option_message found ≡ opened raw
 opened_both None raw some none = sym (opened_none raw none)
 opened_both (Some sealed) raw some none = sym (opened_is raw (message_in sealed) some)
 
-pub opened_iff : (line : List ℕ) (message : Message) → opened line ≡ Some message ↔ IsSpelled message line
+pub opened_iff : (line : List ℕ) (message : Message) → opened line ≡ Some message ↔ IsStampedLine message line
 opened_iff line message = (spelled_opened line message, opened_is line message)
 
 -- one spelling says one message
 pub one_spelled : (one other : Message) → is_message one ≡ true → is_message other ≡ true
-    → spelling one ≡ spelling other → one ≡ other
+    → stamped_line one ≡ stamped_line other → one ≡ other
 one_spelled one other h k e =
-    same_Some one other (sym (opened-spelling one h) ∙ ap opened e ∙ opened-spelling other k)
+    same_Some one other (sym (opened-stamped_line one h) ∙ ap opened e ∙ opened-stamped_line other k)

@@ -2,7 +2,7 @@
 use Rattle.std.specs.Prelude.{◌≡◌, ℕ, List, [], ◌∷◌, codes, Some, None, refl}
 use Rattle.std.specs.Fmt.{digits}
 use Rattle.stamp_codec.specs.Message.{Text}
-use Rattle.stamp_codec.specs.Spelling.{body, padded, swapped, spelling}
+use Rattle.stamp_codec.specs.Spelling.{body, padded, swapped, stamped_line}
 use Rattle.stamp_codec.specs.Opening.{opened}
 
 -- the text `a` with stamp 0, step by step
@@ -16,7 +16,7 @@ swapped_places = refl
 abbrev letter_line : List ℕ
 letter_line = 0xC5 ∷ 0xD1 ∷ 0xBC ∷ 0xDC ∷ 0xA2 ∷ 0xA5 ∷ 0xB0 ∷ 0xBC ∷ 0xA1 ∷ 0x70 ∷ 0x79 ∷ 0x87 ∷ 0x80 ∷ []
 
-spelled_letter : spelling (Text (codes "a") 0) ≡ letter_line
+spelled_letter : stamped_line (Text (codes "a") 0) ≡ letter_line
 unfolding digits
 spelled_letter = refl
 

@@ -43,10 +43,10 @@ abbrev pub written : Message → List ℕ
 written message = padded (body (text_of message) (stamp_of message))
 
 -- the line: these bytes, swapped and each in its place, and the closing byte 0x80
-abbrev pub spelling : Message → List ℕ
-spelling message = by_place cipher 0 (swapped (written message)) ++ 0x80 ∷ []
+abbrev pub stamped_line : Message → List ℕ
+stamped_line message = by_place cipher 0 (swapped (written message)) ++ 0x80 ∷ []
 
 -- a message that a line can say, and the line that says it
-pub record IsSpelled (message : Message) (bytes : List ℕ) : Type 0 where
+pub record IsStampedLine (message : Message) (bytes : List ℕ) : Type 0 where
   pub said : is_message message ≡ true
-  pub line : bytes ≡ spelling message
+  pub line : bytes ≡ stamped_line message

@@ -2,13 +2,13 @@
 ghost use Rattle.std.specs.Prelude.{◌≡◌, ◌↔◌, ◌+◌, ◌%◌, ◌<◌, ℕ, List, true, Some};
 ghost use Rattle.stamp_codec.specs.Message.{Message, is_message};
 ghost use Rattle.stamp_codec.specs.Opening.{opened};
-ghost use Rattle.stamp_codec.specs.Spelling.{IsSpelled, pads, spelling, swapped};
+ghost use Rattle.stamp_codec.specs.Spelling.{IsStampedLine, pads, stamped_line, swapped};
 
 /// Each spelling says one message, which `opened` reads out of it; and nothing else is opened.
 pub fn one_message()
-    ensures one { (one other : Message) → is_message one ≡ true → is_message other ≡ true → spelling one
-        ≡ spelling other → one ≡ other }
-    ensures opened { (line : List ℕ) (message : Message) → opened line ≡ Some message ↔ IsSpelled message line }
+    ensures one { (one other : Message) → is_message one ≡ true → is_message other ≡ true → stamped_line one
+        ≡ stamped_line other → one ≡ other }
+    ensures opened { (line : List ℕ) (message : Message) → opened line ≡ Some message ↔ IsStampedLine message line }
 {}
 
 /// The pads fill the last group and no more, and a swap is undone by itself.

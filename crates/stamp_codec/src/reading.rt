@@ -4,7 +4,7 @@ ghost use Rattle.std.specs.List.{AllByRecursion};
 ghost use Rattle.stamp_codec.specs.Message.{Message};
 ghost use Rattle.stamp_codec.specs.Opening.{opened};
 ghost use Rattle.stamp_codec.specs.Sealed.{message, option_message};
-ghost use Rattle.stamp_codec.specs.Spelling.{IsSpelled};
+ghost use Rattle.stamp_codec.specs.Spelling.{IsStampedLine};
 
 use crate::cipher::decipher_line;
 use crate::groups::swap_groups;
@@ -17,8 +17,8 @@ pub(crate) const CLOSING: u8 = 0x80;
 /// Reads a stamped line, which is handed in without its LF and with its closing 0x80: the message exactly where the
 /// bytes are the spelling of one. Works in place: after `None` the bytes are what they happen to be.
 pub fn unseal<'a>(raw: &'a mut [u8]) -> Option<Sealed<'a>>
-    ensures sealed { IfSome result (λ sealed. IsSpelled (message sealed) raw.old) }
-    ensures none { IfNone result ((other : Message) → IsSpelled other raw.old → ⊥) }
+    ensures sealed { IfSome result (λ sealed. IsStampedLine (message sealed) raw.old) }
+    ensures none { IfNone result ((other : Message) → IsStampedLine other raw.old → ⊥) }
     ensures opened { option_message result ≡ opened raw.old }
 {
     if !is_closed(raw) {

@@ -1,7 +1,7 @@
 //! Writing a stamped line.
 ghost use Rattle.std.specs.Prelude.{◌≡◌, ◌++◌, ◌∷◌, [], ◌<◌, ◌||◌, true, IfOk, OnOk, bytes_eq};
 ghost use Rattle.stamp_codec.specs.Message.{ack_text, is_message, is_text, message_of};
-ghost use Rattle.stamp_codec.specs.Spelling.{body, by_place, cipher, padded, spelling, swapped};
+ghost use Rattle.stamp_codec.specs.Spelling.{body, by_place, cipher, padded, stamped_line, swapped};
 
 use crate::cipher::encipher_line;
 use crate::groups::swap_groups;
@@ -18,7 +18,7 @@ pub fn seal(alloc: Global, text: &[u8], stamp: u32) -> Result<Vec<u8>, NoMemory>
     requires text { (is_text text.now || bytes_eq text.now ack_text) ≡ true }
     requires stamp { stamp < STAMP_CYCLE }
     ensures said { is_message (message_of text.now stamp) ≡ true }
-    ensures line { IfOk result (λ line. line.items ≡ spelling (message_of text.now stamp) ++ 0x0A ∷ []) }
+    ensures line { IfOk result (λ line. line.items ≡ stamped_line (message_of text.now stamp) ++ 0x0A ∷ []) }
 {
     let mut line = Vec::new(alloc);
     write_line(&mut line, text, stamp)?;
@@ -28,7 +28,7 @@ pub fn seal(alloc: Global, text: &[u8], stamp: u32) -> Result<Vec<u8>, NoMemory>
 /// Writes the one line of a text and a stamp where nothing stands yet.
 fn write_line(line: &mut Vec<u8>, text: &[u8], stamp: u32) -> Result<(), NoMemory>
     requires { line.old.items ≡ [] }
-    ensures { OnOk result (line.new.items ≡ spelling (message_of text.now stamp) ++ 0x0A ∷ []) }
+    ensures { OnOk result (line.new.items ≡ stamped_line (message_of text.now stamp) ++ 0x0A ∷ []) }
 {
     write_body(line, text, stamp)?;
     fill_group(line)?;

@@ -208,14 +208,20 @@ kept_behind low made upto (order ∷ (more ∷ first)) rest rise last =
     ap (λ t. cond t (order ∷ left) left) (le-ltb upto order.number (omega (arith, later)))
     ∙ kept_behind order.number made upto (more ∷ first) rest rise.1 last
 
+left_behind : (lobby : LobbyState) (first rest : List Order) (upto : ℕ) → IsShelf lobby.shelf
+    → lobby.shelf.orders ≡ first ++ rest → last_number first ≡ Some upto
+    → filter (λ (o : Order). nat_lt upto o.number) lobby.shelf.orders ≡ rest
+left_behind lobby first rest upto shelf is last =
+    ap (λ (orders : List Order). filter (λ (o : Order). nat_lt upto o.number) orders) is
+    ∙ kept_behind 0 lobby.shelf.made upto first rest
+    (subst (λ (orders : List Order). OrdersRise 0 lobby.shelf.made orders) is shelf.orders) last
+
 saved_prefix : (t0 t1 : StoreMap) (lobby : LobbyState) (first rest : List Order) (upto : ℕ) → IsShelf lobby.shelf
     → lobby.shelf.orders ≡ first ++ rest → last_number first ≡ Some upto
     → ((key : List ℕ) → t1 key ≡ table_with t0 first key) → AgreesWith t0 lobby
     → AgreesWith t1 (record lobby { shelf = saved lobby.shelf upto })
 saved_prefix t0 t1 lobby first rest upto shelf is last holds agreed key =
-    let rise = subst (λ (orders : List Order). OrdersRise 0 lobby.shelf.made orders) is shelf.orders in
-    ap (λ (orders : List Order). table_with t1 (filter (λ (o : Order). nat_lt upto o.number) orders) key) is
-    ∙ ap (λ (orders : List Order). table_with t1 orders key) (kept_behind 0 lobby.shelf.made upto first rest rise last)
+    ap (λ (orders : List Order). table_with t1 orders key) (left_behind lobby first rest upto shelf is last)
     ∙ same_table t1 (table_with t0 first) rest key (holds key)
     ∙ ap (λ (t : StoreMap). t key) (sym (table_with-append t0 first rest))
     ∙ ap (λ (orders : List Order). table_with t0 orders key) (sym is)
@@ -227,10 +233,8 @@ saved_doubt : (t0 t1 : StoreMap) (lobby : LobbyState) (first doubt rest : List O
     → ((key : List ℕ) → t1 key ≡ table_with t0 (first ++ doubt) key) → AgreesWith t0 lobby
     → AgreesWith t1 (record lobby { shelf = saved lobby.shelf upto })
 saved_doubt t0 t1 lobby first doubt rest upto shelf is last holds agreed =
-    let rise = subst (λ (orders : List Order). OrdersRise 0 lobby.shelf.made orders) is shelf.orders in
     put_prefix (table_with t0 first) t1 (record lobby { shelf = saved lobby.shelf upto }) doubt rest
-    (ap (λ (orders : List Order). filter (λ (o : Order). nat_lt upto o.number) orders) is
-    ∙ kept_behind 0 lobby.shelf.made upto first (doubt ++ rest) rise last)
+    (left_behind lobby first (doubt ++ rest) upto shelf is last)
     (λ key. holds key ∙ ap (λ (t : StoreMap). t key) (table_with-append t0 first doubt))
     (saved_prefix t0 (table_with t0 first) lobby first (doubt ++ rest) upto shelf is last (λ key. refl) agreed)
 

@@ -40,52 +40,56 @@ legal_last xs (f ∷ es) e legal = legal_last (after house xs f.session f.act) e
 few_told : (orders : List Order) → length (take 16 orders) ≤ 16
 few_told orders = let long = length-take 16 orders in omega (arith, long)
 
-told_in : (xs : List Part) (k moment : ℕ) (answer : Reply) (part : Option Part) → slice_get xs 0 ≡ part
-    → reply house xs k (asks_orders moment) ≡ Some answer
-    → StandFirst (orders_in answer) (after house xs k (asks_orders moment))
-told_in xs k moment answer None there told =
-    let a = asks_orders moment in
-    let bad : Some answer ≡ None =
-    sym told
-    ∙ ap (λ (part : Option Part). option_map (λ (p : Part). house.answer p (other_of house xs k a) k a) part) there in
-    cc
-told_in xs k moment answer (Some (ADesk desk)) there told =
-    let a = asks_orders moment in
-    let is : Some answer ≡ Some no_parts = sym told ∙ reply_alone house xs k a (ADesk desk) there refl in
-    let same : answer ≡ no_parts = cc in
-    subst (λ (orders : List Order). StandFirst orders (after house xs k a)) (sym (ap orders_in same))
-    (record { few = omega arith; first = λ lobby _. (lobby.shelf.orders, refl) })
-told_in xs k moment answer (Some (TheLobby lobby)) there told =
-    let a = asks_orders moment in
-    let one : Reply = lobby_reply (lobby_answer lobby k AskOrders) in
-    let is : Some answer ≡ Some one = sym told ∙ reply_alone house xs k a (TheLobby lobby) there refl in
-    let same : answer ≡ one = cc in
-    let alone : after house xs k a ≡ set xs 0 (TheLobby lobby) = after_alone house xs k a (TheLobby lobby) there refl in
-    let there_now : slice_get (after house xs k a) 0 ≡ Some (TheLobby lobby) =
-    ap (λ (l : List Part). slice_get l 0) alone
-    ∙ get_set_same xs 0 (TheLobby lobby) (slice_get_length xs 0 (TheLobby lobby) there) in
-    subst (λ (orders : List Order). StandFirst orders (after house xs k a)) (sym (ap orders_in same))
-    (record {
-      few = few_told lobby.shelf.orders;
-      first = λ other found.
-          let same_lobby : other ≡ lobby = ap (lobby_in lobby) (sym found ∙ there_now) in (
-            drop 16 lobby.shelf.orders,
-            ap (λ (l : LobbyState). l.shelf.orders) same_lobby ∙ sym (take-append-drop 16 lobby.shelf.orders),
-          );
-    })
+module _ (xs : List Part) (k moment : ℕ) (answer : Reply) where
+  abbrev asked : Timed
+  asked = asks_orders moment
 
--- the session was told orders
-pub told_first : (moment : ℕ) (answer : Reply) (old new : RunnerState) → ServerRan old (asks_orders moment) answer new
-    → StandFirst (orders_in answer) (state_seen new)
-told_first moment answer old new ran =
+  told_in : (part : Option Part) → slice_get xs 0 ≡ part → reply house xs k asked ≡ Some answer
+      → StandFirst (orders_in answer) (after house xs k asked)
+  told_in None there told =
+      let bad : Some answer ≡ None =
+      sym told
+      ∙ ap (λ (part : Option Part).
+      option_map (λ (p : Part). house.answer p (other_of house xs k asked) k asked) part)
+      there in
+      cc
+  told_in (Some (ADesk desk)) there told =
+      let is : Some answer ≡ Some no_parts = sym told ∙ reply_alone house xs k asked (ADesk desk) there refl in
+      let same : answer ≡ no_parts = cc in
+      subst (λ (orders : List Order). StandFirst orders (after house xs k asked)) (sym (ap orders_in same))
+      (record { few = omega arith; first = λ lobby _. (lobby.shelf.orders, refl) })
+  told_in (Some (TheLobby lobby)) there told =
+      let one : Reply = lobby_reply (lobby_answer lobby k AskOrders) in
+      let is : Some answer ≡ Some one = sym told ∙ reply_alone house xs k asked (TheLobby lobby) there refl in
+      let same : answer ≡ one = cc in
+      let alone : after house xs k asked ≡ set xs 0 (TheLobby lobby) =
+      after_alone house xs k asked (TheLobby lobby) there refl in
+      let there_now : slice_get (after house xs k asked) 0 ≡ Some (TheLobby lobby) =
+      ap (λ (l : List Part). slice_get l 0) alone
+      ∙ get_set_same xs 0 (TheLobby lobby) (slice_get_length xs 0 (TheLobby lobby) there) in
+      subst (λ (orders : List Order). StandFirst orders (after house xs k asked)) (sym (ap orders_in same))
+      (record {
+        few = few_told lobby.shelf.orders;
+        first = λ other found.
+            let same_lobby : other ≡ lobby = ap (lobby_in lobby) (sym found ∙ there_now) in (
+              drop 16 lobby.shelf.orders,
+              ap (λ (l : LobbyState). l.shelf.orders) same_lobby ∙ sym (take-append-drop 16 lobby.shelf.orders),
+            );
+      })
+
+-- the session was told these orders
+pub told_first : {moment : ℕ} {answer : Reply} {old new : RunnerState} {orders : List Order}
+    → ServerRan old (asks_orders moment) answer new → orders ≡ orders_in answer → StandFirst orders (state_seen new)
+told_first {moment} {answer} {old} {new} ran is =
     let e : Entry Timed Reply = entry old.number (asks_orders moment) answer in
     let before : Log = old.seen ++ ran.others in
     let legal = subst (λ (log : Log). Legal house new.opening log) ran.ends ran.grew.known.legal in
     let told = legal_last new.opening before e legal in
     let parts = state house new.opening before in
-    subst (StandFirst (orders_in answer))
+    subst (λ (l : List Order). StandFirst l (state_seen new)) (sym is)
+    (subst (StandFirst (orders_in answer))
     (sym (ap (λ (log : Log). state house new.opening log) ran.ends ∙ steps_once house new.opening before e))
-    (told_in parts old.number moment answer (slice_get parts 0) refl told)
+    (told_in parts old.number moment answer (slice_get parts 0) refl told))
 
 -- the number of the last order
 last_is : (orders : List Order) (n : ℕ) (last : Order) → n ≡ length orders - 1 → slice_get orders n ≡ Some last

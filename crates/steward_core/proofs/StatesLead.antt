@@ -71,6 +71,9 @@ pub put_lobby : (xs : List Part) (old new : LobbyState) → slice_get xs 0 ≡ S
 put_lobby xs old new e = get_set_same xs 0 (TheLobby new) (slice_get_length xs 0 (TheLobby old) e)
 
 module _ (xs : List Part) (w : IsWhole xs) (session moment : ℕ) where
+  abbrev timed : Act → Timed
+  timed act = record { moment = moment; act = act }
+
   leads_planned : (plan : Plan) (number : ℕ) (desk : DeskState) → desk_of plan ≡ Some number
       → slice_get xs number ≡ Some (ADesk desk) → IsPlanned w.lobby plan
       → LeadsAlong w.lobby (plan_lobby w.lobby plan desk)
@@ -102,13 +105,12 @@ module _ (xs : List Part) (w : IsWhole xs) (session moment : ℕ) where
 
   pair_alone : (act : PairAct) (r : Result Plan Refusal) → NamesDesk act → plan_of w.lobby session act ≡ r
       → planned_desk r ≡ None
-      → LeadsParts xs (after house xs session (record { moment = moment; act = Pair act }))
+      → LeadsParts xs (after house xs session (timed (Pair act)))
   pair_alone act r names is none =
-      let timed : Timed = record { moment = moment; act = Pair act } in
       let new = pair_lobby w.lobby r None in
-      let alone : after house xs session timed
+      let alone : after house xs session (timed (Pair act))
       ≡ set xs 0 (TheLobby (pair_lobby w.lobby (plan_of w.lobby session act) None)) =
-      after_alone house xs session timed (TheLobby w.lobby) w.first (ap planned_desk is ∙ none) in
+      after_alone house xs session (timed (Pair act)) (TheLobby w.lobby) w.first (ap planned_desk is ∙ none) in
       record {
         old = w.lobby;
         new = new;
@@ -122,16 +124,15 @@ module _ (xs : List Part) (w : IsWhole xs) (session moment : ℕ) where
 
   pair_with : (act : PairAct) (plan : Plan) (number : ℕ) → NamesDesk act → plan_of w.lobby session act ≡ Ok plan
       → desk_of plan ≡ Some number
-      → LeadsParts xs (after house xs session (record { moment = moment; act = Pair act }))
+      → LeadsParts xs (after house xs session (timed (Pair act)))
   pair_with act plan number names is o =
-      let timed : Timed = record { moment = moment; act = Pair act } in
       let planned : IsPlanned w.lobby plan = plan_of-is w.lobby session act plan w.formed names is in
       let is_desk : IsDesk number = subst (λ (x : Option ℕ). IfSome x IsDesk) o (desk_of-is w.lobby plan planned) in
       let found = desk_at xs number w is_desk in
       let new = plan_lobby w.lobby plan found.0 in
       let both =
-      after_together house xs session timed (TheLobby w.lobby) (ADesk found.0) number w.first (ap planned_desk is ∙ o)
-      found.1 in
+      after_together house xs session (timed (Pair act)) (TheLobby w.lobby) (ADesk found.0) number w.first
+      (ap planned_desk is ∙ o) found.1 in
       record {
         old = w.lobby;
         new = new;
@@ -150,22 +151,21 @@ module _ (xs : List Part) (w : IsWhole xs) (session moment : ℕ) where
 
   pair_plan : (act : PairAct) (plan : Plan) (number : Option ℕ) → NamesDesk act → plan_of w.lobby session act ≡ Ok plan
       → desk_of plan ≡ number
-      → LeadsParts xs (after house xs session (record { moment = moment; act = Pair act }))
+      → LeadsParts xs (after house xs session (timed (Pair act)))
   pair_plan act plan None names is o = pair_alone act (Ok plan) names is o
   pair_plan act plan (Some number) names is o = pair_with act plan number names is o
 
   pair_step : (act : PairAct) (r : Result Plan Refusal) → NamesDesk act → plan_of w.lobby session act ≡ r
-      → LeadsParts xs (after house xs session (record { moment = moment; act = Pair act }))
+      → LeadsParts xs (after house xs session (timed (Pair act)))
   pair_step act (Err cause) names is = pair_alone act (Err cause) names is refl
   pair_step act (Ok plan) names is = pair_plan act plan (desk_of plan) names is refl
 
-  pub leads_step : (act : Act) → IsEvent (record { moment = moment; act = act }) → (SaysSaved act → ⊥)
-      → LeadsParts xs (after house xs session (record { moment = moment; act = act }))
+  pub leads_step : (act : Act) → IsEvent (timed act) → (SaysSaved act → ⊥)
+      → LeadsParts xs (after house xs session (timed act))
   leads_step (Lobby act) fits other =
-      let timed : Timed = record { moment = moment; act = Lobby act } in
       let new = lobby_after w.lobby session act in
-      let alone : after house xs session timed ≡ set xs 0 (TheLobby new) =
-      after_alone house xs session timed (TheLobby w.lobby) w.first refl in
+      let alone : after house xs session (timed (Lobby act)) ≡ set xs 0 (TheLobby new) =
+      after_alone house xs session (timed (Lobby act)) (TheLobby w.lobby) w.first refl in
       record {
         old = w.lobby;
         new = new;
@@ -174,10 +174,9 @@ module _ (xs : List Part) (w : IsWhole xs) (session moment : ℕ) where
         leads = leads_act w.lobby session act other;
       }
   leads_step (Desk number serial act) fits other =
-      let timed : Timed = record { moment = moment; act = Desk number serial act } in
       let is_desk = fits.act.0 in
       let found = desk_at xs number w is_desk in
-      let alone = after_alone house xs session timed (ADesk found.0) found.1 refl in
+      let alone = after_alone house xs session (timed (Desk number serial act)) (ADesk found.0) found.1 refl in
       record {
         old = w.lobby;
         new = w.lobby;

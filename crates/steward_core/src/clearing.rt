@@ -1,6 +1,5 @@
 //! The first half of a turn of the steward: the desks whose players are gone are freed.
-ghost use Rattle.std.specs.Prelude.{◌≡◌, All};
-ghost use Rattle.lobby_state.specs.Desks.{IsDesk};
+ghost use Rattle.std.specs.Prelude.{◌≡◌};
 ghost use Rattle.one_server.specs.Running.{IsKnown};
 ghost use Rattle.steward_core.specs.Clearing.{Cleared, ClearsOne, TakesClearing, end_of_both};
 
@@ -44,8 +43,7 @@ fn clear_each<R: Runner>(
     moment: Moment,
     rows: &[DeskInUse],
 ) -> ClearingEnd
-    requires desks { All (λ row. IsDesk row.desk) rows.now }
-    requires known { IsKnown (R.state runner.old) }
+    requires { IsKnown (R.state runner.old) }
     ensures home { R.home runner.new ≡ R.home runner.old }
     ensures cleared { Cleared moment result rows.now (R.state runner.old) (R.state runner.new) }
 {
@@ -64,15 +62,15 @@ fn clear_one<R: Runner>(
     moment: Moment,
     row: &DeskInUse,
 ) -> ClearingEnd
-    requires desk { IsDesk row.now.desk }
     ensures home { R.home runner.new ≡ R.home runner.old }
     ensures cleared { ClearsOne moment result row.now (R.state runner.old) (R.state runner.new) }
 {
-    let act = Act::Pair(PairAct::Clear {
+    let clear = PairAct::Clear {
         desk: row.desk,
         serial: row.serial,
-    });
-    match answered(runner, alloc, moment, act) {
+    };
+    clear.names_desk();
+    match answered(runner, alloc, moment, Act::Pair(clear)) {
         Ok(_) => ClearingEnd::Done,
         Err(NoMemory) => ClearingEnd::Memory,
     }

@@ -17,7 +17,7 @@ const MOST_BYTES: usize = 512;
 
 /// A line while it is written, in a place of its own, so that nothing is appended at the cost of memory.
 #[derive(Drop)]
-pub(crate) struct Draft {
+pub struct Draft {
     bytes: [u8; MOST_BYTES],
     len: usize,
 }
@@ -135,8 +135,15 @@ impl Draft {
         self.signed(n);
     }
 
+    /// The bytes of the line as it stands, without an end of line.
+    pub fn bytes(&self) -> &[u8]
+        ensures { result.now ≡ self.now }
+    {
+        &self.bytes[..self.len]
+    }
+
     /// The line as it stands.
-    pub(crate) fn finish(&self, alloc: Global) -> Result<Line, NoMemory>
+    pub fn finish(&self, alloc: Global) -> Result<Line, NoMemory>
         ensures { IfOk result (λ line. line ≡ self.now) }
     {
         Ok(Line::from_bytes(Vec::from_slice(alloc, &self.bytes[..self.len])?))

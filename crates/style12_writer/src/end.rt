@@ -1,5 +1,5 @@
 //! The line of a game's end.
-ghost use Rattle.std.specs.Prelude.{◌≡◌, ◌+◌, ◌≤◌, ◌↔◌, ◌++◌, IfOk, IsSome, IsTrue, codes, length};
+ghost use Rattle.std.specs.Prelude.{◌≡◌, ◌+◌, ◌≤◌, ◌↔◌, ◌++◌, IsSome, IsTrue, codes, length};
 ghost use Rattle.std.specs.List.{list_all};
 ghost use Rattle.chess_model.specs.MoveText.{is_printable};
 ghost use Rattle.style12_writer.specs.EndLine.{is_decisive, loser_text, manner_text, reason_text, result_text, end_text};
@@ -9,9 +9,7 @@ use crate::draft::Draft;
 use crate::game_line::put_game;
 use crate::view::BoardView;
 use chess_model::{Colour, Why};
-use fics_words::{Handle, Line};
-use memory::NoMemory;
-use std::alloc::Global;
+use fics_words::Handle;
 
 /// Whether a game that ends so is won by one of the players.
 pub fn is_decisive(why: Why) -> bool
@@ -32,22 +30,16 @@ pub fn is_decisive(why: Why) -> bool
 /// The line that tells how a game ended, `{Game G (W vs. B) REASON} RESULT`. `own` is false for the board of a pair on
 /// which the game didn't end; `winner` is then the winning team's colour there. A winner is given exactly where
 /// the end `is_decisive`: at mate, resignation, a fallen flag, and where a player left.
-pub fn end_line(
-    alloc: Global,
-    v: &BoardView,
-    why: Why,
-    winner: Option<Colour>,
-    own: bool,
-) -> Result<Line, NoMemory>
+pub fn end_line(v: &BoardView, why: Why, winner: Option<Colour>, own: bool) -> Draft
     requires { IsSome winner ↔ IsTrue (is_decisive why) }
-    ensures { IfOk result (λ line. line ≡ end_text v.now why winner own) }
+    ensures { result ≡ end_text v.now why winner own }
 {
     let mut line = Draft::new();
     put_game(&mut line, v.game, &v.white, &v.black);
     put_reason(&mut line, v, why, winner, own);
     line.text(b"} ");
     line.text(result_of(why, winner));
-    line.finish(alloc)
+    line
 }
 
 /// Appends why the game ended: 43 bytes at most.

@@ -1,16 +1,13 @@
 //! The holdings line.
-ghost use Rattle.std.specs.Prelude.{◌≡◌, ◌+◌, ◌≤◌, [], ◌∷◌, ◌++◌, IfOk, length};
+ghost use Rattle.std.specs.Prelude.{◌≡◌, ◌+◌, ◌≤◌, [], ◌∷◌, ◌++◌, length};
 ghost use Rattle.move_writer.specs.Letters.{letter_of};
 ghost use Rattle.style12_writer.specs.HoldingsLine.{came_text, hand_text, holdings_text, men_text};
 ghost use Rattle.style12_writer.specs.Room.{HasRoomInLine};
 
 use crate::draft::Draft;
 use chess_model::Kind;
-use fics_words::Line;
 use holdings_drops::Holdings;
-use memory::NoMemory;
 use move_writer::letter;
-use std::alloc::Global;
 
 /// How many men of a kind a hand has at most: as many as there are pawns in two sets.
 const MOST_OF_A_KIND: u8 = 16;
@@ -18,14 +15,8 @@ const MOST_OF_A_KIND: u8 = 16;
 /// The line of the men in hand, `<b1> game N white [..] black [..]`, after FICS's: a letter for each man, in the order
 /// P N B R Q and in upper case for both colours, followed by ` <- X` where a man of the kind X has just come. Of a kind
 /// there are at most 16 letters, since no hand of a game has more.
-pub fn line_b1(
-    alloc: Global,
-    game: u16,
-    white: &Holdings,
-    black: &Holdings,
-    came: Option<Kind>,
-) -> Result<Line, NoMemory>
-    ensures { IfOk result (λ line. line ≡ holdings_text game white.now black.now came) }
+pub fn line_b1(game: u16, white: &Holdings, black: &Holdings, came: Option<Kind>) -> Draft
+    ensures { result ≡ holdings_text game white.now black.now came }
 {
     let mut line = Draft::new();
     line.text(b"<b1> game ");
@@ -36,7 +27,7 @@ pub fn line_b1(
     put_hand(&mut line, black);
     line.text(b"]");
     put_came(&mut line, came);
-    line.finish(alloc)
+    line
 }
 
 /// Appends the men in a hand.

@@ -2,8 +2,8 @@
 //! a game's end.
 //!
 //! The contract: `line12` writes exactly the 31 fields that `specs/Line12.antt` names, between single blanks, `line_b1`
-//! the text of `specs/HoldingsLine.antt` and `end_line` that of `specs/EndLine.antt`. They answer `NoMemory` only when
-//! out of memory.
+//! the text of `specs/HoldingsLine.antt` and `end_line` that of `specs/EndLine.antt`, each in a place of its own, which
+//! takes no memory. The other lines answer `NoMemory` only when out of memory.
 #![tactic(auto)]
 
 mod board;
@@ -22,6 +22,7 @@ mod view;
 
 pub use continued::continued_line;
 pub use created::created_line;
+pub use draft::Draft;
 pub use end::{end_line, is_decisive};
 pub use holdings::line_b1;
 pub use item::{Item, ItemList, LineList};

@@ -1,5 +1,5 @@
 //! The board line.
-ghost use Rattle.std.specs.Prelude.{◌≡◌, ◌+◌, ◌<◌, ◌≤◌, [], ◌∷◌, ◌++◌, All, IfOk, IsTrue, length};
+ghost use Rattle.std.specs.Prelude.{◌≡◌, ◌+◌, ◌<◌, ◌≤◌, [], ◌∷◌, ◌++◌, All, IsTrue, length};
 ghost use Rattle.move_writer.specs.Blanks.{HasNoBlank};
 ghost use Rattle.std.specs.Fmt.{signed_decimal};
 ghost use Rattle.std.specs.List.{list_all};
@@ -13,14 +13,11 @@ use crate::board::{flag, put_position};
 use crate::draft::Draft;
 use crate::view::{BoardView, Viewer};
 use chess_model::materials;
-use fics_words::Line;
-use memory::NoMemory;
-use std::alloc::Global;
 
 /// The board line of FICS style 12 for this viewer: 31 fields between single blanks. The initial time is in minutes,
 /// the remaining times are whole seconds truncated towards zero, and the time taken is `(m:ss)`.
-pub fn line12(alloc: Global, v: &BoardView, who: Viewer) -> Result<Line, NoMemory>
-    ensures { IfOk result (λ line. line ≡ line12_text v.now who) }
+pub fn line12(v: &BoardView, who: Viewer) -> Draft
+    ensures { result ≡ line12_text v.now who }
 {
     let mut line = Draft::new();
     line.text(b"<12>");
@@ -28,7 +25,7 @@ pub fn line12(alloc: Global, v: &BoardView, who: Viewer) -> Result<Line, NoMemor
     put_game(&mut line, v, who);
     put_strengths(&mut line, v);
     put_moves(&mut line, v, who);
-    line.finish(alloc)
+    line
 }
 
 /// Appends the fields of the game and its terms.

@@ -1,8 +1,6 @@
 //! What the items that a session hasn't been given say when they are printed.
 
 use linked_desk::{Desk, Item};
-use memory::NoMemory;
-use std::alloc::Global;
 use style12_writer::{BoardView, end_line, is_decisive, line_b1};
 
 /// The board that the last item shows that a session hasn't been given.
@@ -22,21 +20,15 @@ pub fn last_clocks(desk: &Desk, session: u32) -> Option<[i64; 2]> {
 }
 
 /// Whether the last item is an end, with a winner exactly where somebody won, and is told by that line.
-pub fn ends_with_end(
-    alloc: Global,
-    desk: &Desk,
-    session: u32,
-    text: &str,
-) -> Result<bool, NoMemory> {
-    let items = desk.ahead(session);
-    match items.last() {
-        Some(item) => is_end(alloc, item, text.as_bytes()),
-        None => Ok(false),
+pub fn ends_with_end(desk: &Desk, session: u32, text: &str) -> bool {
+    match desk.ahead(session).last() {
+        Some(item) => is_end(item, text.as_bytes()),
+        None => false,
     }
 }
 
 /// Whether an item is an end, with a winner exactly where somebody won, and is told by that line.
-fn is_end(alloc: Global, item: &Item, text: &[u8]) -> Result<bool, NoMemory> {
+fn is_end(item: &Item, text: &[u8]) -> bool {
     let Item::End {
         view,
         why,
@@ -44,58 +36,49 @@ fn is_end(alloc: Global, item: &Item, text: &[u8]) -> Result<bool, NoMemory> {
         own,
     } = item
     else {
-        return Ok(false);
+        return false;
     };
     if winner.is_some() != is_decisive(*why) {
-        return Ok(false);
+        return false;
     }
-    Ok(end_line(alloc, view, *why, *winner, *own)?.bytes() == text)
+    end_line(view, *why, *winner, *own).bytes() == text
 }
 
 /// The place of the first item that a session hasn't been given and that isn't told by its row, if one isn't. A row is
 /// the holdings line, the line of an end or a line of text as it is written, or `board`, `board` with the number of its
 /// game, `talk` or `end`.
-pub fn first_told_otherwise(
-    alloc: Global,
-    desk: &Desk,
-    session: u32,
-    rows: &[&str],
-) -> Result<Option<usize>, NoMemory> {
-    first_otherwise(alloc, desk.ahead(session), rows)
+pub fn first_told_otherwise(desk: &Desk, session: u32, rows: &[&str]) -> Option<usize> {
+    first_otherwise(desk.ahead(session), rows)
 }
 
-fn first_otherwise(
-    alloc: Global,
-    items: &[Item],
-    rows: &[&str],
-) -> Result<Option<usize>, NoMemory> {
+fn first_otherwise(items: &[Item], rows: &[&str]) -> Option<usize> {
     for (place, item) in items.iter().enumerate() {
         let Some(row) = rows.get(place) else {
-            return Ok(Some(place));
+            return Some(place);
         };
-        if !is_told(alloc, item, row)? {
-            return Ok(Some(place));
+        if !is_told(item, row) {
+            return Some(place);
         }
     }
-    Ok(if items.len() < rows.len() {
+    if items.len() < rows.len() {
         Some(items.len())
     } else {
         None
-    })
+    }
 }
 
-fn is_told(alloc: Global, item: &Item, row: &str) -> Result<bool, NoMemory> {
+fn is_told(item: &Item, row: &str) -> bool {
     let row = row.as_bytes();
     match item {
-        Item::Board(view) => Ok(row == b"board".as_slice() || row == board_row(view.game)),
-        Item::Talk(line) => Ok(row == b"talk".as_slice() || line.bytes() == row),
-        Item::End { .. } => Ok(row == b"end".as_slice() || is_end(alloc, item, row)?),
+        Item::Board(view) => row == b"board".as_slice() || row == board_row(view.game),
+        Item::Talk(line) => row == b"talk".as_slice() || line.bytes() == row,
+        Item::End { .. } => row == b"end".as_slice() || is_end(item, row),
         Item::Hold {
             game,
             white,
             black,
             came,
-        } => Ok(line_b1(alloc, *game, white, black, *came)?.bytes() == row),
+        } => line_b1(*game, white, black, *came).bytes() == row,
     }
 }
 

@@ -3,10 +3,8 @@
 use crate::shown::{ends_with_end, first_told_otherwise, last_clocks};
 use crate::table::{ANN, Opening, SERIAL, Step, cleared, desk_of, first_failing, outcome};
 use linked_desk::{Desk, Ended};
-use memory::NoMemory;
 use std::alloc::Global;
 use std::process::Abort;
-use std::test::Fail;
 use test_steps::first_wrong;
 
 /// A stage of a game.
@@ -35,50 +33,33 @@ pub struct Case {
     pub stages: &'static [Stage],
 }
 
-fn holds(alloc: Global, desk: &mut Desk, stage: Stage) -> Result<bool, NoMemory> {
-    match stage {
-        Stage::ShowsEnd(session, line) => ends_with_end(alloc, desk, session, line),
-        Stage::Tells(session, rows) => is_told(alloc, desk, session, rows),
-        _ => Ok(is_so(desk, stage)),
-    }
-}
-
-/// Whether a session is told these rows.
-fn is_told(alloc: Global, desk: &Desk, session: u32, rows: &[&str]) -> Result<bool, NoMemory> {
-    Ok(first_told_otherwise(alloc, desk, session, rows)?.is_none())
-}
-
-/// Whether a stage that takes no memory is as it has to be.
-fn is_so(desk: &mut Desk, stage: Stage) -> bool {
+/// Whether a stage is as it has to be.
+fn holds(desk: &mut Desk, stage: Stage) -> bool {
     match stage {
         Stage::Makes(steps) => first_failing(desk, SERIAL, steps).is_none(),
         Stage::Clocks(times) => last_clocks(desk, ANN) == Some(times),
+        Stage::Tells(session, rows) => first_told_otherwise(desk, session, rows).is_none(),
+        Stage::ShowsEnd(session, line) => ends_with_end(desk, session, line),
         Stage::Outcome(ended, viewers) => outcome(desk) == (ended, viewers),
         Stage::Stays => desk.serial() == Some(SERIAL),
         Stage::Clears => cleared(desk),
-        _ => false,
     }
 }
 
 /// The place of the first stage that isn't as it has to be, if one isn't.
-pub fn first_wrong_at(
-    alloc: Global,
-    desk: &mut Desk,
-    stages: &[Stage],
-) -> Result<Option<usize>, NoMemory> {
-    Ok(first_wrong!(stages, |stage| holds(alloc, desk, *stage)?))
+pub fn first_wrong_at(desk: &mut Desk, stages: &[Stage]) -> Option<usize> {
+    first_wrong!(stages, |stage| holds(desk, *stage))
 }
 
 /// The same of a case at a desk of its own. A test that has no desk of its own is proved in a fraction of the time.
-fn first_wrong_of(rt: &impl Abort, alloc: Global, case: &Case) -> Result<Option<usize>, NoMemory> {
+fn first_wrong_of(rt: &impl Abort, alloc: Global, case: &Case) -> Option<usize> {
     let mut desk = desk_of(rt, alloc, case.opening);
-    first_wrong_at(alloc, &mut desk, case.stages)
+    first_wrong_at(&mut desk, case.stages)
 }
 
 /// Looks at each case, whether it goes as it has to.
-pub fn each_case(rt: &impl Abort, alloc: Global, cases: &[Case]) -> Result<(), Fail> {
+pub fn each_case(rt: &impl Abort, alloc: Global, cases: &[Case]) {
     for case in cases {
-        assert_eq!(rt; first_wrong_of(rt, alloc, case)?, None, "{}", case.name);
+        assert_eq!(rt; first_wrong_of(rt, alloc, case), None, "{}", case.name);
     }
-    Ok(())
 }

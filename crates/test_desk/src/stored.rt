@@ -215,13 +215,13 @@ fn comes_so(
         halves: halves_of(alloc, case.made, 1)?,
     };
     let replays = restores(alloc, desk, &game, &sitting.seats, 9)?;
-    is_so(alloc, desk, case.comes, replays)
+    Ok(is_so(desk, case.comes, replays))
 }
 
-fn is_so(alloc: Global, desk: &mut Desk, comes: Comes, replays: bool) -> Result<bool, NoMemory> {
+fn is_so(desk: &mut Desk, comes: Comes, replays: bool) -> bool {
     match comes {
-        Comes::Nothing => Ok(!replays && desk.serial().is_none()),
-        Comes::Game(stages) => Ok(replays && first_wrong_at(alloc, desk, stages)?.is_none()),
+        Comes::Nothing => !replays && desk.serial().is_none(),
+        Comes::Game(stages) => replays && first_wrong_at(desk, stages).is_none(),
     }
 }
 

@@ -1,8 +1,9 @@
-//! A store that one keeper writes, and what others make of it meanwhile and afterwards.
+//! A store that one keeper writes, and what others make of it meanwhile and afterwards; and a keeper without a store.
 
 use crate::calls::{Call, Records, first_failing};
-use edge_traits::{Keeper, Kept};
-use file_keeper::{SqliteKeeper, StoreReader};
+use edge_traits::Kept;
+use file_keeper::{AnyKeeper, SqliteKeeper, StoreReader};
+use real_edges::NoStore;
 use std::alloc::AllocError;
 use std::hash::{BuildHasher, RandomState};
 use std::test::Fail;
@@ -49,6 +50,13 @@ const READ: &[Call] = &[
 /// Of a reader, where there is no file.
 const NOTHING_THERE: &[Call] = &[Call::Refuses, Call::Refuses];
 
+/// Of a keeper that keeps nothing.
+const NOT_KEPT: &[Call] = &[
+    Call::Puts(b"a", b"1", Kept::Done),
+    Call::Removes(b"b", Kept::Done),
+    Call::Loads(&[]),
+];
+
 /// A path where there is no file.
 fn fresh_path(rt: &HostRuntime) -> io::Result<String> {
     let number = RandomState::new(rt)?.hash_one(&0u8);
@@ -56,12 +64,14 @@ fn fresh_path(rt: &HostRuntime) -> io::Result<String> {
     Ok(format!(in rt.alloc(); "{folder}/ficsd-keeper-{number}")?)
 }
 
-fn keeper_at(rt: &HostRuntime, path: &str) -> Result<SqliteKeeper, AllocError> {
-    Ok(SqliteKeeper::new(*rt, String::from_str(rt.alloc(), path)?))
+fn keeper_at(rt: &HostRuntime, path: &str) -> Result<AnyKeeper, AllocError> {
+    let path = String::from_str(rt.alloc(), path)?;
+    Ok(AnyKeeper::Held(SqliteKeeper::new(*rt, path)))
 }
 
-fn reader_at(rt: &HostRuntime, path: &str) -> Result<StoreReader, AllocError> {
-    Ok(StoreReader::new(*rt, String::from_str(rt.alloc(), path)?))
+fn reader_at(rt: &HostRuntime, path: &str) -> Result<AnyKeeper, AllocError> {
+    let path = String::from_str(rt.alloc(), path)?;
+    Ok(AnyKeeper::Read(StoreReader::new(*rt, path)))
 }
 
 /// The first call of a new keeper that comes to something else, if one does. It lets the file go at its end.
@@ -74,7 +84,7 @@ fn first_wrong_anew(
     Ok(first_wrong_to_the_end(&mut keeper, calls))
 }
 
-fn first_wrong_to_the_end(keeper: &mut SqliteKeeper, calls: &[Call]) -> Option<usize> {
+fn first_wrong_to_the_end(keeper: &mut AnyKeeper, calls: &[Call]) -> Option<usize> {
     let wrong = first_failing(keeper, calls);
     match keeper.close() {
         Kept::Done => wrong,
@@ -105,7 +115,7 @@ fn first_wrong_beside(rt: &HostRuntime, path: &str) -> Result<Option<usize>, All
 fn first_wrong_of_two(
     rt: &HostRuntime,
     path: &str,
-    first: &mut SqliteKeeper,
+    first: &mut AnyKeeper,
 ) -> Result<Option<usize>, AllocError> {
     if let Some(place) = first_failing(first, WRITTEN) {
         return Ok(Some(place));
@@ -131,7 +141,7 @@ fn first_wrong_read_beside(rt: &HostRuntime, path: &str) -> Result<Option<usize>
 fn first_wrong_read_of_two(
     rt: &HostRuntime,
     path: &str,
-    keeper: &mut SqliteKeeper,
+    keeper: &mut AnyKeeper,
 ) -> Result<Option<usize>, AllocError> {
     if let Some(place) = first_failing(keeper, WRITTEN) {
         return Ok(Some(place));
@@ -147,5 +157,12 @@ fn reads_a_file_that_is_kept(rt: HostRuntime) -> Result<(), Fail> {
     assert_eq!(rt; first_wrong_read_beside(&rt, &path)?, None);
     assert_eq!(rt; first_wrong_read(&rt, &path, READ)?, None);
     remove_store(&rt, &path)?;
+    Ok(())
+}
+
+#[test]
+fn keeps_nothing_without_a_store(rt: HostRuntime) -> Result<(), Fail> {
+    let mut keeper = AnyKeeper::Nothing(NoStore::new(rt.alloc()));
+    assert_eq!(rt; first_wrong_to_the_end(&mut keeper, NOT_KEPT), None);
     Ok(())
 }

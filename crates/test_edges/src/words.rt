@@ -38,55 +38,110 @@ fn is_none(letters: &[u8]) -> bool {
 
 #[test]
 fn reads_handles(rt: HostRuntime) {
-    for good in HANDLES {
-        assert!(rt; is_handle(good.as_bytes()), "{good}");
+    assert_rows!(rt; HANDLES, |good| is_handle(good.as_bytes()));
+    assert_rows!(rt; NO_HANDLES, |bad| is_none(bad.as_bytes()));
+}
+
+/// What two handles and their keys have to be.
+enum Pair {
+    /// The first has this key.
+    Key(&'static [u8], &'static [u8]),
+    SameKey(&'static [u8], &'static [u8]),
+    KeyBefore(&'static [u8], &'static [u8]),
+    Equal(&'static [u8], &'static [u8], bool),
+}
+
+const PAIRS: &[Pair] = &[
+    Pair::Key(b"AnnaZ", b"annaz"),
+    Pair::SameKey(b"AnnaZ", b"annAz"),
+    Pair::KeyBefore(b"AnnaZ", b"Bert"),
+    Pair::Equal(b"AnnaZ", b"annAz", false),
+    Pair::Equal(b"AnnaZ", b"AnnaZ", true),
+];
+
+fn has_key(letters: &[u8], key: &[u8]) -> bool {
+    match Handle::read(letters) {
+        Some(handle) => handle.key().letters() == key,
+        None => false,
     }
-    for bad in NO_HANDLES {
-        assert!(rt; is_none(bad.as_bytes()), "{bad}");
+}
+
+fn have_same_key(first: &[u8], second: &[u8]) -> bool {
+    match (Handle::read(first), Handle::read(second)) {
+        (Some(first), Some(second)) => first.key() == second.key(),
+        _ => false,
+    }
+}
+
+fn has_key_before(first: &[u8], second: &[u8]) -> bool {
+    match (Handle::read(first), Handle::read(second)) {
+        (Some(first), Some(second)) => first.key() < second.key(),
+        _ => false,
+    }
+}
+
+fn are_equal_handles(first: &[u8], second: &[u8], equal: bool) -> bool {
+    match (Handle::read(first), Handle::read(second)) {
+        (Some(first), Some(second)) => (first == second) == equal && (first != second) != equal,
+        _ => false,
+    }
+}
+
+fn is_pair(pair: &Pair) -> bool {
+    match pair {
+        Pair::Key(letters, key) => has_key(letters, key),
+        Pair::SameKey(first, second) => have_same_key(first, second),
+        Pair::KeyBefore(first, second) => has_key_before(first, second),
+        Pair::Equal(first, second, equal) => are_equal_handles(first, second, *equal),
     }
 }
 
 #[test]
 fn compares_handles_by_key(rt: HostRuntime) {
-    let first = Handle::read(b"AnnaZ").expect(&rt, "a handle");
-    let second = Handle::read(b"annAz").expect(&rt, "a handle");
-    let third = Handle::read(b"Bert").expect(&rt, "a handle");
-    assert_eq!(rt; first.key().letters(), b"annaz".as_slice());
-    assert!(rt; first.key() == second.key());
-    assert!(rt; first.key() < third.key());
-    assert!(rt; first != second);
-    assert!(rt; first == first);
+    assert_rows!(rt; PAIRS, |pair| is_pair(pair));
 }
 
-const LINES: &[&[u8]] = &[b"", b" ~", b"tell 1 hello"];
+const LINES: &[&[u8]] = &[b"", b" ~", b"tell 1 hello", LONGEST];
 
-const NO_LINES: &[&[u8]] = &[b"a\x7f", b"\x1f", b"a\n", b"\xe9", b"a\x00"];
+const NO_LINES: &[&[u8]] = &[b"a\x7f", b"\x1f", b"a\n", b"\xe9", b"a\x00", TOO_LONG];
+
+/// A line of the greatest length, and one that is longer.
+const LONGEST: &[u8] = &[b'x'; LINE_BYTES];
+
+const TOO_LONG: &[u8] = &[b'x'; LINE_BYTES + 1];
+
+/// What is read of bytes. It ensures nothing, so that nothing above it is proved over what a line is.
+fn read(alloc: Global, bytes: &[u8]) -> Result<Option<Line>, NoMemory> {
+    Line::read(alloc, bytes)
+}
+
+fn has_bytes(line: &Line, bytes: &[u8]) -> Result<bool, NoMemory> {
+    let copy = line.duplicate()?;
+    Ok(line.bytes() == bytes && copy == *line)
+}
 
 /// Whether these bytes are read as a line of theirs, whose copy is the same.
-fn is_line(alloc: Global, bytes: &[u8]) -> Result<bool, TestFail> {
-    let Some(line) = Line::read(alloc, bytes)? else {
-        return Ok(false);
-    };
-    Ok(line.bytes() == bytes && line.duplicate()? == line)
+fn is_line(alloc: Global, bytes: &[u8]) -> Result<bool, NoMemory> {
+    match read(alloc, bytes)? {
+        Some(line) => has_bytes(&line, bytes),
+        None => Ok(false),
+    }
 }
 
-fn is_no_line(alloc: Global, bytes: &[u8]) -> Result<bool, TestFail> {
-    Ok(Line::read(alloc, bytes)?.is_none())
+fn is_no_line(alloc: Global, bytes: &[u8]) -> Result<bool, NoMemory> {
+    Ok(read(alloc, bytes)?.is_none())
+}
+
+fn is_made_of_nothing(alloc: Global) -> bool {
+    let made = Line::from_bytes(Vec::new(alloc));
+    made.bytes().is_empty()
 }
 
 #[test]
 fn reads_lines(rt: HostRuntime) -> Result<(), TestFail> {
-    let long = [b'x'; LINE_BYTES + 1];
-    assert!(rt; is_line(rt.alloc(), &long[..LINE_BYTES])?);
-    assert!(rt; is_no_line(rt.alloc(), &long)?);
-    for good in LINES {
-        assert!(rt; is_line(rt.alloc(), good)?);
-    }
-    for bad in NO_LINES {
-        assert!(rt; is_no_line(rt.alloc(), bad)?);
-    }
-    let made = Line::from_bytes(Vec::new(rt.alloc()));
-    assert!(rt; made.bytes().is_empty());
+    assert_rows!(rt; LINES, |good| is_line(rt.alloc(), good)?);
+    assert_rows!(rt; NO_LINES, |bad| is_no_line(rt.alloc(), bad)?);
+    assert!(rt; is_made_of_nothing(rt.alloc()));
     Ok(())
 }
 
@@ -104,50 +159,79 @@ fn is_put(lines: &mut Lines, line: &Line) -> bool {
     }
 }
 
-/// The lines of these bytes in one block, which are put one after the other where memory lasts.
-fn lines_of(alloc: Global, rows: &[&[u8]]) -> Result<Option<Lines>, TestFail> {
-    let mut lines = Lines::new(alloc);
-    for row in rows {
-        let Some(line) = Line::read(alloc, row)? else {
-            return Ok(None);
-        };
-        if !is_put(&mut lines, &line) {
-            return Ok(None);
-        }
+/// Whether a line of these bytes is put so.
+fn puts(alloc: Global, lines: &mut Lines, bytes: &[u8]) -> Result<bool, NoMemory> {
+    match read(alloc, bytes)? {
+        Some(line) => Ok(is_put(lines, &line)),
+        None => Ok(false),
     }
-    Ok(Some(lines))
 }
 
-/// Whether these are lines of a block, in their order, and none behind them.
-fn are_in_block(alloc: Global, rows: &[&[u8]]) -> Result<bool, TestFail> {
-    let Some(lines) = lines_of(alloc, rows)? else {
-        return Ok(false);
-    };
-    for place in 0..rows.len() {
-        if lines.get(place) != Some(rows[place]) {
+/// Whether the lines of these bytes are put one after the other.
+fn puts_all(alloc: Global, lines: &mut Lines, rows: &[&[u8]]) -> Result<bool, NoMemory> {
+    for row in rows {
+        if !puts(alloc, lines, row)? {
             return Ok(false);
         }
     }
-    Ok(lines.len() == rows.len() && lines.get(rows.len()).is_none())
+    Ok(true)
 }
 
-/// Whether two blocks of lines are equal.
-fn are_equal(alloc: Global, rows: &[&[u8]], others: &[&[u8]]) -> Result<bool, TestFail> {
-    let (Some(lines), Some(more)) = (lines_of(alloc, rows)?, lines_of(alloc, others)?) else {
-        return Ok(false);
-    };
-    Ok(lines == more)
+/// Whether these are the lines of a block, in their order, and none behind them.
+fn holds(lines: &Lines, rows: &[&[u8]]) -> bool {
+    for (place, row) in rows.iter().enumerate() {
+        if lines.get(place) != Some(*row) {
+            return false;
+        }
+    }
+    lines.len() == rows.len() && lines.get(rows.len()).is_none()
 }
+
+/// Whether lines that are put into a block are those that it holds.
+fn are_in_block(alloc: Global, rows: &[&[u8]]) -> Result<bool, NoMemory> {
+    let mut lines = Lines::new(alloc);
+    are_put_and_held(alloc, &mut lines, rows)
+}
+
+fn are_put_and_held(alloc: Global, lines: &mut Lines, rows: &[&[u8]]) -> Result<bool, NoMemory> {
+    Ok(puts_all(alloc, lines, rows)? && holds(lines, rows))
+}
+
+/// The lines of two blocks, and whether the blocks are equal.
+type Blocks = (&'static [&'static [u8]], &'static [&'static [u8]], bool);
+
+fn are_as_equal(alloc: Global, blocks: &Blocks) -> Result<bool, NoMemory> {
+    let mut first = Lines::new(alloc);
+    let mut second = Lines::new(alloc);
+    are_put_as_equal(alloc, &mut first, &mut second, blocks)
+}
+
+fn are_put_as_equal(
+    alloc: Global,
+    first: &mut Lines,
+    second: &mut Lines,
+    blocks: &Blocks,
+) -> Result<bool, NoMemory> {
+    let put = puts_all(alloc, first, blocks.0)? && puts_all(alloc, second, blocks.1)?;
+    Ok(put && (*first == *second) == blocks.2)
+}
+
+const BLOCKS: &[&[&[u8]]] = &[
+    &[],
+    &[b"", b" ~", b"tell 1 hello"],
+    &[b"", LONGEST, b"", LONGEST, b"x"],
+];
+
+const COMPARED: &[Blocks] = &[
+    (&[b"ab", b"c"], &[b"ab", b"c"], true),
+    (&[b"ab", b"c"], &[b"a", b"bc"], false),
+    (&[b"ab"], &[b"ab", b""], false),
+];
 
 #[test]
 fn keeps_lines_in_one_block(rt: HostRuntime) -> Result<(), TestFail> {
-    let long = [b'x'; 1_023];
-    assert!(rt; are_in_block(rt.alloc(), &[])?);
-    assert!(rt; are_in_block(rt.alloc(), LINES)?);
-    assert!(rt; are_in_block(rt.alloc(), &[b"", &long, b"", &long, b"x"])?);
-    assert!(rt; are_equal(rt.alloc(), &[b"ab", b"c"], &[b"ab", b"c"])?);
-    assert!(rt; !are_equal(rt.alloc(), &[b"ab", b"c"], &[b"a", b"bc"])?);
-    assert!(rt; !are_equal(rt.alloc(), &[b"ab"], &[b"ab", b""])?);
+    assert_rows!(rt; BLOCKS, |rows| are_in_block(rt.alloc(), rows)?);
+    assert_rows!(rt; COMPARED, |blocks| are_as_equal(rt.alloc(), blocks)?);
     Ok(())
 }
 
@@ -180,17 +264,28 @@ fn reads_numbers(rt: HostRuntime) {
     assert_rows!(rt; NUMBERS, |(text, most, value)| number(text, *most) == *value);
 }
 
-#[test]
-fn writes_numbers(rt: HostRuntime) -> Result<(), TestFail> {
-    let mut out = Vec::from_slice(rt.alloc(), b"n ")?;
-    for n in [0, 10, 9_999_999, u64::MAX] {
-        write_number(&mut out, n)?;
+/// Numbers, and what is written of them behind one another, each with a blank behind it.
+const WRITTEN: &[u64] = &[0, 10, 9_999_999, u64::MAX];
+
+fn write_all(out: &mut Vec<u8>, numbers: &[u64]) -> Result<(), NoMemory> {
+    for n in numbers {
+        write_number(out, *n)?;
         out.push(b' ')?;
     }
-    assert_eq!(rt;
-        out.as_slice(),
-        b"n 0 10 9999999 18446744073709551615 ".as_slice()
-    );
+    Ok(())
+}
+
+/// Whether numbers are written so behind what stands there.
+fn are_written(alloc: Global, numbers: &[u64], wanted: &[u8]) -> Result<bool, NoMemory> {
+    let mut out = Vec::from_slice(alloc, b"n ")?;
+    write_all(&mut out, numbers)?;
+    Ok(out.as_slice() == wanted)
+}
+
+#[test]
+fn writes_numbers(rt: HostRuntime) -> Result<(), TestFail> {
+    let wanted = b"n 0 10 9999999 18446744073709551615 ";
+    assert!(rt; are_written(rt.alloc(), WRITTEN, wanted)?);
     Ok(())
 }
 
@@ -216,34 +311,45 @@ const REFUSALS: &[(Refusal, u8, &str)] = &[
     (Refusal::AlreadyReported, 65, "AlreadyReported"),
 ];
 
+/// Whether a refusal has this number and name, and is what fails by it.
 fn is_named(refusal: Refusal, number: u8, name: &str) -> bool {
-    refusal.number() == number && refusal.name() == name
+    refusal.number() == number
+        && refusal.name() == name
+        && Fail::from(refusal) == Fail::Refused(refusal)
 }
 
 #[test]
 fn names_refusals(rt: HostRuntime) {
-    for (refusal, number, name) in REFUSALS {
-        assert!(rt; is_named(*refusal, *number, name), "{name}");
-        assert!(rt; Fail::from(*refusal) == Fail::Refused(*refusal), "{name}");
-    }
+    assert_rows!(rt; REFUSALS, |(refusal, number, name)| is_named(*refusal, *number, name));
     assert!(rt; Fail::from(NoMemory) == Fail::Memory);
 }
 
-#[test]
-fn copies_players(rt: HostRuntime) -> Result<(), TestFail> {
-    let name = Handle::read(b"Ann").ok_or("a handle")?;
+fn is_account_copied(name: Handle) -> Result<bool, NoMemory> {
     let account = Account {
         name,
         digest: [7; 32],
     };
-    assert!(rt; account.duplicate()? == account);
+    Ok(account.duplicate()? == account)
+}
+
+fn is_player_copied(name: Handle) -> Result<bool, NoMemory> {
     let seat = Player {
         session: 5,
         name,
         registered: true,
     };
-    assert!(rt; seat.duplicate()? == seat);
-    assert!(rt; name.duplicate()? == name);
-    assert!(rt; name.key().duplicate()? == name.key());
+    Ok(seat.duplicate()? == seat)
+}
+
+fn is_handle_copied(name: Handle) -> Result<bool, NoMemory> {
+    Ok(name.duplicate()? == name && name.key().duplicate()? == name.key())
+}
+
+#[test]
+fn copies_players(rt: HostRuntime) -> Result<(), TestFail> {
+    let name = Handle::read(b"Ann").ok_or("a handle")?;
+    assert!(rt; is_account_copied(name)?);
+    assert!(rt; is_player_copied(name)?);
+    assert!(rt; is_handle_copied(name)?);
     Ok(())
 }

@@ -1,16 +1,14 @@
 //! Whether the parts that a hall gives back at its close are those of a server of one thread.
 
-ghost use Rattle.lobby_state.specs.Desks.{IsDesk};
-
 use crate::replies::is_same;
 use crate::steps::{Does, Game, act_of};
 use clock_ledger::Moment;
-use fics_words::{BoardNumber, Fail as Failure, Refusal};
+use fics_words::{BoardNumber, DeskNumber, Fail as Failure, Refusal};
 use game_board::GameBoard;
 use hall_core::HallParts;
 use linked_desk::Desk;
 use lobby_state::DESKS;
-use one_server::{Act, OneServer, Reply, answered, desk_step, lobby_step};
+use one_server::{Act, OneServer, Reply, answered};
 use std::alloc::Global;
 
 /// When it is asked what stands, in milliseconds.
@@ -77,17 +75,18 @@ fn other_desk(desks: &Vec<Desk>, server: &OneServer) -> Option<Difference> {
         return Some(Difference::Count(desks.len()));
     }
     for (slot, desk) in desks.iter().enumerate() {
-        if slot < DESKS && !is_desk_of(desk, server, slot as u8 + 1) {
-            return Some(Difference::Desk(slot as u8 + 1));
+        if slot < DESKS {
+            let number = DeskNumber::new(slot as u8 + 1);
+            if !is_desk_of(desk, server, number) {
+                return Some(Difference::Desk(number.get()));
+            }
         }
     }
     None
 }
 
 /// Whether a desk has the game that the desk of that number has there.
-fn is_desk_of(desk: &Desk, server: &OneServer, number: u8) -> bool
-    requires { IsDesk number }
-{
+fn is_desk_of(desk: &Desk, server: &OneServer, number: DeskNumber) -> bool {
     let other = server.desk(number);
     let first = BoardNumber::First;
     desk.serial() == other.serial()
@@ -110,15 +109,20 @@ fn is_same_board(one: Option<&GameBoard>, other: Option<&GameBoard>) -> bool {
 /// What the parts of a hall answer.
 fn answer_of_parts(parts: &mut HallParts, question: Question) -> Result<Reply, Failure> {
     let (session, does) = question;
-    match act_of(Game::of(session), does)? {
-        Act::Lobby(act) => Ok(lobby_step(&mut parts.lobby, session, MOMENT, &act)?),
+    let answer = match act_of(Game::of(session), does)? {
+        Act::Lobby(act) => parts.lobby.act(session, MOMENT, &act).map(Reply::Lobby),
         Act::Desk { desk, serial, act } => {
-            let Some(desk) = parts.desks.get_mut(usize::from(desk).wrapping_sub(1)) else {
+            let Some(desk) = parts.desks.get_mut(desk.place()) else {
                 return Err(Failure::Refused(Refusal::NoSuchGame));
             };
-            Ok(desk_step(desk, session, Moment::new(MOMENT), serial, &act)?)
+            desk.act(session, Moment::new(MOMENT), serial, &act)
+                .map(Reply::Desk)
         }
-        Act::Pair(_) => Err(Failure::Refused(Refusal::NoSuchGame)),
+        Act::Pair(_) => return Err(Failure::Refused(Refusal::NoSuchGame)),
+    };
+    match answer {
+        Err(Failure::Refused(cause)) => Ok(Reply::Refused(cause)),
+        answer => answer,
     }
 }
 

@@ -1,7 +1,7 @@
 //! Whether two replies are the same, item by item.
 
 use linked_desk::DeskReply;
-use lobby_state::LobbyReply;
+use lobby_state::{DeskInUse, LobbyReply, Place};
 use one_server::Reply;
 use style12_writer::Item;
 use test_server_steps::of_pair;
@@ -37,7 +37,9 @@ fn is_same_in_lobby(one: &LobbyReply, other: &LobbyReply) -> bool {
         (LobbyReply::Number(number), LobbyReply::Number(another)) => number == another,
         (LobbyReply::Told(count), LobbyReply::Told(another)) => count == another,
         (LobbyReply::Lines(lines), LobbyReply::Lines(others)) => lines == others,
-        (LobbyReply::Desks(desks), LobbyReply::Desks(others)) => desks == others,
+        (LobbyReply::Desks(desks), LobbyReply::Desks(others)) => {
+            are_same_desks(desks.as_slice(), others.as_slice())
+        }
         (LobbyReply::Orders(orders), LobbyReply::Orders(others)) => orders == others,
         _ => is_same_place(one, other),
     }
@@ -46,7 +48,7 @@ fn is_same_in_lobby(one: &LobbyReply, other: &LobbyReply) -> bool {
 /// Whether two replies tell the same places.
 fn is_same_place(one: &LobbyReply, other: &LobbyReply) -> bool {
     match (one, other) {
-        (LobbyReply::Found(place), LobbyReply::Found(another)) => place == another,
+        (LobbyReply::Found(place), LobbyReply::Found(another)) => is_same_seat(place, another),
         (LobbyReply::Places(places), LobbyReply::Places(others)) => places == others,
         (
             LobbyReply::Waiting { lines, places },
@@ -57,6 +59,24 @@ fn is_same_place(one: &LobbyReply, other: &LobbyReply) -> bool {
         ) => lines == others && places == another,
         _ => false,
     }
+}
+
+/// Whether two places are one seat of one game.
+fn is_same_seat(one: &Place, other: &Place) -> bool {
+    one.desk.get() == other.desk.get() && one.serial == other.serial && one.seat == other.seat
+}
+
+/// Whether two lists of desks in use are the same.
+fn are_same_desks(desks: &[DeskInUse], others: &[DeskInUse]) -> bool {
+    for (place, row) in desks.iter().enumerate() {
+        let Some(other) = others.get(place) else {
+            return false;
+        };
+        if row.desk.get() != other.desk.get() || row.serial != other.serial {
+            return false;
+        }
+    }
+    desks.len() == others.len()
 }
 
 fn is_same_at_desk(one: &DeskReply, other: &DeskReply) -> bool {

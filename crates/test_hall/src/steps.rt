@@ -2,12 +2,11 @@
 
 ghost use Rattle.std.specs.Prelude.{IfOk};
 ghost use Rattle.linked_desk.specs.Acts.{FitsDeskAct};
-ghost use Rattle.lobby_state.specs.Desks.{IsDesk};
 ghost use Rattle.one_server.specs.Acts.{FitsAct};
 
 use chess_model::{Colour, MoveWord, Terms, Variant};
 use clock_ledger::Moment;
-use fics_words::Fail;
+use fics_words::{DeskNumber, Fail};
 use linked_desk::DeskAct;
 use lobby_state::{LobbyAct, PairAct};
 use one_server::{Act, Reply, Runner, answered};
@@ -70,13 +69,11 @@ impl Game {
         }
     }
 
-    /// The number of its desk, which is its serial too.
-    fn number(self) -> u8
-        ensures { IsDesk result }
-    {
+    /// Its desk, whose number is its serial too.
+    fn desk(self) -> DeskNumber {
         match self {
-            Game::First => 1,
-            Game::Second => 2,
+            Game::First => DeskNumber::new(1),
+            Game::Second => DeskNumber::new(2),
         }
     }
 }
@@ -177,10 +174,10 @@ fn seeking() -> Act
 fn clearing(game: Game) -> Act
     ensures { FitsAct result }
 {
-    let desk = game.number();
+    let desk = game.desk();
     Act::Pair(PairAct::Clear {
         desk,
-        serial: u64::from(desk),
+        serial: u64::from(desk.get()),
     })
 }
 
@@ -199,10 +196,10 @@ fn at_desk(game: Game, act: DeskAct) -> Act
     requires { FitsDeskAct act }
     ensures { FitsAct result }
 {
-    let desk = game.number();
+    let desk = game.desk();
     Act::Desk {
         desk,
-        serial: u64::from(desk),
+        serial: u64::from(desk.get()),
         act,
     }
 }

@@ -5,8 +5,8 @@ ghost use Rattle.game_records.specs.Replays.{Replays};
 use crate::login_steps::registering;
 use crate::seek_steps::tells;
 use crate::steps::{
-    CHESS, DONE, STRANGE, Step, acted, carried_out, entering, hall, is_as_expected, key_of,
-    lists_ahead, numbered,
+    CHESS, DONE, STRANGE, Step, acted, carried_out, desk_of, entering, hall, is_as_expected,
+    key_of, lists_ahead, numbered,
 };
 use collections::Listed;
 use fics_words::{Fail, Handle};
@@ -208,7 +208,10 @@ fn is_resume(plan: &Option<Plan>, number: u64, desk: u8, serial: u64, white: u32
                 ..
             },
         ) => {
-            *game == number && *at == desk && *under == serial && seats.first.white.session == white
+            *game == number
+                && at.get() == desk
+                && *under == serial
+                && seats.first.white.session == white
         }
         _ => false,
     }
@@ -233,16 +236,16 @@ fn clears_with(
 fn shelves(lobby: &mut Lobby, session: u32, desk: u8, serial: u64, game: StoredGame) -> bool
     requires { Replays game }
 {
-    if desk < 1 || desk > 128 {
+    let Some(desk) = desk_of(desk) else {
         return false;
-    }
+    };
     let Ok(plan) = lobby.plan(session, &PairAct::Clear { desk, serial }) else {
         return false;
     };
     let Plan::Clear { desk: at, .. } = plan else {
         return false;
     };
-    if at < 1 || at > 128 || lobby.game(at).is_none() {
+    if lobby.game(at).is_none() {
         return false;
     }
     let Ok(ready) = lobby.reserve(&plan, Some(game)) else {

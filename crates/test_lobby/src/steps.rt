@@ -5,7 +5,7 @@ ghost use Rattle.lobby_state.specs.Acts.{FitsLobby};
 ghost use Rattle.lobby_state.specs.Terms.{AreTerms};
 
 use chess_model::{Colour, Terms, Variant};
-use fics_words::{Fail, Handle, HandleKey, Line, Refusal};
+use fics_words::{DeskNumber, Fail, Handle, HandleKey, Line, Refusal};
 use lobby_state::{DeskInUse, Lobby, LobbyAct, LobbyReply, PairAct, Places, Plan, ReplyLists};
 use memory::NoMemory;
 use std::alloc::Global;
@@ -211,11 +211,6 @@ pub fn number_if_done(answer: &Result<LobbyReply, Fail>) -> u8 {
 }
 
 fn planned(lobby: &Lobby, session: u32, act: &PairAct) -> Result<Plan, Refusal> {
-    if let PairAct::Clear { desk, .. } = act {
-        if *desk < 1 || *desk > 128 {
-            return Err(Refusal::NoSuchGame);
-        }
-    }
     lobby.plan(session, act)
 }
 
@@ -233,11 +228,6 @@ pub fn asking(lobby: &Lobby, session: u32, name: Option<[u8; 3]>) -> u8 {
 
 /// Carries out the plan of an act, if it has one.
 pub fn carried_out(lobby: &mut Lobby, session: u32, act: &PairAct, cleared: bool) -> Option<Plan> {
-    if let PairAct::Clear { desk, .. } = act {
-        if *desk < 1 || *desk > 128 {
-            return None;
-        }
-    }
     let Ok(plan) = lobby.plan(session, act) else {
         return None;
     };
@@ -264,12 +254,23 @@ pub fn is_start(plan: &Option<Plan>, desk: u8, serial: u64, white: u32) -> bool 
                 seats,
                 ..
             },
-        ) => *at == desk && *under == serial && seats.first.white.session == white,
+        ) => at.get() == desk && *under == serial && seats.first.white.session == white,
         _ => false,
     }
 }
 
+/// The desk of that number, if there is one.
+pub fn desk_of(number: u8) -> Option<DeskNumber> {
+    if number < 1 || number > 128 {
+        return None;
+    }
+    Some(DeskNumber::new(number))
+}
+
 fn clears(lobby: &mut Lobby, session: u32, desk: u8, serial: u64, cleared: bool) -> bool {
+    let Some(desk) = desk_of(desk) else {
+        return false;
+    };
     carried_out(lobby, session, &PairAct::Clear { desk, serial }, cleared).is_some()
 }
 
@@ -322,16 +323,16 @@ fn have_seat(places: &Places, count: usize, desk: u8, seat: u8) -> bool {
         return false;
     }
     match places.present() {
-        Some(place) => place.desk == desk && place.seat == seat,
+        Some(place) => place.desk.get() == desk && place.seat == seat,
         None => count == 0,
     }
 }
 
 fn is_in_use(lobby: &Lobby, desk: u8) -> bool {
-    if desk < 1 || desk > 128 {
-        return false;
+    match desk_of(desk) {
+        Some(desk) => lobby.game(desk).is_some(),
+        None => false,
     }
-    lobby.game(desk).is_some()
 }
 
 /// Asks for the desks in use, and says whether they are these, and those of which a copy was made before.
@@ -340,7 +341,9 @@ fn tells_desks(lobby: &mut Lobby, rows: &[(u8, u64)]) -> bool {
         return false;
     };
     match acted(lobby, 0, &LobbyAct::InUse) {
-        Ok(LobbyReply::Desks(desks)) => desks == ahead.desks && are_rows(desks.as_slice(), rows),
+        Ok(LobbyReply::Desks(desks)) => {
+            are_rows(ahead.desks.as_slice(), rows) && are_rows(desks.as_slice(), rows)
+        }
         _ => false,
     }
 }
@@ -350,7 +353,7 @@ fn are_rows(desks: &[DeskInUse], rows: &[(u8, u64)]) -> bool {
         return false;
     }
     for place in 0..desks.len() {
-        if desks[place].desk != rows[place].0 || desks[place].serial != rows[place].1 {
+        if desks[place].desk.get() != rows[place].0 || desks[place].serial != rows[place].1 {
             return false;
         }
     }

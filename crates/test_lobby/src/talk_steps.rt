@@ -5,8 +5,8 @@ ghost use Rattle.std.specs.Prelude.{◌≤◌, IfSome, length};
 use crate::steps::{
     DONE, STRANGE, Step, acted, hall, is_as_expected, key_of, number_if_done, number_of,
 };
-use fics_words::{Fail, HandleKey, Line, Lines};
-use lobby_state::{Lobby, LobbyAct, LobbyReply, Var};
+use fics_words::{Fail, HandleKey, Line, Lines, Variable};
+use lobby_state::{Lobby, LobbyAct, LobbyReply};
 use memory::NoMemory;
 use std::alloc::Global;
 use test_steps::first_wrong;
@@ -29,7 +29,7 @@ pub enum Talk {
     Shout(u32, &'static [u8], HowMany),
     /// Tells it so many times, and each time without a refusal.
     TellTimes(u32, [u8; 3], &'static [u8], u32),
-    Set(u32, Var, bool, u8),
+    Set(u32, Variable, bool, u8),
     /// Joins a channel, or leaves it.
     Channel(u32, u8, bool, u8),
     /// Is heard by so many in the channel.
@@ -183,7 +183,7 @@ fn count_from(lines: &Lines, first: &[u8]) -> HowMany {
     }
 }
 
-fn setting(lobby: &mut Lobby, session: u32, which: Var, on: bool) -> u8 {
+fn setting(lobby: &mut Lobby, session: u32, which: Variable, on: bool) -> u8 {
     number_if_done(&acted(lobby, session, &LobbyAct::Var { which, on }))
 }
 

@@ -2,7 +2,7 @@
 
 use crate::steps::{CHESS, DONE, Step};
 use crate::talk_steps::{HowMany, Talk, first_failing_talk_anew};
-use lobby_state::Var;
+use fics_words::Variable;
 use std::test::Fail;
 
 const WHO_IS_NOT_IN_SAYS_NOTHING_STEPS: &[Talk] = &[
@@ -10,7 +10,7 @@ const WHO_IS_NOT_IN_SAYS_NOTHING_STEPS: &[Talk] = &[
     Talk::Tell(9, *b"Ann", b"hi", 54),
     Talk::Tell(9, *b"Zoe", b"hi", 54),
     Talk::Shout(9, b"hello", HowMany::Refused(54)),
-    Talk::Set(9, Var::Shout, false, 54),
+    Talk::Set(9, Variable::Shout, false, 54),
     Talk::Channel(9, 4, true, 54),
     Talk::Channel(9, 4, false, 54),
     Talk::TellChannel(9, 4, b"hi", HowMany::Refused(54)),

@@ -9,7 +9,7 @@ ghost use Rattle.one_server.specs.Acts.{FitsAct};
 use crate::parts::{handle, server, square};
 use crate::said::{Said, in_short};
 use chess_model::{Colour, Kind, MoveWord, Terms, Variant};
-use fics_words::{Fail, Refusal};
+use fics_words::{DeskNumber, Fail, Refusal};
 use linked_desk::{DeskAct, Offer};
 use lobby_state::{LobbyAct, PairAct};
 use memory::NoMemory;
@@ -136,7 +136,7 @@ fn act_of(does: Does) -> Result<Act, Fail>
         Does::Stored => Ok(Act::Lobby(LobbyAct::Stored)),
         Does::Orders => Ok(Act::Lobby(LobbyAct::Orders)),
         Does::Saved(upto) => Ok(Act::Lobby(LobbyAct::Saved { upto })),
-        Does::Clear(serial) => Ok(Act::Pair(PairAct::Clear { desk: 1, serial })),
+        Does::Clear(serial) => Ok(clearing(serial)),
         Does::Move(serial, from, to) => moving(serial, word(from, to)?),
         Does::Knight(serial, to) => moving(serial, knight_to(to)?),
         Does::Castle(serial) => moving(serial, MoveWord::Castle { long: false }),
@@ -221,11 +221,15 @@ fn at_desk(serial: u64, act: DeskAct) -> Act
     requires { FitsDeskAct act }
     ensures { FitsAct result }
 {
-    Act::Desk {
-        desk: 1,
-        serial,
-        act,
-    }
+    let desk = DeskNumber::new(1);
+    Act::Desk { desk, serial, act }
+}
+
+fn clearing(serial: u64) -> Act
+    ensures { FitsAct result }
+{
+    let desk = DeskNumber::new(1);
+    Act::Pair(PairAct::Clear { desk, serial })
 }
 
 /// The variant, unless it is Fischer random from an array that there isn't.

@@ -6,7 +6,7 @@ use crate::links::{Gives, link_of};
 use crate::short::ShortSeat;
 use chess_model::{Colour, Why};
 use edge_traits::StillClock;
-use fics_words::{BoardNumber, Fail as Failure};
+use fics_words::{BoardNumber, DeskNumber, Fail as Failure};
 use link_core::{LinkEnd, serve_link};
 use linked_desk::Ended;
 use memory::NoMemory;
@@ -284,7 +284,7 @@ fn is_broken(
 
 /// Whether the game has ended so.
 fn has_ended(server: &OneServer, game: &Game) -> bool {
-    server.desk(1).ended() == game.1
+    server.desk(DeskNumber::new(1)).ended() == game.1
 }
 
 /// Whether Ben's session writes this.

@@ -3,14 +3,13 @@
 use crate::{lists, offers, resuming, simuls, watching};
 use chess_model::{Colour, Terms, variant_word};
 use command_words::{
-    Aliases, Bare, ByName, ByNumber, Command, MaybeByName, OnChannel, Style, Variable, WithText,
-    read_command,
+    Aliases, Bare, ByName, ByNumber, Command, MaybeByName, OnChannel, Style, WithText, read_command,
 };
-use fics_words::{Fail as Failed, Handle, Line, write_number};
+use fics_words::{Fail as Failed, Handle, Line, Variable, write_number};
 use memory::NoMemory;
 use std::alloc::Global;
-use std::process::Abort;
 use std::test::Fail;
+use test_steps::assert_rows;
 
 /// A line, and what it is read as, in each row: a command with all its arguments, or a refusal's number.
 const LINES: &str = "\
@@ -252,18 +251,53 @@ const TABLES: &[(&str, &str)] = &[
     ("reads_lines_about_looking_on", watching::LINES),
 ];
 
-/// Looks at each table, whether its rows are as they have to be.
-fn each_table(rt: &impl Abort, alloc: Global) -> Result<(), Fail> {
+/// The place of the first row of a table that isn't read so where there is no alias, if one isn't.
+fn first_misread_plainly(alloc: Global, rows: &str) -> Result<Option<usize>, Fail> {
     let none = Aliases::new(alloc);
-    for (name, rows) in TABLES {
-        read_rows(rt, alloc, name, rows, &none)?;
-    }
-    Ok(())
+    first_misread(alloc, rows, &none)
 }
 
 #[test]
 fn reads_lines(rt: HostRuntime) -> Result<(), Fail> {
-    each_table(&rt, rt.alloc())
+    for (name, rows) in TABLES {
+        assert_eq!(rt; first_misread_plainly(rt.alloc(), rows)?, None, "{name}");
+    }
+    Ok(())
+}
+
+/// A text behind this front that is so many times ten bytes.
+pub(crate) fn tens(alloc: Global, front: &str, times: usize) -> Result<String, Fail> {
+    let mut line = String::new(alloc);
+    put_tens(&mut line, front, times)?;
+    Ok(line)
+}
+
+fn put_tens(line: &mut String, front: &str, times: usize) -> Result<(), NoMemory> {
+    line.push_str(front)?;
+    for _time in 0..times {
+        line.push_str("ten bytes.")?;
+    }
+    Ok(())
+}
+
+/// Whether what stands behind this front may have 800 bytes, and not 801.
+fn ends_at_800(alloc: Global, front: &str) -> Result<bool, Fail> {
+    let mut line = tens(alloc, front, 80)?;
+    is_last_read(alloc, &mut line)
+}
+
+/// Whether a line is read as it stands, and is refused with a byte more.
+fn is_last_read(alloc: Global, line: &mut String) -> Result<bool, Fail> {
+    if !is_read_plainly(alloc, line.as_str(), line.as_bytes())? {
+        return Ok(false);
+    }
+    line.push('x')?;
+    is_read_plainly(alloc, line.as_str(), b"refused 28")
+}
+
+fn is_read_plainly(alloc: Global, line: &str, wanted: &[u8]) -> Result<bool, Fail> {
+    let none = Aliases::new(alloc);
+    is_read_as(alloc, &none, line, wanted)
 }
 
 #[test]
@@ -272,30 +306,33 @@ fn a_password_has_800_bytes_at_most(rt: HostRuntime) -> Result<(), Fail> {
     Ok(())
 }
 
-/// A text behind this front that is so many times ten bytes.
-pub(crate) fn tens(alloc: Global, front: &str, times: usize) -> Result<String, Fail> {
-    let mut line = String::new(alloc);
-    line.push_str(front)?;
-    line.push_str("ten bytes.".repeat(alloc, times)?.as_str())?;
-    Ok(line)
+/// What stands before a text that is said.
+const FRONTS: &[&str] = &["tell Ann ", "shout ", "ptell ", "kibitz "];
+
+#[test]
+fn what_is_said_has_800_bytes_at_most(rt: HostRuntime) -> Result<(), Fail> {
+    assert_rows!(rt; FRONTS, |front| ends_at_800(rt.alloc(), front)?);
+    Ok(())
 }
 
-/// Whether what stands behind this front may have 800 bytes, and not 801.
-fn ends_at_800(alloc: Global, front: &str) -> Result<bool, Fail> {
-    Ok(is_read_whole(alloc, front)? && is_too_long(alloc, front)?)
+/// The place of the first row whose line isn't read as the row says, if there is one.
+pub(crate) fn first_misread(
+    alloc: Global,
+    rows: &str,
+    aliases: &Aliases,
+) -> Result<Option<usize>, Fail> {
+    for (place, row) in rows.lines().enumerate() {
+        if !is_row_read(alloc, aliases, row)? {
+            return Ok(Some(place));
+        }
+    }
+    Ok(None)
 }
 
-/// Whether a line with 800 bytes behind this front is read as it stands.
-fn is_read_whole(alloc: Global, front: &str) -> Result<bool, Fail> {
-    let line = tens(alloc, front, 80)?;
-    is_read_as(alloc, &Aliases::new(alloc), line.as_str(), line.as_bytes())
-}
-
-/// Whether a line with a byte more is refused.
-fn is_too_long(alloc: Global, front: &str) -> Result<bool, Fail> {
-    let mut line = tens(alloc, front, 80)?;
-    line.push('x')?;
-    is_read_as(alloc, &Aliases::new(alloc), line.as_str(), b"refused 28")
+/// Whether a row's line is read as the row says.
+fn is_row_read(alloc: Global, aliases: &Aliases, row: &str) -> Result<bool, Fail> {
+    let (line, wanted) = row.split_once('|').ok_or("a line and what it means")?;
+    is_read_as(alloc, aliases, line, wanted.as_bytes())
 }
 
 /// Whether a line is read as that.
@@ -305,45 +342,9 @@ pub(crate) fn is_read_as(
     line: &str,
     wanted: &[u8],
 ) -> Result<bool, Fail> {
-    Ok(read(alloc, line, aliases)?.as_slice() == wanted)
-}
-
-#[test]
-fn what_is_said_has_800_bytes_at_most(rt: HostRuntime) -> Result<(), Fail> {
-    for front in ["tell Ann ", "shout ", "ptell ", "kibitz "] {
-        assert!(rt; ends_at_800(rt.alloc(), front)?, "{front}");
-    }
-    Ok(())
-}
-
-/// Looks at each row's line of a table whether it is read as the row says.
-pub(crate) fn read_rows(
-    rt: &impl Abort,
-    alloc: Global,
-    table: &str,
-    rows: &str,
-    aliases: &Aliases,
-) -> Result<(), Fail> {
-    for row in rows.lines() {
-        assert!(rt; is_row_read(alloc, aliases, row)?, "{table}: {row}");
-    }
-    Ok(())
-}
-
-/// Whether a row's line is read as the row says.
-fn is_row_read(alloc: Global, aliases: &Aliases, row: &str) -> Result<bool, Fail> {
-    let (line, wanted) = row.split_once('|').ok_or("a line and what it means")?;
-    is_read_as(alloc, aliases, line, wanted.as_bytes())
-}
-
-/// What a line is read as, told as a text.
-pub(crate) fn read(alloc: Global, line: &str, aliases: &Aliases) -> Result<Vec<u8>, Fail> {
     let line = Line::read(alloc, line.as_bytes())?.ok_or("a line")?;
-    match command_of(alloc, &line, aliases) {
-        Ok(command) => Ok(told(alloc, &command)?),
-        Err(Failed::Refused(refusal)) => Ok(refused(alloc, refusal.number())?),
-        Err(Failed::Memory) => Err(NoMemory.into()),
-    }
+    let command = command_of(alloc, &line, aliases);
+    is_told(alloc, &command, wanted)
 }
 
 /// The command of a line. It ensures nothing, so that nothing above it is proved over what a line is read as.
@@ -351,51 +352,48 @@ fn command_of(alloc: Global, line: &Line, aliases: &Aliases) -> Result<Command, 
     read_command(alloc, line, aliases)
 }
 
-/// The text of a refusal.
-fn refused(alloc: Global, number: u8) -> Result<Vec<u8>, NoMemory> {
-    let mut text = Vec::from_slice(alloc, b"refused ")?;
-    write_number(&mut text, number as u64)?;
-    Ok(text)
+/// Whether what a line is read as is told so.
+fn is_told(alloc: Global, read: &Result<Command, Failed>, wanted: &[u8]) -> Result<bool, Fail> {
+    let mut text = Vec::new(alloc);
+    tell_read(&mut text, read)?;
+    Ok(text.as_slice() == wanted)
 }
 
-/// The text of a command.
-fn told(alloc: Global, command: &Command) -> Result<Vec<u8>, NoMemory> {
+fn tell_read(text: &mut Vec<u8>, read: &Result<Command, Failed>) -> Result<(), NoMemory> {
+    match read {
+        Ok(command) => tell(text, command),
+        Err(Failed::Refused(refusal)) => with_number(text, b"refused", u16::from(refusal.number())),
+        Err(Failed::Memory) => Err(NoMemory),
+    }
+}
+
+/// Puts the text of a command.
+fn tell(text: &mut Vec<u8>, command: &Command) -> Result<(), NoMemory> {
     match command {
-        Command::Nothing => of(alloc, b"nothing"),
-        Command::Move(_) => of(alloc, b"move"),
-        Command::Bare(which) => of(alloc, bare(*which)),
-        Command::ByName(which, name) => with_text(alloc, by_name(*which), name.letters()),
-        Command::MaybeByName(which, name) => with_maybe(alloc, maybe_by_name(*which), name),
-        Command::WithText(which, text) => with_text(alloc, saying(*which), text.bytes()),
-        Command::ByNumber(which, number) => with_number(alloc, by_number(*which), *number),
+        Command::Nothing => put(text, b"nothing"),
+        Command::Move(_) => put(text, b"move"),
+        Command::Bare(which) => put(text, bare(*which)),
+        Command::ByName(which, name) => with_text(text, by_name(*which), name.letters()),
+        Command::MaybeByName(which, name) => with_maybe(text, maybe_by_name(*which), name),
+        Command::WithText(which, said) => with_text(text, saying(*which), said.bytes()),
+        Command::ByNumber(which, number) => with_number(text, by_number(*which), *number),
         Command::OnChannel(which, channel) => {
-            with_number(alloc, on_channel(*which), u16::from(*channel))
+            with_number(text, on_channel(*which), u16::from(*channel))
         }
-        Command::Alias { name, text } => {
-            behind(with_text(alloc, b"alias", name.bytes())?, text.bytes())
+        Command::Alias { name, text: long } => {
+            with_texts(text, b"alias", name.bytes(), long.bytes())
         }
-        Command::Match(name, terms) => {
-            with_terms(with_text(alloc, b"match", name.letters())?, terms)
-        }
-        Command::ObserveGame(number) => with_number(alloc, b"observe", *number),
-        Command::ObservePlayer(name) => with_text(alloc, b"observe", name.letters()),
-        Command::Seek(terms) => with_terms(of(alloc, b"seek")?, terms),
-        Command::Set(which, on) => with_text(alloc, set(*which), digit(*on)),
-        Command::Style(Style::One) => of(alloc, b"style 1"),
-        Command::Style(Style::Twelve) => of(alloc, b"style 12"),
-        Command::Takeback(number) => with_number(alloc, b"takeback", *number),
-        Command::Tell(name, text) => {
-            behind(with_text(alloc, b"tell", name.letters())?, text.bytes())
-        }
-        Command::TellChannel(channel, text) => {
-            behind(
-                with_number(alloc, b"tell", u16::from(*channel))?,
-                text.bytes(),
-            )
-        }
-        Command::Unalias(name) => with_text(alloc, b"unalias", name.bytes()),
-        Command::Unseek(None) => of(alloc, b"unseek"),
-        Command::Unseek(Some(number)) => with_number(alloc, b"unseek", *number),
+        Command::Match(name, terms) => with_named_terms(text, name, terms),
+        Command::ObserveGame(number) => with_number(text, b"observe", *number),
+        Command::ObservePlayer(name) => with_text(text, b"observe", name.letters()),
+        Command::Seek(terms) => with_terms(text, b"seek", terms),
+        Command::Set(which, on) => with_text(text, set(*which), digit(*on)),
+        Command::Style(style) => with_text(text, b"style", style_word(*style)),
+        Command::Takeback(number) => with_number(text, b"takeback", *number),
+        Command::Tell(name, said) => with_texts(text, b"tell", name.letters(), said.bytes()),
+        Command::TellChannel(channel, said) => with_channel(text, *channel, said.bytes()),
+        Command::Unalias(name) => with_text(text, b"unalias", name.bytes()),
+        Command::Unseek(number) => with_maybe_number(text, b"unseek", *number),
     }
 }
 
@@ -471,35 +469,12 @@ fn set(which: Variable) -> &'static [u8] {
     }
 }
 
-fn of(alloc: Global, word: &[u8]) -> Result<Vec<u8>, NoMemory> {
-    Ok(Vec::from_slice(alloc, word)?)
-}
-
-/// A word and a text behind it.
-fn with_text(alloc: Global, word: &[u8], text: &[u8]) -> Result<Vec<u8>, NoMemory> {
-    behind(of(alloc, word)?, text)
-}
-
-/// A word and a handle behind it, if there is one.
-fn with_maybe(alloc: Global, word: &[u8], name: &Option<Handle>) -> Result<Vec<u8>, NoMemory> {
-    match name {
-        None => of(alloc, word),
-        Some(name) => with_text(alloc, word, name.letters()),
+/// How a style is typed.
+fn style_word(style: Style) -> &'static [u8] {
+    match style {
+        Style::One => b"1",
+        Style::Twelve => b"12",
     }
-}
-
-/// A word and a number behind it.
-fn with_number(alloc: Global, word: &[u8], number: u16) -> Result<Vec<u8>, NoMemory> {
-    let mut whole = with_text(alloc, word, b"")?;
-    write_number(&mut whole, number as u64)?;
-    Ok(whole)
-}
-
-/// A text behind a front and a blank.
-fn behind(mut front: Vec<u8>, text: &[u8]) -> Result<Vec<u8>, NoMemory> {
-    front.push(b' ')?;
-    front.extend_from_slice(text)?;
-    Ok(front)
 }
 
 /// How a variable's value is typed.
@@ -507,16 +482,65 @@ fn digit(on: bool) -> &'static [u8] {
     if on { b"1" } else { b"0" }
 }
 
-/// All the terms of a game behind a front.
-fn with_terms(front: Vec<u8>, terms: &Terms) -> Result<Vec<u8>, NoMemory> {
-    let mut text = behind(front, b"")?;
-    write_number(&mut text, terms.minutes as u64)?;
-    text.push(b' ')?;
-    write_number(&mut text, terms.increment as u64)?;
-    text.push(b' ')?;
-    text.extend_from_slice(variant_word(terms.variant).bytes())?;
-    text.extend_from_slice(colour(terms.colour))?;
-    Ok(text)
+fn put(text: &mut Vec<u8>, word: &[u8]) -> Result<(), NoMemory> {
+    text.extend_from_slice(word)?;
+    Ok(())
+}
+
+/// Puts a word, and another text behind it and a blank.
+fn with_text(text: &mut Vec<u8>, word: &[u8], behind: &[u8]) -> Result<(), NoMemory> {
+    put(text, word)?;
+    put(text, b" ")?;
+    put(text, behind)
+}
+
+fn with_texts(
+    text: &mut Vec<u8>,
+    word: &[u8],
+    first: &[u8],
+    second: &[u8],
+) -> Result<(), NoMemory> {
+    with_text(text, word, first)?;
+    with_text(text, b"", second)
+}
+
+/// Puts a word and a handle behind it, if there is one.
+fn with_maybe(text: &mut Vec<u8>, word: &[u8], name: &Option<Handle>) -> Result<(), NoMemory> {
+    match name {
+        None => put(text, word),
+        Some(name) => with_text(text, word, name.letters()),
+    }
+}
+
+/// Puts a word and a number behind it.
+fn with_number(text: &mut Vec<u8>, word: &[u8], number: u16) -> Result<(), NoMemory> {
+    with_text(text, word, b"")?;
+    write_number(text, number as u64)
+}
+
+fn with_maybe_number(text: &mut Vec<u8>, word: &[u8], number: Option<u16>) -> Result<(), NoMemory> {
+    match number {
+        None => put(text, word),
+        Some(number) => with_number(text, word, number),
+    }
+}
+
+fn with_channel(text: &mut Vec<u8>, channel: u8, said: &[u8]) -> Result<(), NoMemory> {
+    with_number(text, b"tell", u16::from(channel))?;
+    with_text(text, b"", said)
+}
+
+fn with_named_terms(text: &mut Vec<u8>, name: &Handle, terms: &Terms) -> Result<(), NoMemory> {
+    with_text(text, b"match", name.letters())?;
+    with_terms(text, b"", terms)
+}
+
+/// Puts a word and all the terms of a game behind it.
+fn with_terms(text: &mut Vec<u8>, word: &[u8], terms: &Terms) -> Result<(), NoMemory> {
+    with_number(text, word, terms.minutes)?;
+    with_number(text, b"", terms.increment)?;
+    with_text(text, b"", variant_word(terms.variant).bytes())?;
+    put(text, colour(terms.colour))
 }
 
 fn colour(asked: Option<Colour>) -> &'static [u8] {

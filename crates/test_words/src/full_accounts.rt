@@ -2,8 +2,8 @@
 
 use fics_words::{Digest, Fail as Refused, Handle, Refusal};
 use login_handles::Accounts;
-use std::test::Fail;
-use test_steps::least_wrong;
+use std::alloc::Global;
+use test_steps::{first_wrong, least_wrong};
 
 /// As many accounts as a server holds.
 const MOST: u64 = 4_096;
@@ -40,12 +40,32 @@ fn first_refused(accounts: &mut Accounts, count: u64) -> Option<u64> {
     least_wrong!(0..count, |number| refusal(accounts, number).is_none())
 }
 
+/// The calls behind those that make as many accounts as there may be: the number of each, and why it is refused.
+const BEHIND: &[(u64, Refusal)] = &[
+    (MOST, Refusal::AccountsFull),
+    (0, Refusal::AlreadyRegistered),
+];
+
+fn first_wrong_behind(accounts: &mut Accounts) -> Option<usize> {
+    first_wrong!(
+        BEHIND,
+        |(number, cause)| refusal(accounts, *number) == Some(*cause)
+    )
+}
+
+/// Whether as many accounts are made, and none behind them.
+fn is_filled(accounts: &mut Accounts) -> bool {
+    first_refused(accounts, MOST).is_none()
+        && first_wrong_behind(accounts).is_none()
+        && accounts.rows().len() as u64 == MOST
+}
+
+fn is_filled_anew(alloc: Global) -> bool {
+    let mut accounts = Accounts::new(alloc);
+    is_filled(&mut accounts)
+}
+
 #[test]
-fn the_account_behind_4096_is_refused(rt: HostRuntime) -> Result<(), Fail> {
-    let mut accounts = Accounts::new(rt.alloc());
-    assert_eq!(rt; first_refused(&mut accounts, MOST), None);
-    assert!(rt; refusal(&mut accounts, MOST) == Some(Refusal::AccountsFull));
-    assert!(rt; refusal(&mut accounts, 0) == Some(Refusal::AlreadyRegistered));
-    assert!(rt; accounts.rows().len() as u64 == MOST);
-    Ok(())
+fn the_account_behind_4096_is_refused(rt: HostRuntime) {
+    assert!(rt; is_filled_anew(rt.alloc()));
 }

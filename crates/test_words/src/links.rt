@@ -2,8 +2,7 @@
 
 use edge_traits::{Clock, Gate, Heard, Link, OpenGate, Sent, StillClock};
 use memory_edges::{LinkStep, MemLink};
-use std::alloc::Global;
-use std::process::Abort;
+use std::alloc::{AllocError, Global};
 use std::test::Fail;
 use test_steps::first_wrong;
 
@@ -25,16 +24,29 @@ enum Call {
 
 use Call::{Closes, Hears, Keeps, Loses, Reads, Writes};
 
-/// The steps of a link: pieces of bytes, and pauses in place of nothing.
-fn steps_of(alloc: Global, pieces: &[Option<&[u8]>]) -> Result<Vec<LinkStep>, Fail> {
-    let mut steps = Vec::new(alloc);
+fn put_step(steps: &mut Vec<LinkStep>, step: LinkStep) -> Result<(), AllocError> {
+    steps.push(step)?;
+    Ok(())
+}
+
+fn put_piece(alloc: Global, steps: &mut Vec<LinkStep>, bytes: &[u8]) -> Result<(), AllocError> {
+    let bytes = Vec::from_slice(alloc, bytes)?;
+    put_step(steps, LinkStep::Piece(bytes))
+}
+
+/// Puts the steps of a link: pieces of bytes, and pauses in place of nothing.
+fn put_steps(
+    alloc: Global,
+    steps: &mut Vec<LinkStep>,
+    pieces: &[Option<&[u8]>],
+) -> Result<(), AllocError> {
     for piece in pieces {
         match piece {
-            Some(bytes) => steps.push(LinkStep::Piece(Vec::from_slice(alloc, bytes)?))?,
-            None => steps.push(LinkStep::Quiet)?,
+            Some(bytes) => put_piece(alloc, steps, bytes)?,
+            None => put_step(steps, LinkStep::Quiet)?,
         }
     }
-    Ok(steps)
+    Ok(())
 }
 
 /// Calls of a link, which has none of them behind its close. They ensure nothing, so that nothing above them is proved
@@ -129,24 +141,29 @@ const CASES: &[Case] = &[
     },
 ];
 
-/// The place of the first call of a case that comes to something else, if one does.
-fn first_failing_of(alloc: Global, case: &Case) -> Result<Option<usize>, Fail> {
-    let steps = steps_of(alloc, case.given)?;
-    let fails = Vec::from_slice(alloc, case.fails)?;
-    Ok(first_failing(&mut MemLink::new(alloc, steps, fails), case.calls))
+fn link_of(alloc: Global, case: &Case) -> Result<MemLink, AllocError> {
+    let mut steps = Vec::new(alloc);
+    put_steps(alloc, &mut steps, case.given)?;
+    with_fails(alloc, steps, case.fails)
 }
 
-/// Looks at each case, whether it goes as it has to.
-fn each_case(rt: &impl Abort, alloc: Global) -> Result<(), Fail> {
-    for case in CASES {
-        assert_eq!(rt; first_failing_of(alloc, case)?, None, "{}", case.name);
-    }
-    Ok(())
+fn with_fails(alloc: Global, steps: Vec<LinkStep>, fails: &[u64]) -> Result<MemLink, AllocError> {
+    let fails = Vec::from_slice(alloc, fails)?;
+    Ok(MemLink::new(alloc, steps, fails))
+}
+
+/// The place of the first call of a case that comes to something else, if one does.
+fn first_failing_of(alloc: Global, case: &Case) -> Result<Option<usize>, AllocError> {
+    let mut link = link_of(alloc, case)?;
+    Ok(first_failing(&mut link, case.calls))
 }
 
 #[test]
 fn links_in_memory(rt: HostRuntime) -> Result<(), Fail> {
-    each_case(&rt, rt.alloc())
+    for case in CASES {
+        assert_eq!(rt; first_failing_of(rt.alloc(), case)?, None, "{}", case.name);
+    }
+    Ok(())
 }
 
 #[test]

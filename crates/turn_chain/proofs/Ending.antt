@@ -10,7 +10,7 @@ use Rattle.std.specs.Prelude.{OnOk}
 use Rattle.histories.specs.Core.{Core, Lawful}
 use Rattle.histories.specs.History.{state}
 use Rattle.turn_table.specs.declared.view.View.{View}
-use Rattle.turn_table.specs.Views.{In, AllOut, SecondOut, done, given, left_by, let_go}
+use Rattle.turn_table.specs.Views.{In, AllOut, SecondOut, done, given_back, left_by, let_go}
 use Rattle.turn_table.specs.Passes.{Committed}
 use Rattle.turn_table.proofs.Keeping.{dropped, left_in}
 use Rattle.turn_chain.specs.Lent.{IsFirst, AreBoth}
@@ -68,7 +68,7 @@ module _ {P A R : Type 0} {c : Core P A R} {v : View P A R} {a : A} where
         pub named_alone : {q : P} → q ≡ new → In (k, q) w.held
         named_alone {q = q} e = subst (In (k, q)) (sym held_is) (inl (λ i. (k, e i)))
 
-        module _ {u : View P A R} (back : u ≡ given w k) where
+        module _ {u : View P A R} (back : u ≡ given_back w k) where
           pub idle_alone : u.held ≡ []
           idle_alone =
               ap (λ (x : View P A R). x.held) back
@@ -80,7 +80,7 @@ module _ {P A R : Type 0} {c : Core P A R} {v : View P A R} {a : A} where
           pub ran_alone : {r : R} → r ≡ c.answer p None v.number a → HasRun c v a r u
           ran_alone e =
               let told_view : w ≡ done c v a p None w.seen = told.view in
-              let at_end : HasRun c v a (c.answer p None v.number a) (given w k) = record {
+              let at_end : HasRun c v a (c.answer p None v.number a) (given_back w k) = record {
                 others = told.between;
                 ends = told.last;
                 legal = told.legal;
@@ -130,7 +130,7 @@ module _ {P A R : Type 0} {c : Core P A R} {v : View P A R} {a : A} where
     none_left x y held e = ap (let_go s) (second_left_in x y held e) ∙ dropped s (s, x) [] refl
 
     -- after running out of memory
-    pub named_again : {u : View P A R} → u ≡ given v k → {z : P} → z ≡ q → In (s, z) u.held
+    pub named_again : {u : View P A R} → u ≡ given_back v k → {z : P} → z ≡ q → In (s, z) u.held
     named_again e {z = z} is =
         subst (In (s, z)) (sym (ap (λ (x : View P A R). x.held) e ∙ second_left_in q p v.held ready.out))
         (inl (λ i. (s, is i)))
@@ -156,16 +156,16 @@ module _ {P A R : Type 0} {c : Core P A R} {v : View P A R} {a : A} where
       pub named_first : {x : P} → x ≡ new_one → In (k, x) w.held
       named_first {x = x} e = subst (In (k, x)) (sym both_held) (inr (inl (λ i. (k, e i))))
 
-      module _ {t : View P A R} (back : t ≡ given w k) where
+      module _ {t : View P A R} (back : t ≡ given_back w k) where
         pub named_second : {y : P} → y ≡ new_two → In (s, y) t.held
         named_second {y = y} e =
             subst (In (s, y))
             (sym (ap (λ (x : View P A R). x.held) back ∙ second_left_in new_two new_one w.held both_held))
             (inl (λ i. (s, e i)))
 
-        module _ {u : View P A R} (all_back : u ≡ given t s) where
-          u_is : u ≡ given (given w k) s
-          u_is = all_back ∙ ap (λ x. given x s) back
+        module _ {u : View P A R} (all_back : u ≡ given_back t s) where
+          u_is : u ≡ given_back (given_back w k) s
+          u_is = all_back ∙ ap (λ x. given_back x s) back
 
           pub idle_both : u.held ≡ []
           idle_both = ap (λ (x : View P A R). x.held) u_is ∙ none_left new_two new_one w.held both_held
@@ -175,7 +175,7 @@ module _ {P A R : Type 0} {c : Core P A R} {v : View P A R} {a : A} where
 
           pub ran_both : {r : R} → r ≡ c.answer p (Some q) v.number a → HasRun c v a r u
           ran_both e =
-              let at_end : HasRun c v a (c.answer p (Some q) v.number a) (given (given w k) s) = record {
+              let at_end : HasRun c v a (c.answer p (Some q) v.number a) (given_back (given_back w k) s) = record {
                 others = told_both.between;
                 ends = told_both.last;
                 legal = told_both.legal;

@@ -11,7 +11,7 @@ use Rattle.histories.specs.History.{IsPrefix, calls_of, entry, state, Legal}
 use Rattle.histories.proofs.Histories.{prefix_trans}
 use Rattle.memory.specs.declared.NoMemory.{NoMemory}
 use Rattle.turn_table.specs.declared.view.View.{View}
-use Rattle.turn_table.specs.Views.{In, Holds, Looks, begun, given, let_go, taken, tried}
+use Rattle.turn_table.specs.Views.{In, Holds, Looks, begun, given_back, let_go, taken_out, tried}
 use Rattle.turn_table.specs.Passes.{with_busy}
 use Rattle.turn_chain.specs.Chain.{fixed, CameTo, HasRun, HasNotRun}
 use Rattle.turn_chain.specs.declared.tried.Tried.TheVariants.{Busy}
@@ -41,18 +41,19 @@ module _ {P A R : Type 0} (c : Core P A R) where
   since_begun : (v w : View P A R) (a : A) → w ≡ begun c v a w.seen → Looks c v w.seen → Since v w
   since_begun v w a e looks = record { begins = looks.on; made = ap (λ (x : View P A R). x.made) e; same = ap fixed e }
 
-  since_taken : (v w : View P A R) (k : ℕ) (p : P) (tries : List ℕ) → w ≡ with_busy tries (taken c v k p w.seen)
+  since_taken : (v w : View P A R) (k : ℕ) (p : P) (tries : List ℕ) → w ≡ with_busy tries (taken_out c v k p w.seen)
       → Looks c v w.seen → Since v w
   since_taken v w k p tries e looks =
       record { begins = looks.on; made = ap (λ (x : View P A R). x.made) e; same = ap fixed e }
 
   -- what it has become once the first part is out, and once the second is
   module _ (v u w : View P A R) (a : A) (k : ℕ) (p : P) (tries : List ℕ) (e : u ≡ begun c v a u.seen)
-      (begins : Looks c v u.seen) (takes : w ≡ with_busy tries (taken c u k p w.seen)) (looks : Looks c u w.seen) where
+      (begins : Looks c v u.seen) (takes : w ≡ with_busy tries (taken_out c u k p w.seen))
+      (looks : Looks c u w.seen) where
     pub since_first : Since v w
     since_first = since_trans v u w (since_begun v u a e begins) (since_taken u w k p tries takes looks)
 
-    pub since_second : (x : View P A R) (s : ℕ) (q : P) (more : List ℕ) → x ≡ with_busy more (taken c w s q x.seen)
+    pub since_second : (x : View P A R) (s : ℕ) (q : P) (more : List ℕ) → x ≡ with_busy more (taken_out c w s q x.seen)
         → Looks c w x.seen → Since v x
     since_second x s q more takes_more looks_on =
         since_trans v w x since_first (since_taken w x s q more takes_more looks_on)
@@ -87,7 +88,7 @@ module _ {P A R : Type 0} (c : Core P A R) where
 
   -- the second part isn't held yet
   pub second_free : Lawful c → (v u w : View P A R) (a : A) (k : ℕ) (p : P) (s : ℕ) (tries : List ℕ) → c.fits a
-      → v.held ≡ [] → u ≡ begun c v a u.seen → w ≡ with_busy tries (taken c u k p w.seen) → Looks c u w.seen
+      → v.held ≡ [] → u ≡ begun c v a u.seen → w ≡ with_busy tries (taken_out c u k p w.seen) → Looks c u w.seen
       → slice_get (state c u.opening w.seen) k ≡ Some p → k ≡ c.first a → c.second p w.number a ≡ Some s → Holds w s → ⊥
   second_free law v u w a k p s tries fits idle e d looks value first second h =
       let held : w.held ≡ (k, p) ∷ [] =
@@ -124,7 +125,8 @@ module _ {P A R : Type 0} (c : Core P A R) where
   -- nor where that of the second part was, and the first one went back as it was
   module _ (v u w x y : View P A R) (a : A) (k : ℕ) (p : P) (s : ℕ) (e : u ≡ begun c v a u.seen)
       (begins : Looks c v u.seen)
-      (takes : w ≡ taken c u k p w.seen) (looks : Looks c u w.seen) (busy : x ≡ tried w s) (back : y ≡ given x k) where
+      (takes : w ≡ taken_out c u k p w.seen) (looks : Looks c u w.seen) (busy : x ≡ tried w s)
+      (back : y ≡ given_back x k) where
     once : Since v w
     once = since_first v u w a k p u.busy e begins takes looks
 

@@ -12,7 +12,7 @@ use Rattle.histories.specs.Core.{Core, Lawful}
 use Rattle.histories.specs.History.{state}
 use Rattle.histories.proofs.Histories.{prefix_refl}
 use Rattle.turn_table.specs.declared.view.View.{View}
-use Rattle.turn_table.specs.Views.{In, Holds, given}
+use Rattle.turn_table.specs.Views.{In, Holds, given_back}
 use Rattle.turn_table.specs.Rule.{RuleNames, Fits, Rule, Ruled}
 use Rattle.turn_table.specs.Plays.{GivesTurn}
 use Rattle.turn_table.proofs.Among.{kept_was, keeps as stays_in, filter_shorter, split_on, other_number, is_other, at_one, at_one_same, at_one_else}
@@ -32,24 +32,24 @@ module _ {P A R : Type 0} (c : Core P A R) (law : Lawful c) (opening : List P) w
     give_there : k < length opening
     give_there = give_f.there k (give_f.allowed k p held_here)
 
-    still : (j : ℕ) (q : P) → In (j, q) (given v k).held → In (j, q) v.held × (j ≢ k)
+    still : (j : ℕ) (q : P) → In (j, q) (given_back v k).held → In (j, q) v.held × (j ≢ k)
     still j q h = let r = kept_was (λ x. not (eqb x.0 k)) (j, q) v.held h in (r.0, other_number j k r.1)
 
-    stays_held : (j : ℕ) (q : P) → j ≢ k → In (j, q) v.held → In (j, q) (given v k).held
+    stays_held : (j : ℕ) (q : P) → j ≢ k → In (j, q) v.held → In (j, q) (given_back v k).held
     stays_held j q ne h = stays_in (λ x. not (eqb x.0 k)) (j, q) v.held h (is_other j k ne)
 
-    still_may : (j : ℕ) → In j (given v k).may → In j v.may × (j ≢ k)
+    still_may : (j : ℕ) → In j (given_back v k).may → In j v.may × (j ≢ k)
     still_may j h = let r = kept_was (λ m. not (eqb m k)) j v.may h in (r.0, other_number j k r.1)
 
-    give_first_alone : (a : A) → v.flight ≡ Some a → v.committed ≡ false → In (c.first a) (given v k).may
-        → (Holds (given v k) (c.first a) → ⊥) → ⊥
+    give_first_alone : (a : A) → v.flight ≡ Some a → v.committed ≡ false → In (c.first a) (given_back v k).may
+        → (Holds (given_back v k) (c.first a) → ⊥) → ⊥
     give_first_alone a e pend i nh =
         let m = still_may (c.first a) i in
         let alone : v.may ≡ c.first a ∷ [] =
         give_f.first_alone a e pend m.0 (λ h. nh (h.0, stays_held (c.first a) h.0 m.1 h.1)) in
         m.1 (sym (only_one (c.first a) v.may k alone (give_f.allowed k p held_here)))
 
-    give_fits : Fits c opening (renamed c opening n n.log (at_one n.holder k None)) id (given v k)
+    give_fits : Fits c opening (renamed c opening n n.log (at_one n.holder k None)) id (given_back v k)
     give_fits = record {
       same_opening = give_f.same_opening;
       seen_begins = give_f.seen_begins;
@@ -79,7 +79,7 @@ module _ {P A R : Type 0} (c : Core P A R) (law : Lawful c) (opening : List P) w
         set_here s.homes k (some (Some p)) (let t = give_there in let y = rule.slots_there in omega arith)
         ∙ ap (λ (x : Option P). some (some x)) d
 
-    give_owes : Owes c opening s n id v (set s.words k 0) (set s.homes k (some (Some p))) (given v k) n.log
+    give_owes : Owes c opening s n id v (set s.words k 0) (set s.homes k (some (Some p))) (given_back v k) n.log
         (at_one n.holder k None)
     give_owes = record {
       alive = live;
@@ -128,6 +128,6 @@ module _ {P A R : Type 0} (c : Core P A R) (law : Lawful c) (opening : List P) w
       let n : RuleNames A R = ruled.0 in
       let rule : Rule c opening s n = ruled.1 in
       let kept =
-      stays c opening s n id v (set s.words k 0) (set s.homes k (some (Some p))) (given v k) n.log
+      stays c opening s n id v (set s.words k 0) (set s.homes k (some (Some p))) (given_back v k) n.log
       (at_one n.holder k None) rule at live (give_owes s n id v rule at live k p h) in
-      (given v k, gives, tt, (renamed c opening n n.log (at_one n.holder k None), kept), (refl, refl))
+      (given_back v k, gives, tt, (renamed c opening n n.log (at_one n.holder k None), kept), (refl, refl))

@@ -6,7 +6,7 @@ use Rattle.atomic_table.specs.Table.{Me, turned}
 use Rattle.histories.specs.Core.{Core}
 use Rattle.histories.specs.History.{calls_of}
 use Rattle.turn_table.specs.declared.view.View.{View}
-use Rattle.turn_table.specs.Views.{In, Holds, Looks, Knows, looked, begun, taken, tried, done, left_by, given, let_go, divided, split_from, merged, joined_with}
+use Rattle.turn_table.specs.Views.{In, Holds, Looks, Knows, looked, begun, taken_out, tried, done, left_by, given_back, let_go, divided, split_from, merged, joined_with}
 use Rattle.turn_table.specs.Plays.{Sat, LooksOn, BeginsAct, TakesPart, FindsBusy, CommitsAct}
 use Rattle.turn_table.specs.Passes.{out, Topped, IsPass, Sound, TookPart, Committed}
 use Rattle.turn_table.proofs.Among.{in_map, kept_was}
@@ -132,7 +132,7 @@ module _ {P A R : Type 0} (c : Core P A R) (slots number splits : ℕ) where
         → Sound c slots number splits k last m'
     sound_took k p m' may not_held told =
         let t : TakesPart c m k p (m'.0, (k, Some p) ∷ m.1) = told.0 in
-        let w : View P A R = taken c m.0 k p m'.0.seen in
+        let w : View P A R = taken_out c m.0 k p m'.0.seen in
         let few : length w.may ≤ 2 = subst (λ (u : View P A R). length u.may ≤ 2) t.view t.few in
         let allowed : (j : ℕ) (q : P) → In (j, q) w.held → In j w.may =
         subst (λ (u : View P A R). (j : ℕ) (q : P) → In (j, q) u.held → In j u.may) t.view t.allowed in
@@ -213,10 +213,10 @@ module _ {P A R : Type 0} (c : Core P A R) (slots number splits : ℕ) where
           sound.2,
         )
 
-    pub sound_given : (next k : ℕ) (m' : Sat c) → Topped next before (let_go k m.0.held) → m'.0 ≡ given m.0 k
+    pub sound_given : (next k : ℕ) (m' : Sat c) → Topped next before (let_go k m.0.held) → m'.0 ≡ given_back m.0 k
         → m'.1 ≡ map out (let_go k m.0.held) → Sound c slots number splits next before m'
     sound_given next k m' order e d =
-        along next before m'.0 (given m.0 k) m'.1 (map out (let_go k m.0.held)) e d (
+        along next before m'.0 (given_back m.0 k) m'.1 (map out (let_go k m.0.held)) e d (
           record {
             alive = p0.alive;
             sized = p0.sized;

@@ -15,7 +15,7 @@ use Rattle.histories.proofs.Parts.{slice_get_length}
 use Rattle.histories.proofs.Histories.{prefix_refl, prefix_whole, prefix_length, length_state}
 use Rattle.turn_table.specs.declared.view.Joined.{Joined}
 use Rattle.turn_table.specs.declared.view.View.{View}
-use Rattle.turn_table.specs.Views.{In, Distinct, Holds, numbers_of, joined_number, divided, split_from, as_joined, merged, spent, new_view}
+use Rattle.turn_table.specs.Views.{In, Distinct, Holds, numbers_of, joined_number, divided, split_from, as_joined, merged, spent_view, new_view}
 use Rattle.turn_table.specs.Rule.{RuleNames, Fits, Rule, Ruled}
 use Rattle.turn_table.proofs.Among.{in_append, split_on, at_one, at_one_same, at_one_else, at_length}
 use Rattle.turn_table.proofs.Beginning.{some_or_none, none_held}
@@ -243,7 +243,7 @@ module _ {P A R : Type 0} (c : Core P A R) (law : Lawful c) (opening : List P) w
     both = merged v w
 
     abbrev met : State (Option P) (View P A R)
-    met = record { words = s.words; homes = s.homes; views = set (set s.views id both) other spent }
+    met = record { words = s.words; homes = s.homes; views = set (set s.views id both) other spent_view }
 
     other_owner : (m j : ℕ) → n.owner m ≡ Some j → j ≢ other → moved_to (n.owner m) ≡ Some j
     unfolding moved_to
@@ -325,21 +325,22 @@ module _ {P A R : Type 0} (c : Core P A R) (law : Lawful c) (opening : List P) w
       counts_drawn = g.counts_drawn;
     }
 
-    join_cases : (j : ℕ) (u : View P A R) → get_elem? (set (set s.views id both) other spent) j ≡ some u
-        → ((j ≡ other) × (spent ≡ u))
+    join_cases : (j : ℕ) (u : View P A R) → get_elem? (set (set s.views id both) other spent_view) j ≡ some u
+        → ((j ≡ other) × (spent_view ≡ u))
         ⊎ (((j ≡ id) × (both ≡ u)) ⊎ ((j ≢ other) × (j ≢ id) × (get_elem? s.views j ≡ some u)))
     join_cases j u there = ⊎_elim inl
         (λ t. ⊎_elim (λ r. inr (inl r)) (λ r. inr (inr (t.0, r.0, r.1))) (at_set s.views id j both u t.1))
-        (at_set (set s.views id both) other j spent u there)
+        (at_set (set s.views id both) other j spent_view u there)
 
-    both_at : get_elem? (set (set s.views id both) other spent) id ≡ some both
+    both_at : get_elem? (set (set s.views id both) other spent_view) id ≡ some both
     both_at =
-        set_else (set s.views id both) other id spent (λ e. ne (sym e))
+        set_else (set s.views id both) other id spent_view (λ e. ne (sym e))
         ∙ set_here s.views id both (at_length s.views id v at)
 
     third_at : (j : ℕ) (u : View P A R) → j ≢ other → j ≢ id → get_elem? s.views j ≡ some u
-        → get_elem? (set (set s.views id both) other spent) j ≡ some u
-    third_at j u d e there = set_else (set s.views id both) other j spent d ∙ (set_else s.views id j both e ∙ there)
+        → get_elem? (set (set s.views id both) other spent_view) j ≡ some u
+    third_at j u d e there =
+        set_else (set s.views id both) other j spent_view d ∙ (set_else s.views id j both e ∙ there)
 
     at_one_place : (j i : ℕ) (u x : View P A R) → j ≡ i → get_elem? s.views j ≡ some u → get_elem? s.views i ≡ some x
         → u ≡ x
@@ -410,7 +411,7 @@ module _ {P A R : Type 0} (c : Core P A R) (law : Lawful c) (opening : List P) w
     }
 
   pub joins : (id : ℕ) (v : View P A R) (other : ℕ) (w : View P A R) → v.live ≡ true → w.live ≡ true → v.held ≡ []
-      → w.held ≡ [] → Joins (Ruled c opening) id v other w (merged v w) spent
+      → w.held ≡ [] → Joins (Ruled c opening) id v other w (merged v w) spent_view
   joins id v other w live live_w empty empty_w s ruled there ne at_w =
       let here : get_elem? s.views other ≡ some w = sym (set_else s.views id other (merged v w) ne) ∙ at_w in (
         joint s ruled.0 id v other w ruled.1 there ne here live live_w empty empty_w,

@@ -16,7 +16,7 @@ use Rattle.histories.specs.History.{state}
 use Rattle.histories.proofs.Parts.{get_within}
 use Rattle.histories.proofs.Histories.{prefix_refl, length_state}
 use Rattle.turn_table.specs.declared.view.View.{View}
-use Rattle.turn_table.specs.Views.{In, Holds, second_by, taken, tried}
+use Rattle.turn_table.specs.Views.{In, Holds, second_by, taken_out, tried}
 use Rattle.turn_table.specs.Rule.{RuleNames, Fits, Rule, Ruled}
 use Rattle.turn_table.specs.Plays.{Sat, TakesPart, TurnTakes, FindsBusy}
 use Rattle.turn_table.proofs.Among.{in_append, in_front, pair_first, split_on, at_one, at_one_same, at_one_else}
@@ -54,13 +54,13 @@ module _ {P A R : Type 0} (c : Core P A R) (law : Lawful c) (opening : List P) w
       alone a e d =
           f.first_alone a e pending (subst (λ m. In m v.may) d may) (λ h. unheld_here (subst (Holds v) (sym d) h))
 
-      may_cases : (j : ℕ) → In j (taken c v k p n.log).may
+      may_cases : (j : ℕ) → In j (taken_out c v k p n.log).may
           → In j v.may ⊎ ((a : A) × (v.flight ≡ Some a) × (k ≡ c.first a) × (c.second p v.number a ≡ Some j))
       may_cases j h =
           ⊎_elim inl (λ g. inr (second_found c j k p v.flight v.number g))
           (in_append j v.may (second_by c k p v.flight v.number) h)
 
-      take_few : length (taken c v k p n.log).may ≤ 2
+      take_few : length (taken_out c v k p n.log).may ≤ 2
       take_few = ⊎_elim
           (λ none_flies.
           let e : second_by c k p v.flight v.number ≡ [] =
@@ -81,13 +81,13 @@ module _ {P A R : Type 0} (c : Core P A R) (law : Lawful c) (opening : List P) w
           subst (λ (ks : List ℕ). length ks ≤ 2) (sym (ap (λ (ks : List ℕ). v.may ++ ks) e ∙ append-nil v.may)) f.few))
           (flight_cases c v.flight)
 
-      take_allowed : (j : ℕ) (q : P) → In (j, q) (taken c v k p n.log).held → In j (taken c v k p n.log).may
+      take_allowed : (j : ℕ) (q : P) → In (j, q) (taken_out c v k p n.log).held → In j (taken_out c v k p n.log).may
       take_allowed j q (inl e) =
           in_front j v.may (second_by c k p v.flight v.number)
           (subst (λ m. In m v.may) (sym (pair_first j k q p e)) may)
       take_allowed j q (inr h) = in_front j v.may (second_by c k p v.flight v.number) (f.allowed j q h)
 
-      take_there : (j : ℕ) → In j (taken c v k p n.log).may → j < length opening
+      take_there : (j : ℕ) → In j (taken_out c v k p n.log).may → j < length opening
       take_there j h = ⊎_elim (f.there j)
           (λ t.
           let at_first : slice_get (state c opening n.log) (c.first t.0) ≡ Some p =
@@ -97,20 +97,21 @@ module _ {P A R : Type 0} (c : Core P A R) (law : Lawful c) (opening : List P) w
           (f.may_fly t.0 t.1) at_first t.3).0)
           (may_cases j h)
 
-      take_own : (j : ℕ) (q : P) → In (j, q) (taken c v k p n.log).held → at_one n.holder k (Some id) j ≡ Some id
+      take_own : (j : ℕ) (q : P) → In (j, q) (taken_out c v k p n.log).held → at_one n.holder k (Some id) j ≡ Some id
       take_own j q (inl e) = at_one_same n.holder k (Some id) j (pair_first j k q p e)
       take_own j q (inr h) =
           split_on j k (λ e. at_one_same n.holder k (Some id) j e)
           (λ ne. at_one_else n.holder k (Some id) j ne ∙ f.holds_own j q h)
 
-      take_named : (j : ℕ) (q : P) → In (j, q) (taken c v k p n.log).held → slice_get (state c opening n.log) j ≡ Some q
+      take_named : (j : ℕ) (q : P) → In (j, q) (taken_out c v k p n.log).held
+          → slice_get (state c opening n.log) j ≡ Some q
       take_named j q (inl e) =
           ap (slice_get (state c opening n.log)) (pair_first j k q p e)
           ∙ (value ∙ ap Some (sym (pair_second j k q p e)))
       take_named j q (inr h) = f.named j q h
 
-      take_first_alone : (a : A) → v.flight ≡ Some a → In (c.first a) (taken c v k p n.log).may
-          → (Holds (taken c v k p n.log) (c.first a) → ⊥) → k ≢ c.first a → ⊥
+      take_first_alone : (a : A) → v.flight ≡ Some a → In (c.first a) (taken_out c v k p n.log).may
+          → (Holds (taken_out c v k p n.log) (c.first a) → ⊥) → k ≢ c.first a → ⊥
       take_first_alone a e i nh ne =
           let old : In (c.first a) v.may =
           ⊎_elim (λ h. h)
@@ -119,8 +120,8 @@ module _ {P A R : Type 0} (c : Core P A R) (law : Lawful c) (opening : List P) w
           (may_cases (c.first a) i) in
           ne (only_one (c.first a) v.may k (f.first_alone a e pending old (λ h. nh (h.0, inr h.1))) may)
 
-      take_only_parts : (a : A) (q : P) → v.flight ≡ Some a → In (c.first a, q) (taken c v k p n.log).held → (j : ℕ)
-          → In j (taken c v k p n.log).may → (j ≡ c.first a) ⊎ (c.second q v.number a ≡ Some j)
+      take_only_parts : (a : A) (q : P) → v.flight ≡ Some a → In (c.first a, q) (taken_out c v k p n.log).held → (j : ℕ)
+          → In j (taken_out c v k p n.log).may → (j ≡ c.first a) ⊎ (c.second q v.number a ≡ Some j)
       take_only_parts a q e (inl d) j h =
           let kf : c.first a ≡ k = pair_first (c.first a) k q p d in
           let qp : q ≡ p = pair_second (c.first a) k q p d in
@@ -136,7 +137,7 @@ module _ {P A R : Type 0} (c : Core P A R) (law : Lawful c) (opening : List P) w
           absurd (let y : Some a ≡ Some t.0 = sym e ∙ t.1 in let z : a ≡ t.0 = cc in ne (t.2 ∙ sym (ap c.first z))))
           (may_cases j h)
 
-      take_fits : Fits c opening (renamed c opening n n.log (at_one n.holder k (Some id))) id (taken c v k p n.log)
+      take_fits : Fits c opening (renamed c opening n n.log (at_one n.holder k (Some id))) id (taken_out c v k p n.log)
       take_fits = record {
         same_opening = f.same_opening;
         seen_begins = prefix_refl n.log;
@@ -159,7 +160,7 @@ module _ {P A R : Type 0} (c : Core P A R) (law : Lawful c) (opening : List P) w
         counts_drawn = f.counts_drawn;
       }
 
-      take_owes : Owes c opening s n id v (set s.words k 1) (set s.homes k none) (taken c v k p n.log) n.log
+      take_owes : Owes c opening s n id v (set s.words k 1) (set s.homes k none) (taken_out c v k p n.log) n.log
           (at_one n.holder k (Some id))
       take_owes = record {
         alive = live;
@@ -269,7 +270,7 @@ module _ {P A R : Type 0} (c : Core P A R) (law : Lawful c) (opening : List P) w
         let p : P = found.0 in
         let value : slice_get (state c opening n.log) k ≡ Some p = found.1 in
         let home : get_elem? s.homes k ≡ some (some (Some p)) = (rule.free k r nobody).1 p value in
-        let w : View P A R = taken c v k p n.log in
+        let w : View P A R = taken_out c v k p n.log in
         let owes = take_owes s n id v rule at live k p may unheld_here nobody value in
         let kept =
         stays c opening s n id v (set s.words k 1) (set s.homes k none) w n.log (at_one n.holder k (Some id)) rule at

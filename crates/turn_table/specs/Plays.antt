@@ -10,7 +10,7 @@ use Rattle.histories.specs.Core.{Core}
 use Rattle.histories.specs.History.{IsPrefix, calls_of, state, Legal}
 use Rattle.turn_table.specs.declared.view.Joined.{Joined}
 use Rattle.turn_table.specs.declared.view.View.{View}
-use Rattle.turn_table.specs.Views.{In, HoldsState, Looks, looked, begun, taken, tried, AllOut, done, entry_by, given}
+use Rattle.turn_table.specs.Views.{In, HoldsState, Looks, looked, begun, taken_out, tried, AllOut, done, entry_by, given_back}
 
 module _ {P A R : Type 0} (c : Core P A R) where
   abbrev pub Sat : Type 0
@@ -37,7 +37,7 @@ module _ {P A R : Type 0} (c : Core P A R) where
 
   -- a turn word that was 0: the turn is taken with the part, which is the history's state's
   pub record TakesPart (m : Sat) (k : ℕ) (p : P) (m' : Sat) : Type 0 where
-    pub view : m'.0 ≡ taken c m.0 k p m'.0.seen
+    pub view : m'.0 ≡ taken_out c m.0 k p m'.0.seen
     pub slot : m'.1 ≡ (k, Some p) ∷ m.1
     pub looks : Looks c m.0 m'.0.seen
     pub value : slice_get (state c m.0.opening m'.0.seen) k ≡ Some p
@@ -72,4 +72,4 @@ module _ {P A R : Type 0} (c : Core P A R) where
 
   -- the turn is given with the part
   abbrev pub GivesTurn : Step (Option P) → Sat → ℕ → Sat → Type 0
-  GivesTurn st m found m' = (m'.0 ≡ given m.0 st.word) × (m'.1 ≡ rest m.1)
+  GivesTurn st m found m' = (m'.0 ≡ given_back m.0 st.word) × (m'.1 ≡ rest m.1)

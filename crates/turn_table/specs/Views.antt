@@ -88,8 +88,8 @@ module _ {P A R : Type 0} where
   second_by c k p (Some a) number = cond (k == c.first a) (option_to_list (c.second p number a)) []
 
   -- a part is taken, and its value is named. The first part's value gives the second part, if there is one
-  abbrev pub taken : Core P A R → View P A R → ℕ → P → List (Entry A R) → View P A R
-  taken c v k p seen =
+  abbrev pub taken_out : Core P A R → View P A R → ℕ → P → List (Entry A R) → View P A R
+  taken_out c v k p seen =
       record v { seen = seen; may = v.may ++ second_by c k p v.flight v.number; held = (k, p) ∷ v.held }
 
   -- the turn word of a part was found at 1
@@ -128,8 +128,8 @@ module _ {P A R : Type 0} where
       }
 
   -- a part is given back
-  abbrev pub given : View P A R → ℕ → View P A R
-  given v k = record v { may = without k v.may; held = let_go k v.held }
+  abbrev pub given_back : View P A R → ℕ → View P A R
+  given_back v k = record v { may = without k v.may; held = let_go k v.held }
 
   -- a pass was split from it
   abbrev pub divided : View P A R → View P A R
@@ -172,8 +172,8 @@ module _ {P A R : Type 0} where
   joined_with v w seen = looked (merged v w) seen
 
   -- what is left of a pass that was joined into another one
-  abbrev pub spent : View P A R
-  spent =
+  abbrev pub spent_view : View P A R
+  spent_view =
       record {
         live = false;
         number = 0;

@@ -120,9 +120,9 @@ impl<P, A, R> Split<View<P, A, R>> for Splitting {
 pub struct Joining;
 
 impl<P, A, R> Join<View<P, A, R>> for Joining {
-    ghost use Rattle.turn_table.specs.Views.{merged, spent};
+    ghost use Rattle.turn_table.specs.Views.{merged, spent_view};
 
     ghost both = { merged };
 
-    ghost spent = { spent };
+    ghost spent = { spent_view };
 }

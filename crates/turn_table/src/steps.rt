@@ -3,7 +3,7 @@
 ghost use Rattle.std.specs.Prelude.{◌≡◌, ◌==◌, ◌<◌, true, Some, None, [], ◌∷◌, map, length, MatchOption};
 ghost use Rattle.std.specs.declared.option.Option.{Option};
 ghost use Rattle.atomic_table.specs.Table.{rest};
-ghost use Rattle.turn_table.specs.Views.{In, Holds, AllOut, given, let_go};
+ghost use Rattle.turn_table.specs.Views.{In, Holds, AllOut, given_back, let_go};
 ghost use Rattle.turn_table.specs.Plays.{LooksOn, BeginsAct, FindsBusy, CommitsAct};
 ghost use Rattle.turn_table.specs.Passes.{IsAt, SameSeat, TookPart, Topped, out};
 
@@ -96,7 +96,7 @@ pub fn give<S: Served>(table: &Stand<S>, seat: &mut Token<S>, part: usize, value
     requires last { seat.old.me.1 ≡ (part, None) ∷ rest seat.old.me.1 }
     requires there { part < table.now.table_id.slots }
     ensures same { SameSeat seat.old seat.new }
-    ensures given { seat.new.me ≡ (given seat.old.me.0 part, rest seat.old.me.1) }
+    ensures given { seat.new.me ≡ (given_back seat.old.me.0 part, rest seat.old.me.1) }
 {
     let none = table.exchange(seat, part, Some(value));
     let None = none else { unreachable!() };

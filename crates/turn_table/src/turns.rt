@@ -4,7 +4,7 @@ ghost use Rattle.std.specs.Prelude.{◌≡◌, ◌≢◌, ℕ, ◌-◌, ◌^◌,
 ghost use Rattle.std.specs.declared.option.Option.{Option};
 ghost use Rattle.histories.specs.History.{IsPrefix, calls_of, state, Legal};
 ghost use Rattle.turn_table.specs.declared.view.Joined.{Joined};
-ghost use Rattle.turn_table.specs.Views.{In, Holds, HoldsState, Looks, Knows, looked, begun, taken, tried, AllOut, done, given, divided, split_from, joined_with, new_view};
+ghost use Rattle.turn_table.specs.Views.{In, Holds, HoldsState, Looks, Knows, looked, begun, taken_out, tried, AllOut, done, given_back, divided, split_from, joined_with, new_view};
 ghost use Rattle.turn_table.specs.Passes.{busy_more, with_busy, AllJoined, Committed};
 
 use crate::law::{Joining, Law, Opening, Slot, Splitting};
@@ -112,7 +112,7 @@ impl<S: Served> Turns<S> {
         requires not_held { Holds pass.old.view part → ⊥ }
         ensures here { pass.new.home ≡ pass.old.home }
         ensures busy { IfNone result (pass.new.view ≡ tried pass.old.view part) }
-        ensures taken { IfSome result (λ p. pass.new.view ≡ taken S.core pass.old.view part p pass.new.view.seen) }
+        ensures taken { IfSome result (λ p. pass.new.view ≡ taken_out S.core pass.old.view part p pass.new.view.seen) }
         ensures seen { OnSome result (Looks S.core pass.old.view pass.new.view.seen) }
         ensures value { IfSome result (λ p. slice_get (state S.core pass.old.view.opening pass.new.view.seen) part
             ≡ Some p) }
@@ -131,7 +131,7 @@ impl<S: Served> Turns<S> {
         requires not_held { Holds pass.old.view part → ⊥ }
         ensures here { pass.new.home ≡ pass.old.home }
         ensures taken { pass.new.view ≡ with_busy pass.new.view.busy
-            (taken S.core pass.old.view part result pass.new.view.seen) }
+            (taken_out S.core pass.old.view part result pass.new.view.seen) }
         ensures tries { (n : ℕ) × (pass.new.view.busy ≡ busy_more n part pass.old.view.busy) }
         ensures seen { Looks S.core pass.old.view pass.new.view.seen }
         ensures value { slice_get (state S.core pass.old.view.opening pass.new.view.seen) part ≡ Some result }
@@ -189,7 +189,7 @@ impl<S: Served> Turns<S> {
         requires here { pass.old.home ≡ self.now }
         requires named { In (part, value) pass.old.view.held }
         ensures here { pass.new.home ≡ pass.old.home }
-        ensures given { pass.new.view ≡ given pass.old.view part }
+        ensures given { pass.new.view ≡ given_back pass.old.view part }
     {
         let next = steps::bring::<S>(&mut pass.seat, pass.last, pass.before, part);
         pass.last = next;

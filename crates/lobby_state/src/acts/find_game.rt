@@ -1,14 +1,13 @@
 //! FindGame: a member asks where the game of a number is played.
-ghost use Rattle.std.specs.Prelude.{◌≡◌, IfSome};
+ghost use Rattle.std.specs.Prelude.{◌≡◌};
 ghost use Rattle.fics_words.specs.Effect.{Takes};
-ghost use Rattle.lobby_state.specs.Desks.{IsDesk};
 ghost use Rattle.lobby_state.specs.FindGame.{board_seat, find_game_effect, first_seat, hall_desk, has_board, seat_at};
 ghost use Rattle.lobby_state.specs.Lobby.{game_at};
 
 use crate::acts::LobbyReply;
 use crate::roster::Roster;
 use chess_model::Variant;
-use fics_words::{Fail, Refusal};
+use fics_words::{DeskNumber, Fail, Refusal};
 use simul_control::Place;
 
 impl Roster {
@@ -37,8 +36,7 @@ impl Roster {
     }
 
     /// The first seat of the game for which the desk is in use, where a board of it has that number.
-    fn seat_at(&self, number: u16, desk: u8) -> Option<Place>
-        requires { IsDesk desk }
+    fn seat_at(&self, number: u16, desk: DeskNumber) -> Option<Place>
         ensures { result ≡ seat_at number desk (game_at self.now desk) }
     {
         match self.game(desk) {
@@ -49,9 +47,8 @@ impl Roster {
 }
 
 /// The desk of the game of that number, if it is one of the hall.
-fn hall_desk(number: u16) -> Option<u8>
-    ensures desk { result ≡ hall_desk number }
-    ensures is_desk { IfSome result IsDesk }
+fn hall_desk(number: u16) -> Option<DeskNumber>
+    ensures { result ≡ hall_desk number }
 {
     let desk = (u32::from(number) + 1) / 2;
     if desk < 1 {
@@ -60,11 +57,11 @@ fn hall_desk(number: u16) -> Option<u8>
     if desk > 128 {
         return None;
     }
-    Some(desk as u8)
+    Some(DeskNumber::new(desk as u8))
 }
 
 /// The first seat of a game of that serial at the desk, where a board of it has that number.
-fn board_seat(number: u16, desk: u8, serial: u64, variant: Variant) -> Option<Place>
+fn board_seat(number: u16, desk: DeskNumber, serial: u64, variant: Variant) -> Option<Place>
     ensures { result ≡ board_seat number desk serial variant }
 {
     if !has_board(number, variant) {

@@ -1,7 +1,6 @@
 //! Games: a member asks which games there are.
 ghost use Rattle.std.specs.Prelude.{◌≡◌, ◌≤◌, ◌∷◌, ◌++◌, [], IfOk, OnOk, Some};
 ghost use Rattle.fics_words.specs.Effect.{Takes};
-ghost use Rattle.lobby_state.specs.Desks.{IsDesk};
 ghost use Rattle.lobby_state.specs.Games.{board_line, board_words, game_number, games_effect, games_lines, lines_at, second_line};
 
 use crate::acts::LobbyReply;
@@ -9,7 +8,7 @@ use crate::game::{DESKS, ListedGame};
 use crate::roster::Roster;
 use crate::terms::put_terms;
 use chess_model::Terms;
-use fics_words::{Fail, Lines, Opponents, Refusal, write_number};
+use fics_words::{DeskNumber, Fail, Lines, Opponents, Refusal, write_number};
 use memory::NoMemory;
 
 impl Roster {
@@ -32,7 +31,7 @@ impl Roster {
         let mut lines = Lines::new(self.alloc);
         let mut text = Vec::new(self.alloc);
         for slot in 0..DESKS {
-            let desk = slot as u8 + 1;
+            let desk = DeskNumber::new(slot as u8 + 1);
             put_desk(&mut lines, &mut text, desk, self.game(desk))?;
         }
         Ok(lines)
@@ -43,10 +42,9 @@ impl Roster {
 fn put_desk(
     lines: &mut Lines,
     text: &mut Vec<u8>,
-    desk: u8,
+    desk: DeskNumber,
     game: Option<ListedGame>,
 ) -> Result<(), NoMemory>
-    requires { IsDesk desk }
     ensures { OnOk result (lines.new ≡ lines.old ++ lines_at desk game) }
 {
     match game {
@@ -59,10 +57,9 @@ fn put_desk(
 fn put_game(
     lines: &mut Lines,
     text: &mut Vec<u8>,
-    desk: u8,
+    desk: DeskNumber,
     game: &ListedGame,
 ) -> Result<(), NoMemory>
-    requires { IsDesk desk }
     ensures { OnOk result (lines.new ≡ lines.old ++ lines_at desk (Some game.now)) }
 {
     put_board(
@@ -98,12 +95,11 @@ fn put_second(
 }
 
 /// The number of the game at that desk's first or second board.
-fn game_number(desk: u8, board: u16) -> u16
-    requires desk { IsDesk desk }
-    requires board { board ≤ 2 }
+fn game_number(desk: DeskNumber, board: u16) -> u16
+    requires { board ≤ 2 }
     ensures { result ≡ game_number desk board }
 {
-    2 * (u16::from(desk) - 1) + board
+    2 * (u16::from(desk.get()) - 1) + board
 }
 
 /// Appends the line of a board, `G W B M I V`: the game's number, who has White and who has Black, and the terms

@@ -2,7 +2,6 @@
 ghost use Rattle.std.specs.Prelude.{◌≡◌, ◌<◌, IfSome, false, length};
 ghost use Rattle.std.specs.List.{position};
 ghost use Rattle.fics_words.specs.Effect.{Takes};
-ghost use Rattle.lobby_state.specs.Desks.{IsDesk};
 ghost use Rattle.lobby_state.specs.GoBoard.{go_board_effect, is_against, opponent_seated, other_seat};
 
 use crate::acts::LobbyReply;
@@ -51,7 +50,6 @@ impl Roster {
 
     /// Whether the place is against the player of this session.
     fn is_against(&self, player: u32, place: &Place) -> bool
-        requires { IsDesk place.now.desk }
         ensures { result ≡ is_against self.now player place.now }
     {
         let Some(game) = self.game(place.desk) else {

@@ -8,7 +8,7 @@ use crate::desk_in_use::DeskInUse;
 use crate::game::DESKS;
 use crate::roster::Roster;
 use collections::Listed;
-use fics_words::Fail;
+use fics_words::{DeskNumber, Fail};
 use memory::NoMemory;
 
 impl Roster {
@@ -26,7 +26,7 @@ impl Roster {
     {
         let mut rows = Listed::new(self.alloc);
         for slot in 0..DESKS {
-            let desk = slot as u8 + 1;
+            let desk = DeskNumber::new(slot as u8 + 1);
             if let Some(game) = self.game(desk) {
                 rows.push(DeskInUse {
                     desk,

@@ -14,7 +14,7 @@ use crate::roster::Roster;
 use crate::start_plan::MOST_GAMES;
 use chess_model::Variant;
 use collections::Predicate;
-use fics_words::{Handle, HandleKey, Opponents, Player, Refusal, Seats};
+use fics_words::{DeskNumber, Handle, HandleKey, Opponents, Player, Refusal, Seats};
 use lobby_shelf::Shelved;
 
 impl Roster {
@@ -104,7 +104,7 @@ impl Roster {
             return Err(Refusal::NoDesk);
         }
         Ok(Plan::Resume {
-            desk: slot as u8 + 1,
+            desk: DeskNumber::new(slot as u8 + 1),
             serial: self.started + 1,
             number: row.number,
             terms,

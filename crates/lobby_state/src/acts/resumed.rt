@@ -5,7 +5,6 @@ ghost use Rattle.lobby_shelf.specs.Numbers.{is_used};
 ghost use Rattle.lobby_shelf.specs.Shelf.{most_stored, removal_order, taken_off};
 ghost use Rattle.tables.specs.Rows.{change_first};
 ghost use Rattle.lobby_state.specs.declared.reserve.Ready.TheVariants.{Resuming};
-ghost use Rattle.lobby_state.specs.Desks.{IsDesk};
 ghost use Rattle.lobby_state.specs.Lobby.{is_session};
 ghost use Rattle.lobby_state.specs.Plans.{put_away};
 ghost use Rattle.lobby_state.specs.Reserve.{HasRoomFor, asking_for, shelved_in, shelving_for};
@@ -16,11 +15,11 @@ use crate::inbox::Inbox;
 use crate::members::Members;
 use crate::reserve::Ready;
 use crate::roster::Roster;
+use fics_words::DeskNumber;
 
 impl Roster {
     /// The desk is free, nobody has a place there any more, and its game is on the shelf where it was adjourned.
-    pub(crate) fn put_away(&mut self, desk: u8, ready: Ready)
-        requires desk { IsDesk desk }
+    pub(crate) fn put_away(&mut self, desk: DeskNumber, ready: Ready)
         requires seats { All (HasSeats self.old.games) self.old.members }
         requires is { ready ≡ shelving_for self.old.shelf (shelved_in ready) }
         requires room { HasRoomFor self.old ready }

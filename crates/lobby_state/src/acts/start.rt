@@ -1,7 +1,6 @@
 //! Start: the plan of a game is carried out.
 ghost use Rattle.std.specs.Prelude.{◌≡◌, filter, map, not};
 ghost use Rattle.fics_words.specs.Seats.{seat_list, seat_number};
-ghost use Rattle.lobby_state.specs.Desks.{IsDesk};
 ghost use Rattle.lobby_state.specs.Planned.{ArePlayersApart};
 ghost use Rattle.lobby_state.specs.Start.{in_seat, is_seek_of_seated, is_settled, lobby_seated};
 
@@ -13,7 +12,7 @@ use crate::roster::Roster;
 use crate::seeks::ByUnseated;
 use chess_model::Terms;
 use collections::Change;
-use fics_words::Seats;
+use fics_words::{DeskNumber, Seats};
 use seek_match::{MatchBook, SeekBook};
 use simul_control::Place;
 use std::marker::Model;
@@ -21,20 +20,17 @@ use std::marker::Model;
 /// The start of a game at a desk of the hall: its players have their places.
 #[derive(Drop)]
 struct Sit {
-    desk: u8,
+    desk: DeskNumber,
     serial: u64,
     seats: Seats,
 }
 
 impl Model for Sit {
-    ghost use Rattle.lobby_state.specs.Desks.{IsDesk};
     ghost use Rattle.lobby_state.specs.Start.{Sitting};
 
     ghost Value = { Sitting };
 
     ghost view = { λ sit. record { desk = sit.desk; serial = sit.serial; seats = sit.seats } };
-
-    ghost invariant = { λ sit. IsDesk sit.desk };
 }
 
 impl Change<Member> for Sit {
@@ -56,9 +52,8 @@ impl Change<Member> for Sit {
 impl Roster {
     /// The game starts: the desk is in use, the players have their places, and their challenges go, but for a giver's
     /// with others, and their seeks and requests to resume. It takes no memory.
-    pub(crate) fn start(&mut self, desk: u8, serial: u64, terms: Terms, seats: &Seats)
-        requires desk { IsDesk desk }
-        requires apart { ArePlayersApart seats.now }
+    pub(crate) fn start(&mut self, desk: DeskNumber, serial: u64, terms: Terms, seats: &Seats)
+        requires { ArePlayersApart seats.now }
         ensures { self.new ≡ lobby_seated self.old desk serial terms seats.now }
     {
         drop_challenges(&mut self.challenges, &self.members, seats);
@@ -70,16 +65,15 @@ impl Roster {
             terms,
             seats: *seats,
         };
-        let slot = self.games.item_mut(desk as usize - 1);
+        let slot = self.games.item_mut(desk.get() as usize - 1);
         *slot = Some(game);
         self.started = serial;
     }
 }
 
 /// The players have their places.
-fn sit_down(members: &mut Members, desk: u8, serial: u64, seats: &Seats)
-    requires desk { IsDesk desk }
-    requires apart { ArePlayersApart seats.now }
+fn sit_down(members: &mut Members, desk: DeskNumber, serial: u64, seats: &Seats)
+    requires { ArePlayersApart seats.now }
     ensures { members.new
         ≡ map (λ member. in_seat desk serial (seat_number member.session (seat_list seats.now)) member) members.old }
 {
@@ -102,7 +96,13 @@ fn drop_challenges(challenges: &mut MatchBook, members: &Members, seats: &Seats)
         members,
         seats: *seats,
     };
-    challenges.keep(&stays);
+    challenges.keep_of(seats.first.white.session, &stays);
+    challenges.keep_of(seats.first.black.session, &stays);
+    let Some(second) = &seats.second else {
+        return;
+    };
+    challenges.keep_of(second.white.session, &stays);
+    challenges.keep_of(second.black.session, &stays);
 }
 
 /// The seeks of the players go.

@@ -6,23 +6,12 @@ use crate::acts::LobbyReply;
 use crate::member::Member;
 use crate::roster::Roster;
 use collections::Change;
-use fics_words::{Fail, Refusal};
-
-/// A variable of a member, by FICS's names.
-#[derive(Clone, Copy)]
-pub enum Var {
-    /// Whether the member can be challenged.
-    Open,
-    /// Whether the member hears what others shout.
-    Shout,
-    /// Whether the member hears of seeks.
-    Seek,
-}
+use fics_words::{Fail, Refusal, Variable};
 
 /// The setting of a variable.
 #[derive(Clone, Copy)]
 struct Setting {
-    which: Var,
+    which: Variable,
     on: bool,
 }
 
@@ -31,9 +20,9 @@ impl Change<Member> for Setting {
 
     fn change(&self, member: &mut Member) {
         match self.which {
-            Var::Open => member.wants.matches = self.on,
-            Var::Shout => member.wants.shouts = self.on,
-            Var::Seek => member.wants.seeks = self.on,
+            Variable::Open => member.wants.matches = self.on,
+            Variable::Shout => member.wants.shouts = self.on,
+            Variable::Seek => member.wants.seeks = self.on,
         }
     }
 }
@@ -41,7 +30,12 @@ impl Change<Member> for Setting {
 impl Roster {
     /// The member's variable is on or off from now on. It takes no memory, and is refused where the session isn't a
     /// member.
-    pub(crate) fn set_var(&mut self, session: u32, which: Var, on: bool) -> Result<LobbyReply, Fail>
+    pub(crate) fn set_var(
+        &mut self,
+        session: u32,
+        which: Variable,
+        on: bool,
+    ) -> Result<LobbyReply, Fail>
         ensures { Takes (var_effect self.old session which on) self.old self.new result }
     {
         if self.member(session).is_none() {

@@ -2,7 +2,6 @@
 
 use crate::text::games::{line_of, played, untimed};
 use chess_model::Variant;
-use std::alloc::Global;
 use std::test::Fail;
 use style12_writer::{BoardView, Viewer};
 use test_steps::assert_rows;
@@ -119,9 +118,9 @@ fn view_of(
     Ok(timed(view, times))
 }
 
-fn is_shown(alloc: Global, row: &Row) -> Result<bool, Fail> {
+fn is_shown(row: &Row) -> Result<bool, Fail> {
     let view = view_of(row.0, row.1, row.2, row.3)?;
-    Ok(line_of(alloc, &view, row.4)?.bytes() == row.5.as_bytes())
+    Ok(line_of(&view, row.4).bytes() == row.5.as_bytes())
 }
 
 const PLAYERS: [&str; 2] = ["White", "Black"];
@@ -130,7 +129,7 @@ const PLAYERS: [&str; 2] = ["White", "Black"];
 fn shows_chess(rt: HostRuntime) -> Result<(), Fail> {
     for (words, text) in CHESS {
         let row = Row(Variant::Chess, words, PLAYERS, UNTIMED, OBSERVER, text);
-        assert!(rt; is_shown(rt.alloc(), &row)?, "{words}");
+        assert!(rt; is_shown(&row)?, "{words}");
     }
     Ok(())
 }
@@ -147,7 +146,7 @@ const DROP: &[Row] = &[Row(
 
 #[test]
 fn shows_a_drop(rt: HostRuntime) -> Result<(), Fail> {
-    assert_rows!(rt; DROP, |row| is_shown(rt.alloc(), row)?);
+    assert_rows!(rt; DROP, |row| is_shown(row)?);
     Ok(())
 }
 
@@ -172,7 +171,7 @@ const MARKS: &[Row] = &[
 
 #[test]
 fn shows_marks(rt: HostRuntime) -> Result<(), Fail> {
-    assert_rows!(rt; MARKS, |row| is_shown(rt.alloc(), row)?);
+    assert_rows!(rt; MARKS, |row| is_shown(row)?);
     Ok(())
 }
 
@@ -213,7 +212,7 @@ const VIEWERS: &[Row] = &[
 
 #[test]
 fn shows_viewers(rt: HostRuntime) -> Result<(), Fail> {
-    assert_rows!(rt; VIEWERS, |row| is_shown(rt.alloc(), row)?);
+    assert_rows!(rt; VIEWERS, |row| is_shown(row)?);
     Ok(())
 }
 
@@ -238,6 +237,6 @@ const CLOCKS: &[Row] = &[
 
 #[test]
 fn shows_clocks(rt: HostRuntime) -> Result<(), Fail> {
-    assert_rows!(rt; CLOCKS, |row| is_shown(rt.alloc(), row)?);
+    assert_rows!(rt; CLOCKS, |row| is_shown(row)?);
     Ok(())
 }

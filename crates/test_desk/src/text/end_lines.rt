@@ -2,10 +2,8 @@
 
 use crate::text::games::{played, untimed};
 use chess_model::{Colour, Variant, Why};
-use fics_words::Line;
-use std::alloc::Global;
 use std::test::Fail;
-use style12_writer::{BoardView, end_line, is_decisive};
+use style12_writer::{BoardView, Draft, end_line, is_decisive};
 
 const WHITE: Option<Colour> = Some(Colour::White);
 
@@ -115,29 +113,22 @@ const OTHER: &[(Why, Option<Colour>, &str)] = &[
 ];
 
 /// The line of an end, if a winner is given exactly where somebody won.
-fn ended(
-    alloc: Global,
-    board: &BoardView,
-    why: Why,
-    winner: Option<Colour>,
-    own: bool,
-) -> Result<Line, Fail> {
+fn ended(board: &BoardView, why: Why, winner: Option<Colour>, own: bool) -> Result<Draft, Fail> {
     if winner.is_some() != is_decisive(why) {
         return Err("a winner without a win, or a win without a winner".into());
     }
-    Ok(end_line(alloc, board, why, winner, own)?)
+    Ok(end_line(board, why, winner, own))
 }
 
 /// Whether an end is told by that line.
 fn is_told(
-    alloc: Global,
     board: &BoardView,
     why: Why,
     winner: Option<Colour>,
     own: bool,
     text: &str,
 ) -> Result<bool, Fail> {
-    Ok(ended(alloc, board, why, winner, own)?.bytes() == text.as_bytes())
+    Ok(ended(board, why, winner, own)?.bytes() == text.as_bytes())
 }
 
 #[test]
@@ -145,10 +136,7 @@ fn tells_why(rt: HostRuntime) -> Result<(), Fail> {
     let game = played(Variant::Chess, "").ok_or("a game")?;
     let board = untimed(game.face(), "Alice", "Bob").ok_or("names")?;
     for (why, winner, text) in OWN {
-        assert!(rt;
-            is_told(rt.alloc(), &board, *why, *winner, true, text)?,
-            "{text}"
-        );
+        assert!(rt; is_told(&board, *why, *winner, true, text)?, "{text}");
     }
     Ok(())
 }
@@ -159,10 +147,7 @@ fn tells_the_partners(rt: HostRuntime) -> Result<(), Fail> {
     let mut board = untimed(game.face(), "Cat", "Dan").ok_or("names")?;
     board.game = 2;
     for (why, winner, text) in OTHER {
-        assert!(rt;
-            is_told(rt.alloc(), &board, *why, *winner, false, text)?,
-            "{text}"
-        );
+        assert!(rt; is_told(&board, *why, *winner, false, text)?, "{text}");
     }
     Ok(())
 }
@@ -174,6 +159,6 @@ fn tells_the_longest(rt: HostRuntime) -> Result<(), Fail> {
     board.game = 65_535;
     let text =
         "{Game 65535 (Abcdefghijklmnopq vs. Qponmlkjihgfedcba) Abcdefghijklmnopq forfeits by disconnection} 0-1";
-    assert!(rt; is_told(rt.alloc(), &board, Why::Left, BLACK, true, text)?);
+    assert!(rt; is_told(&board, Why::Left, BLACK, true, text)?);
     Ok(())
 }

@@ -1,11 +1,9 @@
 //! Games that the tests play, and what is shown of them.
 
 use chess_model::{Face, Kind, Move, Shown, Square, Variant};
-use fics_words::{Handle, Line};
+use fics_words::Handle;
 use game_board::face;
-use memory::NoMemory;
-use std::alloc::Global;
-use style12_writer::{BoardView, Viewer, line12};
+use style12_writer::{BoardView, Draft, Viewer, line12};
 use variant_rules::Position;
 
 /// The position after some half-moves, how many there were, and how the last one is shown.
@@ -89,8 +87,8 @@ pub fn square(file: u8, rank: u8) -> Option<Square> {
 }
 
 /// The line of a board, of which the tests know no more than what they read in it.
-pub fn line_of(alloc: Global, view: &BoardView, who: Viewer) -> Result<Line, NoMemory> {
-    line12(alloc, view, who)
+pub fn line_of(view: &BoardView, who: Viewer) -> Draft {
+    line12(view, who)
 }
 
 /// A board of an untimed game 1 of these players.

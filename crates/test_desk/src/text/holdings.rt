@@ -1,11 +1,9 @@
 //! Holdings lines.
 
 use chess_model::Kind;
-use fics_words::Line;
 use holdings_drops::Holdings;
-use std::alloc::Global;
 use std::test::Fail;
-use style12_writer::line_b1;
+use style12_writer::{Draft, line_b1};
 
 /// Lines: the game, the men of White and of Black in any order, the man that has come, and what is written.
 const LINES: &[(u16, &str, &str, Option<Kind>, &str)] = &[
@@ -87,22 +85,16 @@ fn kind_of(letter: u8) -> Option<Kind> {
 }
 
 /// The line of hands that are written by letters.
-fn line_of(
-    alloc: Global,
-    game: u16,
-    white: &str,
-    black: &str,
-    came: Option<Kind>,
-) -> Result<Line, Fail> {
+fn line_of(game: u16, white: &str, black: &str, came: Option<Kind>) -> Result<Draft, Fail> {
     let white = hand(white).ok_or("White's hand")?;
     let black = hand(black).ok_or("Black's hand")?;
-    Ok(line_b1(alloc, game, &white, &black, came)?)
+    Ok(line_b1(game, &white, &black, came))
 }
 
 #[test]
 fn writes_hands(rt: HostRuntime) -> Result<(), Fail> {
     for (game, white, black, came, text) in LINES {
-        let line = line_of(rt.alloc(), *game, white, black, *came)?;
+        let line = line_of(*game, white, black, *came)?;
         assert!(rt; line.bytes() == text.as_bytes(), "{text}");
     }
     Ok(())

@@ -2,7 +2,6 @@
 
 use crate::text::games::{line_of, played, untimed};
 use chess_model::Variant;
-use std::alloc::Global;
 use std::test::Fail;
 use style12_writer::{BoardView, Viewer};
 
@@ -42,15 +41,11 @@ const OBSERVER: Viewer = Viewer {
 };
 
 /// Whether a board is shown by the line of these two pieces.
-fn is_shown(
-    alloc: Global,
-    view: &BoardView,
-    viewer: Viewer,
-    before: &str,
-    end: &str,
-) -> Result<bool, Fail> {
-    let line = line_of(alloc, view, viewer)?;
-    Ok(line.bytes().strip_prefix(before.as_bytes()) == Some(end.as_bytes()))
+fn is_shown(view: &BoardView, viewer: Viewer, before: &str, end: &str) -> bool {
+    line_of(view, viewer)
+        .bytes()
+        .strip_prefix(before.as_bytes())
+        == Some(end.as_bytes())
 }
 
 #[test]
@@ -60,10 +55,7 @@ fn shows_times(rt: HostRuntime) -> Result<(), Fail> {
     for (remaining, taken, end) in TIMES {
         view.remaining = *remaining;
         view.taken = *taken;
-        assert!(rt;
-            is_shown(rt.alloc(), &view, OBSERVER, BEFORE, end)?,
-            "{end}"
-        );
+        assert!(rt; is_shown(&view, OBSERVER, BEFORE, end), "{end}");
     }
     Ok(())
 }
@@ -94,10 +86,7 @@ fn shows_the_greatest_numbers(rt: HostRuntime) -> Result<(), Fail> {
             relation: *relation,
             flip: true,
         };
-        assert!(rt;
-            is_shown(rt.alloc(), &view, viewer, "", text)?,
-            "{relation}"
-        );
+        assert!(rt; is_shown(&view, viewer, "", text), "{relation}");
     }
     Ok(())
 }

@@ -4,34 +4,76 @@ use crate::guests::model::{Challenge, Listing, MOST_CHANNELS, MOST_SEEKS, Model,
 use crate::guests::names::name_of;
 use crate::guests::orders::{GUESTS, Names, Order, Wish, terms_of};
 use memory::NoMemory;
-use std::alloc::Global;
+use std::alloc::{AllocError, Global};
+use std::mem;
 
 /// The lines of an answer.
 pub type Lines = Vec<String>;
 
+/// What a guest is answered.
+#[derive(Clone, Copy)]
+enum Answer {
+    Nothing,
+    /// This line.
+    Says(&'static str),
+    /// That so many were told.
+    Told(usize),
+    /// The number of the guest's seek.
+    SeekIs(u64),
+    /// The seeks that stand.
+    Seeks,
+    /// The names of all guests, in the order of the alphabet.
+    Names,
+    /// The names of those in a channel.
+    Channel(u64),
+    /// The guest's challenges.
+    Challenges,
+}
+
+use Answer::Says;
+
+/// What another is sent of a guest.
+#[derive(Clone, Copy)]
+enum News {
+    /// A seek of this number and these terms.
+    Seeks(u64, usize),
+    Tells(u64),
+    /// A text in a channel.
+    TellsChannel(u64, u64),
+    Shouts(u64),
+    Challenges(usize),
+    Declines,
+    IsPartner,
+    OffersPartner,
+    Parts,
+    TellsPartner(u64),
+}
+
 /// Carries out what the guest typed.
 pub fn answered(model: &mut Model, guest: usize, order: Order) -> Result<Lines, NoMemory> {
+    let answer = answer_to(model, guest, order)?;
+    lines_of(model, guest, answer)
+}
+
+fn answer_to(model: &mut Model, guest: usize, order: Order) -> Result<Answer, NoMemory> {
     match order {
-        Order::Nothing => Ok(Vec::new(model.alloc)),
+        Order::Nothing => Ok(Answer::Nothing),
         Order::Seek(terms) => seek(model, guest, terms),
         Order::Unseek(number) => unseek(model, guest, number),
-        Order::Sought => sought(model),
-        Order::Who => who(model.alloc),
-        Order::Games => said(model.alloc, "none"),
+        Order::Sought => Ok(Answer::Seeks),
+        Order::Who => Ok(Answer::Names),
+        Order::Games => Ok(Says("none")),
         Order::Tell(other, text) => tell(model, guest, other, text),
         Order::TellChannel(channel, text) => tell_channel(model, guest, channel, text),
         Order::Shout(text) => shout(model, guest, text),
         Order::Join(channel) => join(model, guest, channel),
         Order::Leave(channel) => leave(model, guest, channel),
-        Order::InChannel(channel) => in_channel(model, channel),
+        Order::InChannel(channel) => Ok(Answer::Channel(channel)),
         Order::Match(other, terms) => challenge(model, guest, other, terms),
         Order::Decline(other) => decline(model, guest, other),
         Order::Withdraw(other) => withdraw(model, guest, other),
-        Order::Pending => pending(model, guest),
-        Order::Set(wish, on) => {
-            model.set(guest, wish, on)?;
-            said(model.alloc, "Ok.")
-        }
+        Order::Pending => Ok(Answer::Challenges),
+        Order::Set(wish, on) => set(model, guest, wish, on),
         Order::Put(names, name) => put(model, guest, names, name),
         Order::Take(names, name) => take(model, guest, names, name),
         Order::Partner(Some(other)) => ask(model, guest, other),
@@ -40,97 +82,207 @@ pub fn answered(model: &mut Model, guest: usize, order: Order) -> Result<Lines, 
     }
 }
 
-/// An answer of one line.
-fn said(alloc: Global, line: &str) -> Result<Lines, NoMemory> {
-    let mut lines = Vec::new(alloc);
-    lines.push(String::from_str(alloc, line)?)?;
+/// The lines of an answer, or that there are none where it is a list.
+fn lines_of(model: &Model, guest: usize, answer: Answer) -> Result<Lines, NoMemory> {
+    let mut lines = Vec::new(model.alloc);
+    put_answer(model, guest, answer, &mut lines)?;
     Ok(lines)
 }
 
-fn seek(model: &mut Model, guest: usize, terms: usize) -> Result<Lines, NoMemory> {
-    if model.count_seeks(guest) >= MOST_SEEKS {
-        return said(model.alloc, "refused 31 SeekFull");
+fn put_answer(
+    model: &Model,
+    guest: usize,
+    answer: Answer,
+    lines: &mut Lines,
+) -> Result<(), NoMemory> {
+    let alloc = model.alloc;
+    match answer {
+        Answer::Nothing => return Ok(()),
+        Says(line) => put_line(lines, String::from_str(alloc, line))?,
+        Answer::Told(count) => put_line(lines, format!(in alloc; "(told {count})"))?,
+        Answer::SeekIs(number) => put_line(lines, format!(in alloc; "Your seek is {number}."))?,
+        Answer::Seeks => put_seeks(model, lines)?,
+        Answer::Names => put_names(alloc, lines)?,
+        Answer::Channel(channel) => put_channel(model, channel, lines)?,
+        Answer::Challenges => put_challenges(model, guest, lines)?,
     }
-    let number = model.free_number();
-    let mut seeks = Vec::new(model.alloc);
+    if lines.is_empty() {
+        put_line(lines, String::from_str(alloc, "none"))?;
+    }
+    Ok(())
+}
+
+/// Puts a line behind others, where there was memory for it.
+fn put_line(lines: &mut Lines, line: Result<String, AllocError>) -> Result<(), NoMemory> {
+    lines.push(line?)?;
+    Ok(())
+}
+
+fn put_seeks(model: &Model, lines: &mut Lines) -> Result<(), NoMemory> {
     for seek in &model.seeks {
-        if seek.number < number {
+        let name = name_of(model.alloc, seek.by)?;
+        put_seek(model.alloc, name.as_str(), seek, lines)?;
+    }
+    Ok(())
+}
+
+fn put_seek(alloc: Global, name: &str, seek: &Seek, lines: &mut Lines) -> Result<(), NoMemory> {
+    let number = seek.number;
+    let terms = terms_of(seek.terms);
+    put_line(lines, format!(in alloc; "{number} {name} {terms}"))
+}
+
+fn put_name(alloc: Global, guest: usize, lines: &mut Lines) -> Result<(), NoMemory> {
+    let name = name_of(alloc, guest)?;
+    lines.push(name)?;
+    Ok(())
+}
+
+fn put_names(alloc: Global, lines: &mut Lines) -> Result<(), NoMemory> {
+    for guest in 0..GUESTS {
+        put_name(alloc, guest, lines)?;
+    }
+    Ok(())
+}
+
+fn put_channel(model: &Model, channel: u64, lines: &mut Lines) -> Result<(), NoMemory> {
+    for guest in 0..GUESTS {
+        if model.is_in(guest, channel) {
+            put_name(model.alloc, guest, lines)?;
+        }
+    }
+    Ok(())
+}
+
+/// Puts the challenges to the guest, and then those by the guest.
+fn put_challenges(model: &Model, guest: usize, lines: &mut Lines) -> Result<(), NoMemory> {
+    for challenge in &model.challenges {
+        if challenge.to == guest {
+            put_challenge(model.alloc, "from", challenge.from, challenge.terms, lines)?;
+        }
+    }
+    for challenge in &model.challenges {
+        if challenge.from == guest {
+            put_challenge(model.alloc, "to", challenge.to, challenge.terms, lines)?;
+        }
+    }
+    Ok(())
+}
+
+fn put_challenge(
+    alloc: Global,
+    word: &str,
+    other: usize,
+    terms: usize,
+    lines: &mut Lines,
+) -> Result<(), NoMemory> {
+    let name = name_of(alloc, other)?;
+    let terms = terms_of(terms);
+    put_line(lines, format!(in alloc; "{word} {name} {terms}"))
+}
+
+/// The other is sent a line about the guest.
+fn send(model: &mut Model, other: usize, guest: usize, news: News) -> Result<(), NoMemory> {
+    let line = line_of(model.alloc, guest, news)?;
+    model.send(other, line)
+}
+
+fn line_of(alloc: Global, guest: usize, news: News) -> Result<String, NoMemory> {
+    let name = name_of(alloc, guest)?;
+    match told(alloc, name.as_str(), news) {
+        Ok(line) => Ok(line),
+        Err(AllocError) => Err(NoMemory),
+    }
+}
+
+fn told(alloc: Global, name: &str, news: News) -> Result<String, AllocError> {
+    match news {
+        News::Seeks(number, terms) => seeking(alloc, name, number, terms),
+        News::Tells(text) => format!(in alloc; "{name} tells you: text {text}"),
+        News::TellsChannel(channel, text) => format!(in alloc; "{name}({channel}): text {text}"),
+        News::Shouts(text) => format!(in alloc; "{name} shouts: text {text}"),
+        News::Challenges(terms) => challenging(alloc, name, terms),
+        News::Declines => format!(in alloc; "{name} declines your challenge."),
+        News::IsPartner => format!(in alloc; "You are now the partner of {name}."),
+        News::OffersPartner => format!(in alloc; "{name} offers to be your partner."),
+        News::Parts => format!(in alloc; "{name} is no longer your partner."),
+        News::TellsPartner(text) => {
+            format!(in alloc; "{name} (your partner) tells you: text {text}")
+        }
+    }
+}
+
+fn seeking(alloc: Global, name: &str, number: u64, terms: usize) -> Result<String, AllocError> {
+    let terms = terms_of(terms);
+    format!(in alloc; "{name} seeking {terms} (\"play {number}\" to respond)")
+}
+
+fn challenging(alloc: Global, name: &str, terms: usize) -> Result<String, AllocError> {
+    let terms = terms_of(terms);
+    format!(in alloc; "Challenge: {name} {terms}")
+}
+
+/// Copies seeks, and puts a new one in the order of the numbers.
+fn put_in_order(seeks: &mut Vec<Seek>, others: &[Seek], new: Seek) -> Result<(), NoMemory> {
+    for seek in others {
+        if seek.number < new.number {
             seeks.push(*seek)?;
         }
     }
-    seeks.push(Seek {
+    seeks.push(new)?;
+    for seek in others {
+        if seek.number > new.number {
+            seeks.push(*seek)?;
+        }
+    }
+    Ok(())
+}
+
+fn add_seek(model: &mut Model, new: Seek) -> Result<(), NoMemory> {
+    let mut seeks = Vec::new(model.alloc);
+    put_in_order(&mut seeks, &model.seeks, new)?;
+    drop(mem::replace(&mut model.seeks, seeks));
+    Ok(())
+}
+
+fn seek(model: &mut Model, guest: usize, terms: usize) -> Result<Answer, NoMemory> {
+    if model.count_seeks(guest) >= MOST_SEEKS {
+        return Ok(Says("refused 31 SeekFull"));
+    }
+    let number = model.free_number();
+    let new = Seek {
         number,
         by: guest,
         terms,
-    })?;
-    for seek in &model.seeks {
-        if seek.number > number {
-            seeks.push(*seek)?;
-        }
-    }
-    model.seeks = seeks;
+    };
+    add_seek(model, new)?;
     for other in 0..GUESTS {
         if other != guest && model.wants(other, Wish::Seek) {
-            let name = name_of(model.alloc, guest)?;
-            let terms = terms_of(terms);
-            let line = format!(in model.alloc;
-                "{name} seeking {terms} (\"play {number}\" to respond)"
-            )?;
-            model.send(other, line)?;
+            send(model, other, guest, News::Seeks(number, terms))?;
         }
     }
-    let line = format!(in model.alloc; "Your seek is {number}.")?;
-    said(model.alloc, line.as_str())
+    Ok(Answer::SeekIs(number))
 }
 
-fn unseek(model: &mut Model, guest: usize, number: Option<u64>) -> Result<Lines, NoMemory> {
+fn unseek(model: &mut Model, guest: usize, number: Option<u64>) -> Result<Answer, NoMemory> {
     if model.drop_seeks(guest, number)? {
-        return said(model.alloc, "Ok.");
+        return Ok(Says("Ok."));
     }
-    said(model.alloc, "refused 30 NoSuchSeek")
+    Ok(Says("refused 30 NoSuchSeek"))
 }
 
-fn sought(model: &Model) -> Result<Lines, NoMemory> {
-    let mut lines = Vec::new(model.alloc);
-    for seek in &model.seeks {
-        let name = name_of(model.alloc, seek.by)?;
-        let number = seek.number;
-        let terms = terms_of(seek.terms);
-        lines.push(format!(in model.alloc; "{number} {name} {terms}")?)?;
-    }
-    or_none(model.alloc, lines)
-}
-
-fn or_none(alloc: Global, lines: Lines) -> Result<Lines, NoMemory> {
-    if lines.is_empty() {
-        return said(alloc, "none");
-    }
-    Ok(lines)
-}
-
-/// The names of all guests, in the order of the alphabet.
-fn who(alloc: Global) -> Result<Lines, NoMemory> {
-    let mut lines = Vec::new(alloc);
-    for guest in 0..GUESTS {
-        lines.push(name_of(alloc, guest)?)?;
-    }
-    Ok(lines)
-}
-
-fn tell(model: &mut Model, guest: usize, other: usize, text: u64) -> Result<Lines, NoMemory> {
+fn tell(model: &mut Model, guest: usize, other: usize, text: u64) -> Result<Answer, NoMemory> {
     if other >= GUESTS {
-        return said(model.alloc, "refused 32 NoSuchPlayer");
+        return Ok(Says("refused 32 NoSuchPlayer"));
     }
     if model.lists(other, Names::Censor, guest) {
-        return said(model.alloc, "refused 36 Refuses");
+        return Ok(Says("refused 36 Refuses"));
     }
     if model.is_full(other) {
-        return said(model.alloc, "refused 49 QueueFull");
+        return Ok(Says("refused 49 QueueFull"));
     }
-    let name = name_of(model.alloc, guest)?;
-    let line = format!(in model.alloc; "{name} tells you: text {text}")?;
-    model.send(other, line)?;
-    said(model.alloc, "(told 1)")
+    send(model, other, guest, News::Tells(text))?;
+    Ok(Says("(told 1)"))
 }
 
 fn tell_channel(
@@ -138,66 +290,48 @@ fn tell_channel(
     guest: usize,
     channel: u64,
     text: u64,
-) -> Result<Lines, NoMemory> {
+) -> Result<Answer, NoMemory> {
     if !model.is_in(guest, channel) {
-        return said(model.alloc, "refused 39 NotInChannel");
+        return Ok(Says("refused 39 NotInChannel"));
     }
-    let mut heard = Vec::new(model.alloc);
+    let mut heard = 0usize;
     for other in 0..GUESTS {
         if other != guest && model.is_in(other, channel) && !model.is_full(other) {
-            let name = name_of(model.alloc, guest)?;
-            let line = format!(in model.alloc; "{name}({channel}): text {text}")?;
-            model.send(other, line)?;
-            heard.push(other)?;
+            send(model, other, guest, News::TellsChannel(channel, text))?;
+            heard = heard.saturating_add(1);
         }
     }
-    let count = heard.len();
-    let line = format!(in model.alloc; "(told {count})")?;
-    said(model.alloc, line.as_str())
+    Ok(Answer::Told(heard))
 }
 
-fn shout(model: &mut Model, guest: usize, text: u64) -> Result<Lines, NoMemory> {
-    let mut heard = Vec::new(model.alloc);
+fn shout(model: &mut Model, guest: usize, text: u64) -> Result<Answer, NoMemory> {
+    let mut heard = 0usize;
     for other in 0..GUESTS {
         if other != guest && model.wants(other, Wish::Shout) && !model.is_full(other) {
-            let name = name_of(model.alloc, guest)?;
-            let line = format!(in model.alloc; "{name} shouts: text {text}")?;
-            model.send(other, line)?;
-            heard.push(other)?;
+            send(model, other, guest, News::Shouts(text))?;
+            heard = heard.saturating_add(1);
         }
     }
-    let count = heard.len();
-    let line = format!(in model.alloc; "(told {count})")?;
-    said(model.alloc, line.as_str())
+    Ok(Answer::Told(heard))
 }
 
-fn join(model: &mut Model, guest: usize, channel: u64) -> Result<Lines, NoMemory> {
+fn join(model: &mut Model, guest: usize, channel: u64) -> Result<Answer, NoMemory> {
     if model.is_in(guest, channel) {
-        return said(model.alloc, "refused 51 OnList");
+        return Ok(Says("refused 51 OnList"));
     }
     if model.count_channels(guest) >= MOST_CHANNELS {
-        return said(model.alloc, "refused 40 ListFull");
+        return Ok(Says("refused 40 ListFull"));
     }
     model.channels.push((guest, channel))?;
-    said(model.alloc, "Ok.")
+    Ok(Says("Ok."))
 }
 
-fn leave(model: &mut Model, guest: usize, channel: u64) -> Result<Lines, NoMemory> {
+fn leave(model: &mut Model, guest: usize, channel: u64) -> Result<Answer, NoMemory> {
     if !model.is_in(guest, channel) {
-        return said(model.alloc, "refused 39 NotInChannel");
+        return Ok(Says("refused 39 NotInChannel"));
     }
     model.drop_channel(guest, channel)?;
-    said(model.alloc, "Ok.")
-}
-
-fn in_channel(model: &Model, channel: u64) -> Result<Lines, NoMemory> {
-    let mut lines = Vec::new(model.alloc);
-    for guest in 0..GUESTS {
-        if model.is_in(guest, channel) {
-            lines.push(name_of(model.alloc, guest)?)?;
-        }
-    }
-    or_none(model.alloc, lines)
+    Ok(Says("Ok."))
 }
 
 /// Whether the other keeps the guest out of its games.
@@ -210,18 +344,18 @@ fn challenge(
     guest: usize,
     other: usize,
     terms: usize,
-) -> Result<Lines, NoMemory> {
+) -> Result<Answer, NoMemory> {
     if other >= GUESTS {
-        return said(model.alloc, "refused 32 NoSuchPlayer");
+        return Ok(Says("refused 32 NoSuchPlayer"));
     }
     if other == guest {
-        return said(model.alloc, "refused 50 BadOpponent");
+        return Ok(Says("refused 50 BadOpponent"));
     }
     if !model.wants(other, Wish::Open) || avoids(model, other, guest) {
-        return said(model.alloc, "refused 36 Refuses");
+        return Ok(Says("refused 36 Refuses"));
     }
     if model.is_full(other) {
-        return said(model.alloc, "refused 49 QueueFull");
+        return Ok(Says("refused 49 QueueFull"));
     }
     model.drop_challenge(guest, other)?;
     model.challenges.push(Challenge {
@@ -229,121 +363,100 @@ fn challenge(
         to: other,
         terms,
     })?;
-    let name = name_of(model.alloc, guest)?;
-    let terms = terms_of(terms);
-    let line = format!(in model.alloc; "Challenge: {name} {terms}")?;
-    model.send(other, line)?;
-    said(model.alloc, "Ok.")
+    send(model, other, guest, News::Challenges(terms))?;
+    Ok(Says("Ok."))
 }
 
-fn decline(model: &mut Model, guest: usize, other: Option<usize>) -> Result<Lines, NoMemory> {
+fn decline(model: &mut Model, guest: usize, other: Option<usize>) -> Result<Answer, NoMemory> {
     let Some(offer) = model.offer_to(guest, other) else {
-        return said(model.alloc, "refused 34 NoChallenge");
+        return Ok(Says("refused 34 NoChallenge"));
     };
     model.drop_challenge(offer.from, guest)?;
-    let name = name_of(model.alloc, guest)?;
-    let line = format!(in model.alloc; "{name} declines your challenge.")?;
-    model.send(offer.from, line)?;
-    said(model.alloc, "Ok.")
+    send(model, offer.from, guest, News::Declines)?;
+    Ok(Says("Ok."))
 }
 
-fn withdraw(model: &mut Model, guest: usize, other: Option<usize>) -> Result<Lines, NoMemory> {
+fn withdraw(model: &mut Model, guest: usize, other: Option<usize>) -> Result<Answer, NoMemory> {
     let Some(offer) = model.offer_by(guest, other) else {
-        return said(model.alloc, "refused 34 NoChallenge");
+        return Ok(Says("refused 34 NoChallenge"));
     };
     model.drop_challenge(guest, offer.to)?;
-    said(model.alloc, "Ok.")
+    Ok(Says("Ok."))
 }
 
-fn pending(model: &Model, guest: usize) -> Result<Lines, NoMemory> {
-    let mut lines = Vec::new(model.alloc);
-    for challenge in &model.challenges {
-        if challenge.to == guest {
-            let name = name_of(model.alloc, challenge.from)?;
-            let terms = terms_of(challenge.terms);
-            lines.push(format!(in model.alloc; "from {name} {terms}")?)?;
-        }
-    }
-    for challenge in &model.challenges {
-        if challenge.from == guest {
-            let name = name_of(model.alloc, challenge.to)?;
-            let terms = terms_of(challenge.terms);
-            lines.push(format!(in model.alloc; "to {name} {terms}")?)?;
-        }
-    }
-    or_none(model.alloc, lines)
+fn set(model: &mut Model, guest: usize, wish: Wish, on: bool) -> Result<Answer, NoMemory> {
+    model.set(guest, wish, on)?;
+    Ok(Says("Ok."))
 }
 
-fn put(model: &mut Model, guest: usize, names: Names, name: usize) -> Result<Lines, NoMemory> {
+fn put(model: &mut Model, guest: usize, names: Names, name: usize) -> Result<Answer, NoMemory> {
     if model.lists(guest, names, name) {
-        return said(model.alloc, "refused 51 OnList");
+        return Ok(Says("refused 51 OnList"));
     }
     model.listings.push(Listing {
         owner: guest,
         names,
         name,
     })?;
-    said(model.alloc, "Ok.")
+    Ok(Says("Ok."))
 }
 
-fn take(model: &mut Model, guest: usize, names: Names, name: usize) -> Result<Lines, NoMemory> {
+fn take(model: &mut Model, guest: usize, names: Names, name: usize) -> Result<Answer, NoMemory> {
     if !model.lists(guest, names, name) {
-        return said(model.alloc, "refused 52 NotOnList");
+        return Ok(Says("refused 52 NotOnList"));
     }
     model.drop_name(guest, names, name)?;
-    said(model.alloc, "Ok.")
+    Ok(Says("Ok."))
 }
 
-fn ask(model: &mut Model, guest: usize, other: usize) -> Result<Lines, NoMemory> {
+fn ask(model: &mut Model, guest: usize, other: usize) -> Result<Answer, NoMemory> {
     if other >= GUESTS {
-        return said(model.alloc, "refused 32 NoSuchPlayer");
+        return Ok(Says("refused 32 NoSuchPlayer"));
     }
     if other == guest {
-        return said(model.alloc, "refused 50 BadOpponent");
+        return Ok(Says("refused 50 BadOpponent"));
     }
     if model.partner_of(guest).is_some() || model.partner_of(other).is_some() {
-        return said(model.alloc, "refused 38 HasPartner");
+        return Ok(Says("refused 38 HasPartner"));
     }
     if model.is_full(other) {
-        return said(model.alloc, "refused 49 QueueFull");
+        return Ok(Says("refused 49 QueueFull"));
     }
-    let name = name_of(model.alloc, guest)?;
     if model.has_asked(other, guest) {
-        model.drop_asks(guest)?;
-        model.drop_asks(other)?;
-        model.pairs.push((other, guest))?;
-        let line = format!(in model.alloc; "You are now the partner of {name}.")?;
-        model.send(other, line)?;
-        return said(model.alloc, "Ok.");
+        return join_pair(model, guest, other);
     }
     if !model.has_asked(guest, other) {
         model.asks.push((guest, other))?;
     }
-    let line = format!(in model.alloc; "{name} offers to be your partner.")?;
-    model.send(other, line)?;
-    said(model.alloc, "Asked.")
+    send(model, other, guest, News::OffersPartner)?;
+    Ok(Says("Asked."))
 }
 
-fn part(model: &mut Model, guest: usize) -> Result<Lines, NoMemory> {
+/// The two who have asked one another are partners.
+fn join_pair(model: &mut Model, guest: usize, other: usize) -> Result<Answer, NoMemory> {
+    model.drop_asks(guest)?;
+    model.drop_asks(other)?;
+    model.pairs.push((other, guest))?;
+    send(model, other, guest, News::IsPartner)?;
+    Ok(Says("Ok."))
+}
+
+fn part(model: &mut Model, guest: usize) -> Result<Answer, NoMemory> {
     let Some(partner) = model.partner_of(guest) else {
-        return said(model.alloc, "refused 37 NoPartner");
+        return Ok(Says("refused 37 NoPartner"));
     };
     model.drop_pair(guest)?;
-    let name = name_of(model.alloc, guest)?;
-    let line = format!(in model.alloc; "{name} is no longer your partner.")?;
-    model.send(partner, line)?;
-    said(model.alloc, "Ok.")
+    send(model, partner, guest, News::Parts)?;
+    Ok(Says("Ok."))
 }
 
-fn ptell(model: &mut Model, guest: usize, text: u64) -> Result<Lines, NoMemory> {
+fn ptell(model: &mut Model, guest: usize, text: u64) -> Result<Answer, NoMemory> {
     let Some(partner) = model.partner_of(guest) else {
-        return said(model.alloc, "refused 37 NoPartner");
+        return Ok(Says("refused 37 NoPartner"));
     };
     if model.is_full(partner) {
-        return said(model.alloc, "refused 49 QueueFull");
+        return Ok(Says("refused 49 QueueFull"));
     }
-    let name = name_of(model.alloc, guest)?;
-    let line = format!(in model.alloc; "{name} (your partner) tells you: text {text}")?;
-    model.send(partner, line)?;
-    said(model.alloc, "(told 1)")
+    send(model, partner, guest, News::TellsPartner(text))?;
+    Ok(Says("(told 1)"))
 }

@@ -1,12 +1,14 @@
 //! Scripts line by line: which lines may come, and who is left at the end.
 
 ghost use Rattle.std.specs.Prelude.{◌≤◌};
+ghost use Rattle.replay_core.specs.Script.{IsScriptLine};
 
 use fics_words::Line;
-use replay_core::{Attendance, read_script};
+use memory::NoMemory;
+use replay_core::{Attendance, ScriptLine, read_script};
 use std::alloc::Global;
-use std::process::Abort;
 use std::test::Fail;
+use test_steps::least_wrong;
 
 /// Each line comes, or may not; or it is a `quit` that is answered.
 const UNSEATED: &str = "\
@@ -47,51 +49,91 @@ may not: 7 1 +
 comes: 7 2 > e4
 comes: 7 3 > observe 1";
 
+/// Whether the line may come as the table says. Where it may, it comes.
+fn goes_so(progress: &mut Attendance, fate: &str, line: &ScriptLine) -> bool
+    requires { IsScriptLine line.now }
+{
+    let may_come = fate != "may not";
+    if progress.may_come(line) != may_come {
+        return false;
+    }
+    if may_come {
+        progress.note(line, fate == "quits");
+    }
+    true
+}
+
+fn is_read_so(
+    alloc: Global,
+    progress: &mut Attendance,
+    fate: &str,
+    line: &Line,
+) -> Result<bool, NoMemory> {
+    match read_script(alloc, line)? {
+        Some(line) => Ok(goes_so(progress, fate, &line)),
+        None => Ok(false),
+    }
+}
+
+/// Whether a row, a fate and a line, goes as it says.
+fn is_row_so(alloc: Global, progress: &mut Attendance, row: &str) -> Result<bool, Fail> {
+    let (fate, text) = row.split_once(": ").ok_or("a fate and a line")?;
+    let line = Line::read(alloc, text.as_bytes())?.ok_or("a line")?;
+    Ok(is_read_so(alloc, progress, fate, &line)?)
+}
+
+/// The place of the first row that goes otherwise, if one does.
+fn first_otherwise(
+    alloc: Global,
+    progress: &mut Attendance,
+    rows: &str,
+) -> Result<Option<usize>, Fail> {
+    for (place, row) in rows.lines().enumerate() {
+        if !is_row_so(alloc, progress, row)? {
+            return Ok(Some(place));
+        }
+    }
+    Ok(None)
+}
+
+/// The first session that is here where none of these is, or isn't where one of them is.
+fn first_misplaced(progress: &Attendance, here: &[u32]) -> Option<u32> {
+    least_wrong!(
+        1..=64,
+        |session| progress.is_here(session) == here.contains(&session)
+    )
+}
+
+/// Whether the rows go as they say, and these sessions are here at the end.
+fn are_followed(alloc: Global, seats: u32, rows: &str, here: &[u32]) -> Result<bool, Fail>
+    requires { seats ≤ 64 }
+{
+    let mut progress = Attendance::new(seats);
+    if first_otherwise(alloc, &mut progress, rows)?.is_some() {
+        return Ok(false);
+    }
+    Ok(first_misplaced(&progress, here).is_none())
+}
+
 #[test]
 fn follows_unseated_sessions(rt: HostRuntime) -> Result<(), Fail> {
-    let progress = follow(&rt, rt.alloc(), 0, UNSEATED)?;
-    for session in 1..=64 {
-        assert_eq!(rt; progress.is_here(session), session == 3, "{session}");
-    }
+    assert!(rt; are_followed(rt.alloc(), 0, UNSEATED, &[3])?);
     Ok(())
 }
 
 #[test]
 fn follows_seated_sessions(rt: HostRuntime) -> Result<(), Fail> {
-    let progress = follow(&rt, rt.alloc(), 2, SEATED)?;
-    for session in 1..=64 {
-        assert_eq!(rt;
-            progress.is_here(session),
-            session == 2 || session == 3,
-            "{session}"
-        );
-    }
+    assert!(rt; are_followed(rt.alloc(), 2, SEATED, &[2, 3])?);
     Ok(())
+}
+
+/// The first session that isn't here where all are seated.
+fn first_away() -> Option<u32> {
+    let progress = Attendance::new(64);
+    least_wrong!(1..=64, |session| progress.is_here(session))
 }
 
 #[test]
 fn seats_all(rt: HostRuntime) {
-    let progress = Attendance::new(64);
-    for session in 1..=64 {
-        assert!(rt; progress.is_here(session));
-    }
-}
-
-/// Goes over the lines, and looks at each whether it may come as the table says.
-fn follow(rt: &impl Abort, alloc: Global, seats: u32, rows: &str) -> Result<Attendance, Fail>
-    requires { seats ≤ 64 }
-{
-    let mut progress = Attendance::new(seats);
-    for row in rows.lines() {
-        let (fate, text) = row.split_once(": ").ok_or("a fate and a line")?;
-        let line = Line::read(alloc, text.as_bytes())?.ok_or("a line")?;
-        let Some(line) = read_script(alloc, &line)? else {
-            return Err("a line of a session".into());
-        };
-        assert_eq!(rt; progress.may_come(&line), fate != "may not", "{text}");
-        if fate != "may not" {
-            progress.note(&line, fate == "quits");
-        }
-    }
-    Ok(progress)
+    assert_eq!(rt; first_away(), None);
 }

@@ -1,9 +1,11 @@
 //! Lines of sessions, good and bad, with what each reads as.
 
 use fics_words::Line;
+use memory::NoMemory;
 use replay_core::{ScriptEvent, ScriptLine, read_script};
 use std::alloc::Global;
 use std::test::Fail;
+use test_steps::assert_rows;
 
 /// A line, and what it reads as: moment, session, kind of event, stamp and text.
 const GOOD: &str = "\
@@ -101,71 +103,152 @@ const BAD: &str = "\
 [0 1 ! x]
 [0 1 @ x]";
 
-#[test]
-fn reads_good_lines(rt: HostRuntime) -> Result<(), Fail> {
-    for row in GOOD.lines() {
-        let (text, expected) = row.split_once('|').ok_or("a line and its reading")?;
-        let line = line_of(rt.alloc(), text.as_bytes())?;
-        let read = read_script(rt.alloc(), &line)?.ok_or("a line of a session")?;
-        assert!(rt; read == expected_of(rt.alloc(), expected)?, "{text}");
-    }
-    Ok(())
+/// What is read of a line. It ensures nothing, so that nothing above it is proved over what a line reads as.
+fn read(alloc: Global, line: &Line) -> Result<Option<ScriptLine>, NoMemory> {
+    read_script(alloc, line)
 }
 
-#[test]
-fn refuses_bad_lines(rt: HostRuntime) -> Result<(), Fail> {
-    for row in BAD.lines() {
-        let text = row
-            .strip_prefix('[')
-            .and_then(|rest| rest.strip_suffix(']'))
-            .ok_or("brackets")?;
-        let line = line_of(rt.alloc(), text.as_bytes())?;
-        assert!(rt; read_script(rt.alloc(), &line)?.is_none(), "{text}");
-    }
-    Ok(())
+/// What reading the bytes as a line of a session gives.
+fn read_bytes(alloc: Global, bytes: &[u8]) -> Result<Option<ScriptLine>, Fail> {
+    let line = Line::read(alloc, bytes)?.ok_or("a line")?;
+    Ok(read(alloc, &line)?)
 }
 
-#[test]
-fn reads_long_texts(rt: HostRuntime) -> Result<(), Fail> {
-    for count in [1_000, 1_017] {
-        let text = vec![in rt.alloc(); b'x'; count]?;
-        let mut bytes = b"0 1 > ".to_vec(rt.alloc())?;
-        bytes.extend_from_slice(text.as_slice())?;
-        let line = line_of(rt.alloc(), bytes.as_slice())?;
-        let read = read_script(rt.alloc(), &line)?.ok_or("a line of a session")?;
-        let expected = ScriptLine {
-            moment: 0,
-            session: 1,
-            event: ScriptEvent::Plain(line_of(rt.alloc(), text.as_slice())?),
-        };
-        assert!(rt; read == expected);
-    }
-    Ok(())
+/// What a line reads as: moment, session, kind of event, stamp, and text.
+#[derive(Clone, Copy)]
+struct Expected<'a> {
+    moment: u64,
+    session: u32,
+    kind: &'a str,
+    stamp: &'a str,
+    text: &'a str,
 }
 
-fn line_of(alloc: Global, bytes: &[u8]) -> Result<Line, Fail> {
-    Ok(Line::read(alloc, bytes)?.ok_or("a line")?)
-}
-
-/// The value that a row of the table names.
-fn expected_of(alloc: Global, row: &str) -> Result<ScriptLine, Fail> {
+fn expected_of<'a>(row: &'a str) -> Result<Expected<'a>, Fail> {
     let mut fields = row.split('|');
     let moment = fields.next().ok_or("a moment")?.parse()?;
     let session = fields.next().ok_or("a session")?.parse()?;
     let kind = fields.next().ok_or("a kind")?;
     let stamp = fields.next().ok_or("a stamp")?;
-    let text = fields.next().ok_or("a text")?.as_bytes();
-    let event = match kind {
-        "connect" => ScriptEvent::Connect,
-        "cut" => ScriptEvent::Cut,
-        "quiet" => ScriptEvent::Quiet,
-        "plain" => ScriptEvent::Plain(line_of(alloc, text)?),
-        "stamped" => ScriptEvent::Stamped(stamp.parse()?, line_of(alloc, text)?),
-        _ => ScriptEvent::Ack(stamp.parse()?),
-    };
-    Ok(ScriptLine {
+    let text = fields.next().ok_or("a text")?;
+    Ok(Expected {
         moment,
         session,
-        event,
+        kind,
+        stamp,
+        text,
     })
+}
+
+fn is_expected(read: &Option<ScriptLine>, expected: &Expected<'_>) -> bool {
+    match read {
+        Some(line) => {
+            line.moment == expected.moment
+                && line.session == expected.session
+                && is_event(&line.event, expected)
+        }
+        None => false,
+    }
+}
+
+/// Whether an event is of the kind, with the stamp and the text; one that has none of them is so in its row.
+fn is_event(event: &ScriptEvent, expected: &Expected<'_>) -> bool {
+    match event {
+        ScriptEvent::Connect => is_kind(expected, "connect", None, b""),
+        ScriptEvent::Cut => is_kind(expected, "cut", None, b""),
+        ScriptEvent::Quiet => is_kind(expected, "quiet", None, b""),
+        ScriptEvent::Plain(text) => is_kind(expected, "plain", None, text.bytes()),
+        ScriptEvent::Stamped(stamp, text) => {
+            is_kind(expected, "stamped", Some(*stamp), text.bytes())
+        }
+        ScriptEvent::Ack(stamp) => is_kind(expected, "ack", Some(*stamp), b""),
+    }
+}
+
+fn is_kind(expected: &Expected<'_>, kind: &str, stamp: Option<u32>, text: &[u8]) -> bool {
+    expected.kind == kind && is_stamp(expected.stamp, stamp) && expected.text.as_bytes() == text
+}
+
+fn is_stamp(text: &str, stamp: Option<u32>) -> bool {
+    match stamp {
+        Some(stamp) => text.parse().ok() == Some(stamp),
+        None => text.is_empty(),
+    }
+}
+
+fn is_row_read(alloc: Global, row: &str) -> Result<bool, Fail> {
+    let (text, expected) = row.split_once('|').ok_or("a line and its reading")?;
+    let expected = expected_of(expected)?;
+    let read = read_bytes(alloc, text.as_bytes())?;
+    Ok(is_expected(&read, &expected))
+}
+
+#[test]
+fn reads_good_lines(rt: HostRuntime) -> Result<(), Fail> {
+    for row in GOOD.lines() {
+        assert!(rt; is_row_read(rt.alloc(), row)?, "{row}");
+    }
+    Ok(())
+}
+
+/// What stands between brackets.
+fn between_brackets(row: &str) -> Option<&str> {
+    row.strip_prefix('[')?.strip_suffix(']')
+}
+
+fn is_refused(alloc: Global, row: &str) -> Result<bool, Fail> {
+    let text = between_brackets(row).ok_or("brackets")?;
+    let read = read_bytes(alloc, text.as_bytes())?;
+    Ok(read.is_none())
+}
+
+#[test]
+fn refuses_bad_lines(rt: HostRuntime) -> Result<(), Fail> {
+    for row in BAD.lines() {
+        assert!(rt; is_refused(rt.alloc(), row)?, "{row}");
+    }
+    Ok(())
+}
+
+fn put_letters(bytes: &mut Vec<u8>, count: usize) -> Result<(), NoMemory> {
+    bytes.extend_from_slice(b"0 1 > ")?;
+    for _letter in 0..count {
+        bytes.push(b'x')?;
+    }
+    Ok(())
+}
+
+/// Whether a line reads as these bytes, of session 1 at the moment 0.
+fn is_plain(read: &Option<ScriptLine>, bytes: &[u8]) -> bool {
+    match read {
+        Some(line) => line.moment == 0 && line.session == 1 && is_plain_event(&line.event, bytes),
+        None => false,
+    }
+}
+
+fn is_plain_event(event: &ScriptEvent, bytes: &[u8]) -> bool {
+    match event {
+        ScriptEvent::Plain(text) => text.bytes() == bytes,
+        _ => false,
+    }
+}
+
+/// Whether a text of so many letters is read whole.
+fn is_long_read(alloc: Global, count: usize) -> Result<bool, Fail> {
+    let mut bytes = Vec::new(alloc);
+    put_letters(&mut bytes, count)?;
+    are_read(alloc, &bytes)
+}
+
+fn are_read(alloc: Global, bytes: &[u8]) -> Result<bool, Fail> {
+    let read = read_bytes(alloc, bytes)?;
+    Ok(bytes.len() >= 6 && is_plain(&read, &bytes[6..]))
+}
+
+const COUNTS: &[usize] = &[1_000, 1_017];
+
+#[test]
+fn reads_long_texts(rt: HostRuntime) -> Result<(), Fail> {
+    assert_rows!(rt; COUNTS, |count| is_long_read(rt.alloc(), *count)?);
+    Ok(())
 }

@@ -9,14 +9,14 @@ use Rattle.cmd_demo.proofs.turns.moves_of.Goals as goal
 pub returns-in_default : goal.returns-in_default
 returns-in_default c =
     let present : present_of (places_of c.lobby.result.now c.args.session) ≡ None =
-    ap present_of (sym c.places.ensures) ∙ sym c.present.ensures.present ∙ c.in_default.is in
+    ap present_of (sym c.places.ensures) ∙ sym c.present.ensures ∙ c.in_default.is in
     c.new.ensures.items
     ∙ sym (no_place c.args.session (parts_in c.args.server.now) c.lobby.result.now c.lobby.ensures present)
 
 pub returns : goal.returns
 returns c =
     let present : present_of (places_of c.lobby.result.now c.args.session) ≡ Some c.in-Some.place =
-    ap present_of (sym c.places.ensures) ∙ sym c.present.ensures.present ∙ c.in-Some.is in
+    ap present_of (sym c.places.ensures) ∙ sym c.present.ensures ∙ c.in-Some.is in
     let moves =
     at_desk c.args.session (parts_in c.args.server.now) c.lobby.result.now c.in-Some.place c.desk.result.now
     c.lobby.ensures present c.desk.ensures in

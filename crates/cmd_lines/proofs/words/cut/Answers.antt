@@ -1,6 +1,6 @@
 use Rattle.std.proofs.Common.{take, sym, ap, ◌∙◌}
 use Rattle.cmd_lines.proofs.Cuts.{after_is, after_none, before_none, place-found, place-missing}
-use Rattle.cmd_lines.specs.Words.{is_blank}
+use Rattle.fics_words.specs.Blank.{is_blank}
 use Rattle.cmd_lines.proofs.words.cut.Goals as goal
 
 pub returns-in-Some-clause-word : goal.returns-in-Some-clause-word

@@ -13,7 +13,11 @@ returns-in-Memory-clause-wrote g c =
     written_memory c.args.bytes.now (g.L.Link.tale c.args.link.now) (g.L.Link.tale c.write.new.self)
     c.in-Memory.ensures.wrote
 
-pub returns-in-All-clause-unclosed : goal.returns-in-All-clause-unclosed
-returns-in-All-clause-unclosed g c =
-    open_then (g.L.Link.tale c.args.link.now) (g.L.Link.tale c.write.new.self) c.in-All.ensures.wrote
-    (λ x y q. ap (λ (t : Tale). t.closed) q.1) c.requires.unclosed
+pub returns-in-All-clause-link : goal.returns-in-All-clause-link
+returns-in-All-clause-link g c = record {
+  unclosed =
+      open_then (g.L.Link.tale c.args.link.now) (g.L.Link.tale c.write.new.self) c.in-All.ensures.wrote
+      (λ x y q. ap (λ (t : Tale). t.closed) q.1) c.requires.unclosed;
+  cause = tt;
+  counted = c.write.ensures.counted;
+}

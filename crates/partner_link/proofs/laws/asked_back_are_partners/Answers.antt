@@ -5,7 +5,7 @@ use Rattle.fics_words.specs.declared.refusal.Refusal.{Refusal}
 use Rattle.fics_words.specs.declared.refusal.Refusal.TheVariants.{HasPartner}
 use Rattle.partner_link.specs.declared.pairs.PartnerLink.{PartnerLink}
 use Rattle.partner_link.specs.Laws.{ArePartnersAlone}
-use Rattle.partner_link.specs.Partners.{PartnerLists, asked, has_asked, linked, names, partner_of, stands}
+use Rattle.partner_link.specs.Partners.{PartnerLists, requested, has_asked, linked, names, partner_of, request_stands}
 use Rattle.partner_link.proofs.Links.{flipped, linked_first, linked_second, no_partner, partner_of-append}
 use Rattle.partner_link.proofs.laws.asked_back_are_partners.Goals as goal
 use Rattle.std.proofs.lemmas.Map.Views.{any-filter_same}
@@ -20,7 +20,7 @@ partners : (lists : PartnerLists) (from to : ℕ)
     → has_asked lists.requests to from ≡ true → ArePartnersAlone (linked lists from to) from to
 partners lists from to alone asks =
     let free = or_parts (is_some (partner_of lists.links from)) (is_some (partner_of lists.links to)) alone in
-    let differ = not-true (from == to) (and_parts (not (from == to)) (stands lists.requests to from) asks).0 in
+    let differ = not-true (from == to) (and_parts (not (from == to)) (request_stands lists.requests to from) asks).0 in
     let link : PartnerLink = record { first = to; second = from } in
     record {
       one_way =
@@ -48,6 +48,6 @@ returns c = λ free asks.
     let lists = c.args.partners.now in
     let from = c.args.from in
     let to = c.args.to in
-    subst (λ (t : Bool). ArePartnersAlone (cond t (linked lists from to) (asked lists from to)) from to) (sym asks)
+    subst (λ (t : Bool). ArePartnersAlone (cond t (linked lists from to) (requested lists from to)) from to) (sym asks)
     (partners lists from to
     (allowed (is_some (partner_of lists.links from) || is_some (partner_of lists.links to)) HasPartner free) asks)

@@ -1,6 +1,6 @@
 use Rattle.std.proofs.Common.{◌^◌, ◌<◌, ◌≡◌, ◌∷◌, ◌++◌, arith, sym, ◌∙◌}
 use Rattle.std.specs.Prelude.{decimal}
-use Rattle.replay_core.specs.Words.{blank}
+use Rattle.fics_words.specs.Blank.{blank}
 use Rattle.replay_core.specs.Script.{event_text}
 use Rattle.replay_core.proofs.Cuts.{one_number}
 use Rattle.replay_core.proofs.script.read_script.Goals as goal

@@ -1,7 +1,7 @@
 use Rattle.std.proofs.Common.{◌^◌, ◌<◌, ◌≡◌, ◌∷◌, ◌++◌, arith, sym, ◌∙◌, subst}
 use Rattle.std.specs.Prelude.{decimal}
 use Rattle.fics_words.specs.Line.{IsLine}
-use Rattle.replay_core.specs.Words.{blank}
+use Rattle.fics_words.specs.Blank.{blank}
 use Rattle.replay_core.proofs.Cuts.{one_number}
 use Rattle.replay_core.proofs.script.read_stamped.Goals as goal
 

@@ -1,7 +1,8 @@
 use Rattle.std.proofs.Common.{rules, ◌≡◌, ◌∷◌, ◌++◌, [], List, ℕ, sym, ◌∙◌, ap}
 use Rattle.std.proofs.lemmas.List.Elements.{All-push}
 use Rattle.fics_words.specs.Handle.{IsHandle}
-use Rattle.replay_core.specs.Words.{blank, words_before}
+use Rattle.fics_words.specs.Blank.{blank}
+use Rattle.replay_core.specs.Words.{words_before}
 use Rattle.replay_core.proofs.Seats.{words_before-push}
 use Rattle.replay_core.proofs.seat_line.cut_handles.Invariants.{IsCut}
 use Rattle.replay_core.proofs.seat_line.cut_handles.Goals as goal

@@ -3,7 +3,8 @@ use Rattle.std.specs.Prelude.{codes, decimal}
 use Rattle.std.proofs.lemmas.List.Elements.{recursion_from_All}
 use Rattle.chess_model.specs.VariantWord.{word_of}
 use Rattle.fics_words.specs.Handle.{IsHandle}
-use Rattle.replay_core.specs.Words.{blank, words_before}
+use Rattle.fics_words.specs.Blank.{blank}
+use Rattle.replay_core.specs.Words.{words_before}
 use Rattle.replay_core.specs.SeatLine.{AreDifferent, NamesMayPlay}
 use Rattle.replay_core.proofs.Seats.{seat_split, one_seat}
 use Rattle.replay_core.proofs.seat_line.read_seat.Goals as goal

@@ -1,7 +1,7 @@
 use Rattle.std.proofs.Common.{◌^◌, ◌<◌, ◌∷◌, ◌++◌, arith, sym, ◌∙◌}
 use Rattle.std.specs.Prelude.{decimal}
 use Rattle.chess_model.specs.VariantWord.{word_of}
-use Rattle.replay_core.specs.Words.{blank}
+use Rattle.fics_words.specs.Blank.{blank}
 use Rattle.replay_core.proofs.Cuts.{one_number}
 use Rattle.replay_core.proofs.seat_line.read_terms.Goals as goal
 

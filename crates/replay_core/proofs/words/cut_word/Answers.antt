@@ -1,6 +1,6 @@
 use Rattle.std.proofs.Common.{◌+◌, ◌∷◌, ◌++◌, List, ℕ, take, sym, ap, ◌∙◌}
 use Rattle.std.proofs.lemmas.List.{take_rest}
-use Rattle.replay_core.specs.Words.{blank}
+use Rattle.fics_words.specs.Blank.{blank}
 use Rattle.replay_core.proofs.Cuts.{cut_at_first, word_of-none}
 use Rattle.replay_core.proofs.words.cut_word.Goals as goal
 

@@ -4,120 +4,39 @@ use Rattle.serve_core.specs.Outside.{Sheet, sheet_of}
 use Rattle.edge_traits.specs.Calls.{Store, store_of}
 use Rattle.lobby_load.specs.declared.refusals.StoreFault.TheVariants as unopened
 use Rattle.serve_call.proofs.Unopened.{unasked}
-use Rattle.serve_call.proofs.ServeEnds.{call_bad, call_calm, call_door, call_good, call_keeper, call_listed, call_text, call_told, call_usage, call_write, one_rose, usage_else, usage_front, usage_listed, usage_told}
+use Rattle.serve_call.proofs.ServeEnds.{call_bad, call_calm, call_door, call_good, call_keeper, call_listed, call_text, call_told, call_usage, call_write, usage_else, usage_front, usage_listed, usage_told}
 use Rattle.serve_call.proofs.serve_call.serve.Goals as goal
 
 pub returns-in-Ok-clause-usage : goal.returns-in-Ok-clause-usage
-returns-in-Ok-clause-usage g c = λ e.
-    let old : Store = store_of g.P.Keeper.table g.P.Keeper.faults g.P.Keeper.calls c.args.keeper.now in
-    let new : Store = store_of g.P.Keeper.table g.P.Keeper.faults g.P.Keeper.calls c.serve_players.new.keeper in
-    let before : Sheet = sheet_of g.K.Sink.written g.K.Sink.faults c.args.sink.now in
-    let after : Sheet = sheet_of g.K.Sink.written g.K.Sink.faults c.serve_players.new.sink in
-    let door = g.D.Doorway.faults c.args.door.now in
-    let door' = g.D.Doorway.faults c.serve_players.new.door in
-    let ends = c.serve_players.ensures.ends in
-    absurd (call_usage old new before after door door' c.serve_players.result.0 ends e)
+returns-in-Ok-clause-usage g c = λ e. absurd (call_usage c.serve_players.ensures.ends e)
 
 pub returns-in-Ok-clause-write_fault : goal.returns-in-Ok-clause-write_fault
-returns-in-Ok-clause-write_fault g c = λ e.
-    let old : Store = store_of g.P.Keeper.table g.P.Keeper.faults g.P.Keeper.calls c.args.keeper.now in
-    let new : Store = store_of g.P.Keeper.table g.P.Keeper.faults g.P.Keeper.calls c.serve_players.new.keeper in
-    let before : Sheet = sheet_of g.K.Sink.written g.K.Sink.faults c.args.sink.now in
-    let after : Sheet = sheet_of g.K.Sink.written g.K.Sink.faults c.serve_players.new.sink in
-    let door = g.D.Doorway.faults c.args.door.now in
-    let door' = g.D.Doorway.faults c.serve_players.new.door in
-    let ends = c.serve_players.ensures.ends in
-    call_write old new before after door door' c.serve_players.result.0 ends e
+returns-in-Ok-clause-write_fault g c = call_write c.serve_players.ensures.ends
 
 pub returns-in-Ok-clause-door_fault : goal.returns-in-Ok-clause-door_fault
-returns-in-Ok-clause-door_fault g c = λ e.
-    let old : Store = store_of g.P.Keeper.table g.P.Keeper.faults g.P.Keeper.calls c.args.keeper.now in
-    let new : Store = store_of g.P.Keeper.table g.P.Keeper.faults g.P.Keeper.calls c.serve_players.new.keeper in
-    let before : Sheet = sheet_of g.K.Sink.written g.K.Sink.faults c.args.sink.now in
-    let after : Sheet = sheet_of g.K.Sink.written g.K.Sink.faults c.serve_players.new.sink in
-    let door = g.D.Doorway.faults c.args.door.now in
-    let door' = g.D.Doorway.faults c.serve_players.new.door in
-    let ends = c.serve_players.ensures.ends in
-    call_door old new before after door door' c.serve_players.result.0 ends e
+returns-in-Ok-clause-door_fault g c = call_door c.serve_players.ensures.ends
 
 pub returns-in-Ok-clause-keeper_fault : goal.returns-in-Ok-clause-keeper_fault
-returns-in-Ok-clause-keeper_fault g c = λ e.
-    let old : Store = store_of g.P.Keeper.table g.P.Keeper.faults g.P.Keeper.calls c.args.keeper.now in
-    let new : Store = store_of g.P.Keeper.table g.P.Keeper.faults g.P.Keeper.calls c.serve_players.new.keeper in
-    let before : Sheet = sheet_of g.K.Sink.written g.K.Sink.faults c.args.sink.now in
-    let after : Sheet = sheet_of g.K.Sink.written g.K.Sink.faults c.serve_players.new.sink in
-    let door = g.D.Doorway.faults c.args.door.now in
-    let door' = g.D.Doorway.faults c.serve_players.new.door in
-    let ends = c.serve_players.ensures.ends in
-    call_keeper old new before after door door' c.serve_players.result.0 ends e
+returns-in-Ok-clause-keeper_fault g c = call_keeper c.serve_players.ensures.ends
 
 pub returns-in-Ok-clause-bad_record : goal.returns-in-Ok-clause-bad_record
 returns-in-Ok-clause-bad_record g c = λ e.
-    let old : Store = store_of g.P.Keeper.table g.P.Keeper.faults g.P.Keeper.calls c.args.keeper.now in
-    let new : Store = store_of g.P.Keeper.table g.P.Keeper.faults g.P.Keeper.calls c.serve_players.new.keeper in
-    let before : Sheet = sheet_of g.K.Sink.written g.K.Sink.faults c.args.sink.now in
-    let after : Sheet = sheet_of g.K.Sink.written g.K.Sink.faults c.serve_players.new.sink in
-    let door = g.D.Doorway.faults c.args.door.now in
-    let door' = g.D.Doorway.faults c.serve_players.new.door in
-    let ends = c.serve_players.ensures.ends in
-    let bad = call_bad old new before after door door' c.serve_players.result.0 ends e in
-    (c.in-Ok.ensures.asks, bad.0, bad.1, bad.2)
+    let bad = call_bad c.serve_players.ensures.ends e in (c.in-Ok.ensures.asks, bad.0, bad.1, bad.2)
 
 pub returns-in-Ok-clause-good_store : goal.returns-in-Ok-clause-good_store
-returns-in-Ok-clause-good_store g c = λ e.
-    let old : Store = store_of g.P.Keeper.table g.P.Keeper.faults g.P.Keeper.calls c.args.keeper.now in
-    let new : Store = store_of g.P.Keeper.table g.P.Keeper.faults g.P.Keeper.calls c.serve_players.new.keeper in
-    let before : Sheet = sheet_of g.K.Sink.written g.K.Sink.faults c.args.sink.now in
-    let after : Sheet = sheet_of g.K.Sink.written g.K.Sink.faults c.serve_players.new.sink in
-    let door = g.D.Doorway.faults c.args.door.now in
-    let door' = g.D.Doorway.faults c.serve_players.new.door in
-    let ends = c.serve_players.ensures.ends in
-    call_good old new before after door door' c.serve_players.result.0 ends e
+returns-in-Ok-clause-good_store g c = call_good c.serve_players.ensures.ends
 
 pub returns-in-Ok-clause-text : goal.returns-in-Ok-clause-text
-returns-in-Ok-clause-text g c = λ e.
-    let old : Store = store_of g.P.Keeper.table g.P.Keeper.faults g.P.Keeper.calls c.args.keeper.now in
-    let new : Store = store_of g.P.Keeper.table g.P.Keeper.faults g.P.Keeper.calls c.serve_players.new.keeper in
-    let before : Sheet = sheet_of g.K.Sink.written g.K.Sink.faults c.args.sink.now in
-    let after : Sheet = sheet_of g.K.Sink.written g.K.Sink.faults c.serve_players.new.sink in
-    let door = g.D.Doorway.faults c.args.door.now in
-    let door' = g.D.Doorway.faults c.serve_players.new.door in
-    let ends = c.serve_players.ensures.ends in
-    call_text old new before after door door' c.serve_players.result.0 ends e
+returns-in-Ok-clause-text g c = call_text c.serve_players.ensures.ends
 
 pub returns-in-Ok-clause-complete : goal.returns-in-Ok-clause-complete
-returns-in-Ok-clause-complete g c = λ asks no_door no_sink no_keeper.
-    let old : Store = store_of g.P.Keeper.table g.P.Keeper.faults g.P.Keeper.calls c.args.keeper.now in
-    let new : Store = store_of g.P.Keeper.table g.P.Keeper.faults g.P.Keeper.calls c.serve_players.new.keeper in
-    let before : Sheet = sheet_of g.K.Sink.written g.K.Sink.faults c.args.sink.now in
-    let after : Sheet = sheet_of g.K.Sink.written g.K.Sink.faults c.serve_players.new.sink in
-    let door = g.D.Doorway.faults c.args.door.now in
-    let door' = g.D.Doorway.faults c.serve_players.new.door in
-    let ends = c.serve_players.ensures.ends in
-    call_calm old new before after door door' c.serve_players.result.0 ends
-    (λ rose. one_rose no_door no_sink no_keeper rose)
+returns-in-Ok-clause-complete g c = λ asks. call_calm c.serve_players.ensures.ends
 
 pub returns-in-Ok-clause-statuses : goal.returns-in-Ok-clause-statuses
-returns-in-Ok-clause-statuses g c =
-    let old : Store = store_of g.P.Keeper.table g.P.Keeper.faults g.P.Keeper.calls c.args.keeper.now in
-    let new : Store = store_of g.P.Keeper.table g.P.Keeper.faults g.P.Keeper.calls c.serve_players.new.keeper in
-    let before : Sheet = sheet_of g.K.Sink.written g.K.Sink.faults c.args.sink.now in
-    let after : Sheet = sheet_of g.K.Sink.written g.K.Sink.faults c.serve_players.new.sink in
-    let door = g.D.Doorway.faults c.args.door.now in
-    let door' = g.D.Doorway.faults c.serve_players.new.door in
-    let ends = c.serve_players.ensures.ends in
-    call_listed old new before after door door' c.serve_players.result.0 ends
+returns-in-Ok-clause-statuses g c = call_listed c.serve_players.ensures.ends
 
 pub returns-in-Ok-clause-write_told : goal.returns-in-Ok-clause-write_told
-returns-in-Ok-clause-write_told g c =
-    let old : Store = store_of g.P.Keeper.table g.P.Keeper.faults g.P.Keeper.calls c.args.keeper.now in
-    let new : Store = store_of g.P.Keeper.table g.P.Keeper.faults g.P.Keeper.calls c.serve_players.new.keeper in
-    let before : Sheet = sheet_of g.K.Sink.written g.K.Sink.faults c.args.sink.now in
-    let after : Sheet = sheet_of g.K.Sink.written g.K.Sink.faults c.serve_players.new.sink in
-    let door = g.D.Doorway.faults c.args.door.now in
-    let door' = g.D.Doorway.faults c.serve_players.new.door in
-    let ends = c.serve_players.ensures.ends in
-    call_told old new before after door door' c.serve_players.result.0 ends
+returns-in-Ok-clause-write_told g c = call_told c.serve_players.ensures.ends
 
 pub returns-in-Err-Usage-clause-statuses : goal.returns-in-Err-Usage-clause-statuses
 returns-in-Err-Usage-clause-statuses g c =

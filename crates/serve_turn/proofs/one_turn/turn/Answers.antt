@@ -14,5 +14,5 @@ returns-clause-turn g c =
     let end = end_of_turn s.result.0 s.result.1 in
     rw (c.into_pass.ensures, c.supply_in.ensures, c.end_of_turn-end.ensures)
     (subst (λ (p : PassState). MadeTurn end (supply_in s.result.0 end) before after p s.new.runner) c.seat-seat.ensures
-    (made_halves c.present-moment.result s.result.0 end before after c.seat-seat.result s.new.runner s.ensures.home
+    (made_halves c.moment_of-moment.result s.result.0 end before after c.seat-seat.result s.new.runner s.ensures.home
     s.ensures.turn.0 s.ensures.turn.1 s.ensures.agrees))

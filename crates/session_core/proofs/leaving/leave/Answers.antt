@@ -14,7 +14,7 @@ loop-next-init g c =
     let is : leaving_course c.args.memory.now ≡ leaving_of c.ask_going-next.result c.args.memory.now =
     sym (ap (λ (n : LeavingNext). leaving_of n c.args.memory.now) c.ask_going-next.ensures) in
     record {
-      ready = subst MayLeave (sym c.ask_going-next.ensures) (tt, tt);
+      ready = subst MayLeave (sym c.ask_going-next.ensures) tt;
       home = refl;
       gone = subst (λ (n : LeavingNext). HasGone n c.args.memory.now) (sym c.ask_going-next.ensures) tt;
       went =

@@ -14,9 +14,9 @@ returns-clause-went g c = λ rest.
     on_news c.args.visit.now c.args.memory.now rest c.args.moment c.tell_news.result c.run.new.reply old
     c.args.out.now.items
     new c.tell_news.new.memory c.tell_news.new.out.items
-    (subst (λ (a : Act). ServerRan old (act_at c.args.moment a) c.run.new.reply new) c.fetch_at-act.ensures
+    (subst (λ (a : Act). ServerRan old (act_at c.args.moment a) c.run.new.reply new) c.fetch_at-act.ensures.value
     c.in_ok-run.ensures.ran)
-    c.tell_news.ensures.over c.tell_news.ensures.text c.tell_news.ensures.after c.requires.inside
+    c.tell_news.ensures.over c.tell_news.ensures.text c.tell_news.ensures.after c.requires
 
 pub returns-clause-broke : goal.returns-clause-broke
 returns-clause-broke g c = λ rest.
@@ -24,9 +24,9 @@ returns-clause-broke g c = λ rest.
     let new = g.R.Runner.state c.run.new.self in
     broke_news c.args.visit.now c.args.memory.now rest c.args.moment c.tell_news.result c.run.new.reply old new
     c.tell_news.new.memory
-    (subst (λ (a : Act). ServerRan old (act_at c.args.moment a) c.run.new.reply new) c.fetch_at-act.ensures
+    (subst (λ (a : Act). ServerRan old (act_at c.args.moment a) c.run.new.reply new) c.fetch_at-act.ensures.value
     c.in_ok-run.ensures.ran)
-    c.tell_news.ensures.after c.requires.inside
+    c.tell_news.ensures.after c.requires
 
 pub returns-in_err-run-clause-broke : goal.returns-in_err-run-clause-broke
 returns-in_err-run-clause-broke g c = λ rest.

@@ -20,6 +20,6 @@ returns-clause-went g c = λ rest memory out inside.
     let act = clear_at c.args.visit.now in
     let reply = c.in_ok-_cleared._cleared in
     on_made c.args.moment act (λ cleared. rest) reply old memory out new memory
-    (subst (λ (a : Act). ServerRan old (act_at c.args.moment a) reply new) c.clear_at.ensures
+    (subst (λ (a : Act). ServerRan old (act_at c.args.moment a) reply new) c.clear_at.ensures.value
     c.in_ok-_cleared.ensures.ran)
     (remembers_silent old.number c.args.moment act reply memory refl inside)

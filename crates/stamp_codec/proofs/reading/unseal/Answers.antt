@@ -1,7 +1,7 @@
 use Rattle.std.proofs.Common.{◌≡◌, ◌-◌, length, true, sym, ap, ◌∙◌, refl}
 use Rattle.stamp_codec.specs.Message.{is_message}
 use Rattle.stamp_codec.specs.Sealed.{message}
-use Rattle.stamp_codec.specs.Spelling.{written, swapped, IsSpelled}
+use Rattle.stamp_codec.specs.Spelling.{written, swapped, IsStampedLine}
 use Rattle.stamp_codec.proofs.Each.{some_both, none_from}
 use Rattle.stamp_codec.proofs.Openings.{closed, spelled_by, says_written, spelled_closed, opened_none, opened_both}
 use Rattle.stamp_codec.proofs.reading.unseal.Goals as goal
@@ -24,7 +24,7 @@ returns-clause-sealed c =
     (c.is_closed.ensures.closed.0 c.if-not-is_closed.false).1 in
     let plain = c.swap_groups.ensures ∙ ap swapped c.decipher_line.ensures in
     some_both (λ sealed. is_message (message sealed) ≡ true)
-    (λ sealed. c.swap_groups.new.bytes ≡ written (message sealed)) (λ sealed. IsSpelled (message sealed) raw)
+    (λ sealed. c.swap_groups.new.bytes ≡ written (message sealed)) (λ sealed. IsStampedLine (message sealed) raw)
     (λ sealed said says.
     spelled_by raw (length raw - 1) (message sealed) c.is_closed.ensures.bytes ends said (sym plain ∙ says))
     c.read_plain.result c.read_plain.ensures.said c.read_plain.ensures.value

@@ -1,33 +1,18 @@
-use Rattle.std.proofs.Common.{List, length, sym, subst, ◌∙◌, ◌≤◌}
-use Rattle.lobby_shelf.specs.declared.order.Order.{Order}
+use Rattle.std.proofs.Common.{◌∙◌}
 use Rattle.edge_traits.specs.Calls.{store_of}
-use Rattle.steward_core.specs.Agreement.{state_seen}
 use Rattle.steward_core.specs.Saving.{last_number}
 use Rattle.steward_core.proofs.AgreedStill.{agreed_then, agreed_unsaved, told_agrees}
 use Rattle.steward_core.proofs.OrdersSaved.{round_run, round_unasked, said_made}
-use Rattle.steward_core.proofs.OrdersTold.{StandFirst, told_first}
+use Rattle.steward_core.proofs.OrdersTold.{told_first}
 use Rattle.steward_core.proofs.saving.save_round.Goals as goal
 
 pub save_told-requires-clause-few : goal.save_told-requires-clause-few
 save_told-requires-clause-few g c =
-    let told =
-    told_first c.args.moment c.in-Ok.reply (g.R.Runner.state c.args.runner.now) (g.R.Runner.state c.answered.new.r)
-    c.in-Ok.ensures.ran in
-    subst (λ (orders : List Order). length orders ≤ 16) (sym (c.as_slice.ensures ∙ c.orders_in-orders.ensures)) told.few
+    (told_first c.in-Ok.ensures.ran (c.as_slice.ensures ∙ c.orders_in-orders.ensures)).few
 
 pub returns-clause-round : goal.returns-clause-round
 returns-clause-round g c =
-    let told =
-    told_first c.args.moment c.in-Ok.reply (g.R.Runner.state c.args.runner.now) (g.R.Runner.state c.answered.new.r)
-    c.in-Ok.ensures.ran in
-    let same = sym (c.as_slice.ensures ∙ c.orders_in-orders.ensures) in
-    round_run c.args.moment c.as_slice.result.now
-    (store_of g.P.Keeper.table g.P.Keeper.faults g.P.Keeper.calls c.args.keeper.now)
-    (store_of g.P.Keeper.table g.P.Keeper.faults g.P.Keeper.calls c.save_told.new.keeper) c.in-Ok.reply
-    (g.R.Runner.state c.args.runner.now) (g.R.Runner.state c.answered.new.r) (g.R.Runner.state c.save_told.new.runner)
-    c.in-Ok.ensures.ran.grew.known c.in-Ok.ensures.ran
-    same (subst (λ (orders : List Order). length orders ≤ 16) same told.few) c.save_told.result
-    c.save_told.ensures.saves
+    round_run c.in-Ok.ensures.ran (c.as_slice.ensures ∙ c.orders_in-orders.ensures) c.save_told.ensures.saves
 
 pub returns-clause-agrees : goal.returns-clause-agrees
 returns-clause-agrees g c =
@@ -36,17 +21,15 @@ returns-clause-agrees g c =
     let new = g.R.Runner.state c.save_told.new.runner in
     let table = g.P.Keeper.table c.args.keeper.now in
     let ran = c.in-Ok.ensures.ran in
-    let told = told_first c.args.moment c.in-Ok.reply old mid ran in
-    let orders = c.as_slice.result.now in
-    let same = sym (c.as_slice.ensures ∙ c.orders_in-orders.ensures) in
+    let told = told_first ran (c.as_slice.ensures ∙ c.orders_in-orders.ensures) in
     let saves = c.save_told.ensures.saves in
     let said = said_made c.args.moment (last_number saves.carried) saves.said mid new ran.grew.known saves.tells in
     agreed_then table table (g.P.Keeper.table c.save_told.new.keeper) old mid new _ said.0 ran.grew said.1
     (agreed_unsaved table old mid _ c.requires.known ran.grew (λ bad. bad, tt))
-    (told_agrees c.args.moment c.save_told.result orders
+    (told_agrees c.args.moment c.save_told.result c.as_slice.result.now
     (store_of g.P.Keeper.table g.P.Keeper.faults g.P.Keeper.calls c.args.keeper.now)
     (store_of g.P.Keeper.table g.P.Keeper.faults g.P.Keeper.calls c.save_told.new.keeper) mid new ran.grew.known saves
-    (subst (λ (l : List Order). StandFirst l (state_seen mid)) same told))
+    told)
 
 pub returns-in-Err-clause-agrees : goal.returns-in-Err-clause-agrees
 returns-in-Err-clause-agrees g c =

@@ -20,4 +20,4 @@ returns c =
     let fields =
     sym
     (join_groups (codes "<12>") (position_fields v.face) (game_fields v who) (strength_fields v) (move_fields v who)) in
-    rw (written ∙ fields) at c.finish.ensures
+    written ∙ fields

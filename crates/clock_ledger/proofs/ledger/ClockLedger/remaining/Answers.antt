@@ -1,6 +1,6 @@
 use Rattle.std.proofs.Common.{◌≡◌, ◌∙◌, ◌+◌, ◌*◌, ap, arith, rules, true}
 use Rattle.std.proofs.lemmas.Int.{ints}
-use Rattle.clock_ledger.specs.Clock.{given, spent, start_of, timed}
+use Rattle.clock_ledger.specs.Clock.{given, time_spent, start_of, timed}
 use Rattle.clock_ledger.proofs.Sums.{SumsUp-le}
 use Rattle.clock_ledger.proofs.Remaining.{remaining_is}
 use Rattle.clock_ledger.proofs.ledger.ClockLedger.remaining.Goals as goal
@@ -18,6 +18,6 @@ returns c =
     ∙ ap (λ n. start_of inside.minutes inside.increment + inside.increment * 1000 * n) c.len.ensures.value
     ∙ ap given c.self.view_is
     in
-    let to_take : inside.spent ≡ spent l = c.self.invariant.counted ∙ ap spent c.self.view_is in
+    let to_take : inside.spent ≡ time_spent l = c.self.invariant.counted ∙ ap time_spent c.self.view_is in
     let left = remaining_is l c.given_millis-given.result inside.spent on to_give to_take in
     omega (arith, ints, SumsUp-le _ _ c.self.invariant, left)

@@ -6,4 +6,4 @@ pub returns : goal.returns
 returns c =
     c.change_players.ensures
     ∙ all_seated c.args.desk c.args.serial c.args.seats.now c.args.members.now c.as_slice-rows.ensures.apart
-    c.requires.apart
+    c.requires

@@ -8,7 +8,7 @@ pub returns-then-is_against-clause-first : goal.returns-then-is_against-clause-f
 returns-then-is_against-clause-first c =
     let nowhere : Place = record { desk = 0; serial = 0; seat = 0 } in
     let here =
-    ap (is_against c.args.self.now c.args.player) (sym (c.place.ensures.place nowhere)) ∙ sym c.is_against.ensures
+    ap (is_against c.args.self.now c.args.player) (sym (c.place.ensures nowhere)) ∙ sym c.is_against.ensures
     ∙ c.if-is_against.true in
     sym (position-is (is_against c.args.self.now c.args.player) c.args.places.now.rows c.loop-at.at (record {
       desk = 0;

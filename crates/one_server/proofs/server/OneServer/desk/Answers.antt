@@ -1,33 +1,34 @@
-use Rattle.std.proofs.Common.{◌≡◌, ◌<◌, ◌-◌, Some, List, length, get_or, slice_get, ap, sym, ◌∙◌, arith}
-use Rattle.std.proofs.lemmas.Option.{get_or_from_slice_get}
-use Rattle.histories.proofs.Parts.{get_within}
-use Rattle.linked_desk.specs.Desk.{DeskState}
+use Rattle.std.proofs.Common.{◌≡◌, ℕ, Some, List, length, slice_get, ap, sym, ◌∙◌, arith}
 use Rattle.lobby_state.specs.Desks.{desks as desk_count}
 use Rattle.one_server.specs.declared.part.Part.{Part}
 use Rattle.one_server.specs.Server.{parts_in}
-use Rattle.one_server.proofs.Stepping.{part_there, count_of_desks}
-use Rattle.one_server.proofs.Serving.{whole_now}
+use Rattle.one_server.specs.WholeProof.{desk_at}
+use Rattle.one_server.proofs.Stepping.{count_of_desks, read_there}
+use Rattle.one_server.proofs.Serving.{no_desk, whole_now}
 use Rattle.one_server.proofs.server.OneServer.desk.Goals as goal
 
-pub bounds-deref-number : goal.bounds-deref-number
-bounds-deref-number c =
+pub bounds-as_slice-get : goal.bounds-as_slice-get
+bounds-as_slice-get c =
     let count : length c.self.inside.desks ≡ desk_count =
-    count_of_desks c.self.inside.lobby c.self.inside.desks (whole_now _ _ _ _ c.self.invariant) in
-    let same : length c.deref.result.now ≡ length c.self.inside.desks = ap length c.deref.ensures in
-    omega (arith, count, same, c.requires)
+    count_of_desks c.self.inside.lobby c.self.inside.desks (whole_now _ _ _ c.self.invariant) in
+    let same : length c.as_slice.result.now ≡ length c.self.inside.desks = ap length c.as_slice.ensures in
+    omega (arith, count, same, c.get.ensures.desk)
+
+pub unreachable-requires : goal.unreachable-requires
+unreachable-requires c =
+    let whole = whole_now _ _ _ c.self.invariant in
+    let found = desk_at _ c.get.result whole c.get.ensures.desk in
+    let there =
+    read_there c.self.inside.lobby c.self.inside.desks c.as_slice.result.now c.get.result
+    c.index-as_slice-get.result whole c.get.ensures.desk c.as_slice.ensures c.index-as_slice-get.is in
+    no_desk c.in-Lobby.field-0 found.0 (sym found.1 ∙ there ∙ ap Some c.in-Lobby.is)
 
 pub returns : goal.returns
 returns c =
-    let count : length c.self.inside.desks ≡ desk_count =
-    count_of_desks c.self.inside.lobby c.self.inside.desks (whole_now _ _ _ _ c.self.invariant) in
-    let within : c.args.number - 1 < length c.self.inside.desks = omega (arith, count, c.requires) in
-    let found = get_within c.self.inside.desks (c.args.number - 1) within in
-    let d : DeskState = c.index-deref-number.result in
-    let read : get_or c.self.inside.desks (c.args.number - 1) d ≡ found.0 =
-    get_or_from_slice_get c.self.inside.desks (c.args.number - 1) found.0 d found.1 in
-    let is : found.0 ≡ d =
-    sym
-    (c.index-deref-number.is ∙ ap (λ (ds : List DeskState). get_or ds (c.args.number - 1) d) c.deref.ensures ∙ read) in
-    let there : slice_get c.self.inside.desks (c.args.number - 1) ≡ Some d = found.1 ∙ ap Some is in
-    ap (λ (ps : List Part). slice_get ps c.args.number) (ap parts_in (sym c.self.view_is) ∙ c.self.invariant.state)
-    ∙ part_there c.self.inside.lobby c.self.inside.desks c.args.number d c.requires.0 there
+    let there =
+    read_there c.self.inside.lobby c.self.inside.desks c.as_slice.result.now c.get.result
+    c.index-as_slice-get.result (whole_now _ _ _ c.self.invariant) c.get.ensures.desk c.as_slice.ensures
+    c.index-as_slice-get.is in
+    ap (λ (n : ℕ). slice_get (parts_in c.args.self.now) n) (sym c.get.ensures.value)
+    ∙ ap (λ (ps : List Part). slice_get ps c.get.result) (ap parts_in (sym c.self.view_is) ∙ c.self.invariant.state)
+    ∙ there ∙ ap Some c.in-Desk.is

@@ -4,7 +4,7 @@ use Rattle.std.specs.List.{list_any}
 use Rattle.std.proofs.lemmas.Bool.{ne_eqb}
 use Rattle.std.proofs.lemmas.Cmp.{nat_eq_equiv}
 use Rattle.tables.proofs.Firsts.{find-absent}
-use Rattle.partner_link.specs.Partners.{AreLinks, PartnerLists, partner_of, stands}
+use Rattle.partner_link.specs.Partners.{AreLinks, PartnerLists, partner_of, request_stands}
 use Rattle.partner_link.proofs.Links.{AreLinks-append, no_partner}
 use Rattle.partner_link.proofs.partners.Partners.ask.Goals as goal
 
@@ -27,6 +27,6 @@ push-requires-then-not-stands c =
     let from = c.args.from in
     let to = c.args.to in
     let rows = c.self.inside.requests in
-    let unasked : stands rows from to ≡ false = search rules in
+    let unasked : request_stands rows from to ≡ false = search rules in
     find-absent (λ row. (from == row.from) && (to == row.to)) rows
     ((λ j. list_any (λ row. nat_eq_equiv.symm from row.from j && nat_eq_equiv.symm to row.to j) rows) ∙ unasked)

@@ -9,4 +9,4 @@ returns-clause-first c =
     let at = c.self.inside.taken in
     let inside : at < length rows = omega (arith, c.len.ensures.count, c.if-self-len.false) in
     sym c.self.view_is ∙ drop_more rows at c.place-place.result inside
-    ∙ ap (λ (place : Place). place ∷ drop (at + 1) rows) (sym (c.place-place.ensures.place c.place-place.result))
+    ∙ ap (λ (place : Place). place ∷ drop (at + 1) rows) (sym (c.place-place.ensures c.place-place.result))

@@ -22,14 +22,14 @@ found_from desk rows at place t inside read is =
 pub loop-at-init : goal.loop-at-init
 loop-at-init c = ap (observed_at c.args.desk) (sym c.self.view_is)
 
-pub returns-then-from-desk-clause-place : goal.returns-then-from-desk-clause-place
-returns-then-from-desk-clause-place c =
+pub returns-then-from-desk : goal.returns-then-from-desk
+returns-then-from-desk c =
     let place = c.place-place.result in
     let rows = c.self.inside.observed.rows in
     let inside = subst (λ n. c.loop-at.at < n) c.len-at-end.ensures.count c.loop-at-test.true in
     sym (c.loop-at.invariant
-    ∙ found_from c.args.desk rows c.loop-at.at place true inside (c.place-place.ensures.place place)
-    (eq-eqb place.desk c.args.desk (sym c.from.ensures ∙ c.if-from-desk.true)))
+    ∙ found_from c.args.desk rows c.loop-at.at place true inside (c.place-place.ensures place)
+    (eq-eqb place.desk c.args.desk (sym (c.from.ensures ∙ c.get.ensures.value) ∙ c.if-from-desk.true)))
 
 pub loop-at-preserved : goal.loop-at-preserved
 loop-at-preserved c =
@@ -37,11 +37,11 @@ loop-at-preserved c =
     let rows = c.self.inside.observed.rows in
     let inside = subst (λ n. c.loop-at.at < n) c.len-at-end.ensures.count c.loop-at-test.true in
     c.loop-at.invariant
-    ∙ found_from c.args.desk rows c.loop-at.at place false inside (c.place-place.ensures.place place)
-    (ne_eqb place.desk c.args.desk (λ same. c.if-from-desk.false (c.from.ensures ∙ same)))
+    ∙ found_from c.args.desk rows c.loop-at.at place false inside (c.place-place.ensures place)
+    (ne_eqb place.desk c.args.desk (λ same. c.if-from-desk.false (c.from.ensures ∙ c.get.ensures.value ∙ same)))
 
-pub returns-clause-place : goal.returns-clause-place
-returns-clause-place c =
+pub returns : goal.returns
+returns c =
     let rows = c.self.inside.observed.rows in
     let past = subst (λ n. n ≤ c.loop-at.at) c.len-at-end.ensures.count c.loop-at-test.false in
     sym (c.loop-at.invariant ∙ ap (find (λ row. row.desk == c.args.desk)) (drop_all c.loop-at.at rows past))

@@ -1,6 +1,6 @@
 use Rattle.std.proofs.Common.{ℕ, sym, ap, subst, ◌∙◌}
 use Rattle.atomic_table.specs.Table.{rest}
-use Rattle.turn_table.specs.Views.{In, given}
+use Rattle.turn_table.specs.Views.{In, given_back}
 use Rattle.turn_table.specs.Passes.{Sound}
 use Rattle.turn_table.proofs.Keeping.{sound_given}
 use Rattle.turn_table.proofs.turns.Turns.give.Goals as goal
@@ -21,5 +21,5 @@ invariant_of-pass g c =
     (ap (λ z. z.slots) (sym (e.same.0 ∙ b.same.0)))
     (sound_given g.S.Served.core p.seat.table_id.slots p.number p.splits p.last p.before p.seat.me c.pass.invariant
     c.bring-next.result k c.give.new.seat.me b.next
-    (ap (λ m. m.0) e.given ∙ ap (λ m. given m.0 k) b.front)
+    (ap (λ m. m.0) e.given ∙ ap (λ m. given_back m.0 k) b.front)
     (ap (λ m. m.1) e.given ∙ ap (λ m. rest m.1) b.front))

@@ -1,7 +1,7 @@
 use Rattle.std.proofs.Common.{◌≡◌, suc, Some, sym, ap, subst, ◌∙◌}
 use Rattle.std.specs.List.{slice_get}
 use Rattle.histories.specs.History.{state}
-use Rattle.turn_table.specs.Views.{In, Holds, Looks, taken, tried}
+use Rattle.turn_table.specs.Views.{In, Holds, Looks, taken_out, tried}
 use Rattle.turn_table.specs.Passes.{busy_more, with_busy}
 use Rattle.turn_table.proofs.turns.Turns.take.Goals as goal
 
@@ -19,9 +19,9 @@ returns-in-Some-try_take-clause-taken g c =
     let w = c.try_take.new.pass.view in
     let bs = busy_more i.0 c.args.part v.busy in
     let p = c.in-Some-try_take.value in
-    let e : w ≡ with_busy bs (taken g.S.Served.core v c.args.part p w.seen) =
-    c.in-Some-try_take.ensures.taken ∙ ap (λ u. taken g.S.Served.core u c.args.part p w.seen) i.1 in
-    e ∙ ap (λ ks. with_busy ks (taken g.S.Served.core v c.args.part p w.seen)) (sym (ap (λ u. u.busy) e))
+    let e : w ≡ with_busy bs (taken_out g.S.Served.core v c.args.part p w.seen) =
+    c.in-Some-try_take.ensures.taken ∙ ap (λ u. taken_out g.S.Served.core u c.args.part p w.seen) i.1 in
+    e ∙ ap (λ ks. with_busy ks (taken_out g.S.Served.core v c.args.part p w.seen)) (sym (ap (λ u. u.busy) e))
 
 pub returns-in-Some-try_take-clause-tries : goal.returns-in-Some-try_take-clause-tries
 returns-in-Some-try_take-clause-tries g c =
