@@ -44,7 +44,8 @@ const STEPS: &[Looking] = &[
 fn looked_up(lobby: &mut Lobby, session: u32, act: &LobbyAct) -> Found
     requires { FitsLobby act.now }
 {
-    match lobby.act(session, 0, act) {
+    let reply = lobby.act(session, 0, act);
+    match &reply {
         Ok(LobbyReply::Found(place)) => Found(DONE, place.desk.get(), place.seat),
         Ok(_) => Found(STRANGE, 0, 0),
         Err(Refused::Refused(cause)) => Found(cause.number(), 0, 0),
