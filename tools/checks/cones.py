@@ -11,9 +11,9 @@ HEAD = ["| Crate | Crates | Seconds | At most |", "|---|---|---|---|"]
 OF_COMMANDS = "cmd_"
 # a tenth and less above what the command's own parts cost
 MOST = {
-    "cmd_lines": 140, "cmd_job": 230, "cmd_store": 1450, "cmd_board": 680, "cmd_tourney": 270, "cmd_pgn": 1700,
-    "cmd_tidy": 900, "cmd_bot": 590, "cmd_check": 1500, "cmd_examine": 1600, "cmd_replay": 2300, "cmd_demo": 2400,
-    "cmd_run": 3100,
+    "cmd_lines": 290, "cmd_job": 420, "cmd_store": 3200, "cmd_board": 1300, "cmd_tourney": 580, "cmd_pgn": 3600,
+    "cmd_tidy": 1900, "cmd_bot": 1100, "cmd_check": 3200, "cmd_examine": 3600, "cmd_replay": 5100, "cmd_demo": 5300,
+    "cmd_run": 6700,
 }
 DEAREST = 3
 

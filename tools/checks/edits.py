@@ -4,7 +4,7 @@ from plan import seconds_of
 from .sources import TOP, text, tracked
 
 # a crate with edits is proved once more before them, so what counts is the seconds of the crates and not of the edits
-MOST_SECONDS = 1300
+MOST_SECONDS = 3100
 DEAREST = 3
 
 

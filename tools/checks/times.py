@@ -3,7 +3,7 @@ has each crate of the programs that the launcher builds, bears them out by the p
 import re
 
 import plan
-from seconds import AT_2_5_GHZ, SECONDS
+from seconds import SECONDS
 from sources import BUILT, crates_for
 
 from .sources import text, uses_of_crates
@@ -14,7 +14,7 @@ CLUB = "companions/ficsd_companions/club/options.py"  # whose `--help` says when
 SAID = re.compile(r'^(\w+)_takes="(.*)"$', re.MULTILINE)
 # what the launcher's words mean: the program, and on so many processors so many minutes of a machine at 2.5 GHz
 MEANT = {
-    "whole": ("fics_server", {4: ("about half an hour on four idle processors", 30), 2: ("an hour on two", 60)}),
+    "whole": ("fics_server", {4: ("about 35 minutes on four idle processors", 35), 2: ("70 on two", 70)}),
     "board": ("fics_board", {4: ("about eight minutes on four idle processors", 8),
                              2: ("a quarter of an hour on two", 15)}),
 }
@@ -35,7 +35,7 @@ def faults_of_words(said, uses):
         for processors, (words, minutes) in meant.items():
             if words not in said.get(name, ""):
                 yield f"{LAUNCHER} doesn't say `{words}` of {program}"
-            takes = AT_2_5_GHZ * plan.Run(plan.Plan(crates_for(program, uses), processors, program=program)).end / 60
+            takes = plan.Run(plan.Plan(crates_for(program, uses), processors, program=program)).end / 60
             if abs(takes - minutes) > NEAR * minutes:
                 yield (f"{LAUNCHER} says {minutes} minutes of {program} on {processors} processors, "
                        f"and by the table it takes {takes:.0f}")
